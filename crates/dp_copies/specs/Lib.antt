@@ -1,0 +1,1 @@
+pub use Rattle.dp_model.specs.CopyMachine

@@ -1,0 +1,15 @@
+pub mod Arithmetic
+pub mod Buffers
+pub mod Copies
+pub mod CopyMachine
+pub mod Environments
+pub mod Facts
+pub mod Laws
+pub mod Machine
+pub mod Meaning
+pub mod Packets
+pub mod Prefixes
+pub mod Rows
+pub mod Rules
+pub mod Runs
+pub mod Starts

@@ -1,0 +1,19 @@
+// The words of the packet forwarder: its instructions, the facts about packets, the rows of certificates
+// and the environments of programs.
+#![tactic(auto)]
+
+mod after;
+mod env;
+mod instr;
+mod laws;
+mod registers;
+mod row;
+mod rule;
+
+pub use after::{Lead, Leads};
+pub use env::{Entry, Env, EnvError, PoolSpec, PortSpec, RingSpec};
+pub use instr::Instr;
+pub use laws::{accepted_programs_are_sound, turns_stay_ready};
+pub use registers::{NumberRegister, Operand, PacketRegister, Width};
+pub use row::{Fact, Row};
+pub use rule::Rule;
