@@ -13,3 +13,4 @@ pub mod Rows
 pub mod Rules
 pub mod Runs
 pub mod Starts
+pub mod Stores

@@ -1,0 +1,141 @@
+// The layer of packets that an engine stands on: what each call on packets does, whoever keeps them.
+
+ghost use Rattle.std.specs.Prelude.{◌≡◌, ◌≢◌, ℕ, ◌+◌, ◌*◌, ◌^◌, ◌<◌, ◌≤◌, Bool, true, ◌↔◌, length, IsTrue, slice_index, slice_get, Some, None};
+ghost use Rattle.dp_model.specs.Arithmetic.{bytes_in};
+ghost use Rattle.dp_model.specs.Environments.{room_at};
+ghost use Rattle.dp_model.specs.Packets.{Segment, headroom, tailroom, first_len, last_len, segment_bytes, packet_bytes, needed, available, IsHeadSole, IsTailSole, at_front, at_end, more_before, less_before, more_behind, less_behind, zeroed_before, zeroed_behind, stored, loaded};
+ghost use Rattle.dp_model.specs.Stores.{Store, segments_of, HasSome, IsLive, Of, with_slot, Becomes, unwritten, Allocates, ReceivesInto, Clones, Chains};
+
+use crate::registers::Width;
+use std::marker::Model;
+
+/// The name of a packet in a layer: a plain number. A call asks that its packets are live in its layer.
+#[derive(Clone, Copy, Debug, PartialEq, Eq)]
+pub struct Packet {
+    number: u32,
+}
+
+impl Model for Packet {
+    ghost use Rattle.std.specs.Prelude.{ℕ};
+
+    ghost Value = { ℕ };
+
+    ghost view = { λ p. p.number };
+
+    ghost inverse = { λ n. record { number = n } };
+}
+
+impl Packet {
+    /// The packet of this number.
+    pub fn of(number: u32) -> Packet
+        ensures { result ≡ number }
+    {
+        Packet { number }
+    }
+
+    /// Its number.
+    pub fn number(self) -> u32
+        ensures { result ≡ self }
+    {
+        self.number
+    }
+}
+
+/// Packets by their handles, over pools of buffers.
+pub trait PacketLayer {
+    // The pools, the bytes of all buffers, and the packet of each handle.
+    ghost store: { Self → Store };
+
+    /// A packet of one segment without bytes, or none where no buffer is free.
+    fn alloc(&mut self, pool: u32) -> Option<Packet>
+        requires { pool < length (store self.old).pools }
+        ensures { Allocates (store self.old) pool (store self.new) result };
+
+    /// A packet with these bytes, or none where too few buffers are free.
+    fn receive(&mut self, pool: u32, bytes: &[u8]) -> Option<Packet>
+        requires room { 129 ≤ room_at (store self.old).pools pool }
+        requires fits { needed (store self.old).pools pool (length bytes.now) ≤ 64 }
+        ensures { ReceivesInto (store self.old) pool bytes.now (store self.new) result };
+
+    /// A packet that shares the buffers of another, or none where too few mbufs are free.
+    fn clone_of(&mut self, packet: Packet, pool: u32) -> Option<Packet>
+        requires live { IsLive (store self.old) packet }
+        requires exists { pool < length (store self.old).pools }
+        ensures { Clones (store self.old) packet pool (store self.new) result };
+
+    /// Gives the packet up.
+    fn free(&mut self, packet: Packet)
+        requires { IsLive (store self.old) packet }
+        ensures { store self.new ≡ with_slot packet None (store self.old) };
+
+    /// That many zero bytes in front.
+    fn prepend(&mut self, packet: Packet, n: u16)
+        requires { HasSome (store self.old) packet (λ k. (n ≤ headroom k) × IsHeadSole (segments_of (store self.old)) k) }
+        ensures { Becomes (store self.old) (store self.new) packet (at_front (more_before n)) (zeroed_before n) };
+
+    /// That many bytes less in front.
+    fn adj(&mut self, packet: Packet, n: u16)
+        requires { HasSome (store self.old) packet (λ k. n ≤ first_len k) }
+        ensures { Becomes (store self.old) (store self.new) packet (at_front (less_before n)) unwritten };
+
+    /// That many zero bytes behind.
+    fn append(&mut self, packet: Packet, n: u16)
+        requires { HasSome (store self.old) packet (λ k. (n ≤ tailroom (store self.old).pools k) × IsTailSole (segments_of (store self.old)) k) }
+        ensures { Becomes (store self.old) (store self.new) packet (at_end (more_behind n)) (zeroed_behind n) };
+
+    /// That many bytes less behind.
+    fn trim(&mut self, packet: Packet, n: u16)
+        requires { HasSome (store self.old) packet (λ k. n ≤ last_len k) }
+        ensures { Becomes (store self.old) (store self.new) packet (at_end (less_behind n)) unwritten };
+
+    /// The second packet's segments behind the first's.
+    fn chain(&mut self, head: Packet, tail: Packet)
+        requires two { head ≢ tail }
+        requires few { HasSome (store self.old) head (λ k. HasSome (store self.old) tail (λ t. length k + length t ≤ 64)) }
+        ensures { Chains (store self.old) head tail (store self.new) };
+
+    /// The number at a place of the first segment, the highest byte first.
+    fn load(&self, packet: Packet, place: u64, width: Width) -> u64
+        requires { HasSome (store self.now) packet (λ k. place + bytes_in width ≤ first_len k) }
+        ensures { Of (store self.now) packet (λ k. result ≡ loaded place (bytes_in width) k (store self.now).buffers) };
+
+    /// Writes the low bytes of a number at a place of the first segment.
+    fn store_at(&mut self, packet: Packet, place: u64, width: Width, n: u64)
+        requires { HasSome (store self.old) packet (λ k. (place + bytes_in width ≤ first_len k) × IsHeadSole (segments_of (store self.old)) k) }
+        ensures { Becomes (store self.old) (store self.new) packet (λ k. k) (stored place (bytes_in width) n) };
+
+    fn headroom(&self, packet: Packet) -> u16
+        requires { IsLive (store self.now) packet }
+        ensures { Of (store self.now) packet (λ k. result ≡ headroom k) };
+
+    fn tailroom(&self, packet: Packet) -> u16
+        requires { IsLive (store self.now) packet }
+        ensures { Of (store self.now) packet (λ k. result ≡ tailroom (store self.now).pools k) };
+
+    fn first_len(&self, packet: Packet) -> u16
+        requires { IsLive (store self.now) packet }
+        ensures { Of (store self.now) packet (λ k. result ≡ first_len k) };
+
+    fn last_len(&self, packet: Packet) -> u16
+        requires { IsLive (store self.now) packet }
+        ensures { Of (store self.now) packet (λ k. result ≡ last_len k) };
+
+    /// How many bytes it has.
+    fn length(&self, packet: Packet) -> u32
+        requires { IsLive (store self.now) packet }
+        ensures value { Of (store self.now) packet (λ k. result ≡ length (packet_bytes (store self.now).buffers k)) }
+        ensures bound { result ≤ 262144 };
+
+    fn segments(&self, packet: Packet) -> u32
+        requires { IsLive (store self.now) packet }
+        ensures { Of (store self.now) packet (λ k. result ≡ length k) };
+
+    fn segment_bytes(&self, packet: Packet, index: u32) -> &[u8]
+        requires { HasSome (store self.now) packet (λ k. index < length k) }
+        ensures { Of (store self.now) packet (λ k. (s : Segment) → slice_get k index ≡ Some s → result.now ≡ segment_bytes (store self.now).buffers s) };
+
+    /// How many buffers of the pool are free.
+    fn available(&self, pool: u32) -> u32
+        requires { pool < length (store self.now).pools }
+        ensures { result ≡ available (store self.now).pools (segments_of (store self.now)) pool };
+}
