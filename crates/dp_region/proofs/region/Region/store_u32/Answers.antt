@@ -1,0 +1,11 @@
+use Rattle.std.proofs.Common.{refl, lit<}
+use Rattle.byteorder.specs.Endian.{little_bytes}
+use Rattle.dp_region.proofs.Spans.{unlent_unlisted}
+use Rattle.dp_region.proofs.Bytes.{stored}
+use Rattle.dp_region.proofs.region.Region.store_u32.Goals as goal
+
+pub returns : goal.returns
+returns c =
+    let r = c.args.self.now in
+    rw (c.reclaim.ensures.back, c.store_u32.ensures, c.lend-block.ensures.block, c.lend-block.ensures.lent)
+    (stored r c.args.place 4 (little_bytes 4 c.args.v) refl c.requires.0 (unlent_unlisted r.lent c.args.place 4 (lit< tt) c.requires.1))

@@ -1,0 +1,54 @@
+-- What a contract sees of a region and of a block.
+use Rattle.std.specs.Prelude.{◌≡◌, refl, ℕ, ◌+◌, ◌%◌, ◌≤◌, List, ◌++◌, take, drop, length}
+use Rattle.std.specs.Coded.{Coded, code_by, coded×, coded_list, coded_ℕ}
+use Rattle.byteorder.specs.Endian.{little_number, little_bytes}
+use Rattle.dp_region.specs.Spans.{Span, IsUnlent, bytes_in, with_bytes}
+use Rattle.dp_region.specs.Ownership.{Home, home_code}
+
+-- which region it is, its bytes, and the spans that are lent. The bytes of such a span are those that it had when it was lent
+pub record RegionView : Type 0 where
+  pub home : Home
+  pub bytes : List ℕ
+  pub lent : List Span
+
+-- it is stored as the tuple of its fields
+abbrev pub region_code : Coded RegionView
+region_code =
+    code_by (Home × (List ℕ × List Span)) (coded× home_code (coded× (coded_list coded_ℕ) (coded_list (coded× coded_ℕ coded_ℕ))))
+    (λ r. (r.home, (r.bytes, r.lent))) (λ p. record { home = p.0; bytes = p.1.0; lent = p.1.1 }) (λ _. refl)
+
+-- the region that it is of, its place there, and its bytes
+pub record BlockView : Type 0 where
+  pub home : Home
+  pub place : ℕ
+  pub bytes : List ℕ
+
+-- it is stored as the tuple of its fields
+abbrev pub block_code : Coded BlockView
+block_code =
+    code_by (Home × (ℕ × List ℕ)) (coded× home_code (coded× coded_ℕ (coded_list coded_ℕ)))
+    (λ b. (b.home, (b.place, b.bytes))) (λ p. record { home = p.0; place = p.1.0; bytes = p.1.1 }) (λ _. refl)
+
+-- a size that a region may have
+abbrev pub IsRegionSize : ℕ → Type 0
+IsRegionSize n = (4096 ≤ n) × (n ≤ 1073741824) × (n % 64 ≡ 0)
+
+-- the n bytes at p are in the region, and none of them is lent
+abbrev pub IsFree : RegionView → ℕ → ℕ → Type 0
+IsFree r p n = (p + n ≤ length r.bytes) × IsUnlent r.lent p n
+
+-- the number in the n bytes at p, the lowest first
+abbrev pub number_at : List ℕ → ℕ → ℕ → ℕ
+number_at xs p n = little_number n (bytes_in xs p n)
+
+-- xs with the number x in the n bytes at p
+abbrev pub with_number : List ℕ → ℕ → ℕ → ℕ → List ℕ
+with_number xs p n x = with_bytes xs p (little_bytes n x)
+
+-- the place and the length of a block
+abbrev pub span_of : BlockView → Span
+span_of b = (b.place, length b.bytes)
+
+-- b with ws as its bytes. Where ws has another length it is cut, or filled up from b's
+abbrev pub with_content : BlockView → List ℕ → BlockView
+with_content b ws = record b { bytes = take (length b.bytes) (ws ++ drop (length ws) b.bytes) }

@@ -1,0 +1,136 @@
+ghost use Rattle.std.specs.Prelude.{◌≡◌, ℕ, ◌+◌, ◌^◌, ◌<◌, ◌≤◌, length};
+ghost use Rattle.std.specs.Borrow.{Lends, Array, sem, u8 as byte};
+ghost use Rattle.dp_region.specs.Spans.{bytes_in, with_bytes};
+ghost use Rattle.dp_region.specs.Ownership.{place_in};
+ghost use Rattle.dp_region.specs.Region.{number_at, with_number, with_content};
+ghost use Rattle.dp_region.specs.contracts.block.Block.{the_row};
+
+use crate::raw::{Run, Ticket, house, vacate};
+use byteorder::{ByteOrder, LittleEndian};
+use std::marker::Model;
+use std_alloc::vec::Lodged;
+
+/// Bytes of a region that are lent. They go back by `Region::reclaim`.
+pub struct Block {
+    place: u32,
+    len: u32,
+    bytes: Vec<u8, Lodged>,
+    ticket: Ticket,
+}
+
+impl Model for Block {
+    ghost use Rattle.std.specs.Prelude.{◌≡◌, ◌<◌, length};
+    ghost use Rattle.dp_region.specs.Ownership.{place_in};
+    ghost use Rattle.dp_region.specs.Region.{BlockView, block_code};
+
+    ghost Value = { BlockView };
+
+    ghost coded = { block_code };
+
+    ghost view = { λ b. record { home = b.ticket.home; place = b.place; bytes = b.bytes.items } };
+
+    ghost invariant = { λ b. (0 < b.len) × (length b.bytes.items ≡ b.len) × (b.bytes.ptr ≡ place_in b.ticket.home b.place) × (b.ticket.place ≡ b.place) × (b.ticket.len ≡ b.len) };
+}
+
+impl Block {
+    pub(crate) fn over(ptr: *mut u8, place: u32, len: u32, run: Run, ticket: Ticket) -> Block
+        requires run { (run.start ≡ ptr) × (length run.bytes ≡ len) × (0 < len) }
+        requires ticket { (ticket.place ≡ place) × (ticket.len ≡ len) × (ptr ≡ place_in ticket.home place) }
+        ensures { result ≡ record { home = ticket.home; place = place; bytes = run.bytes } }
+    {
+        Block {
+            place,
+            len,
+            bytes: house(run, ptr, len as usize),
+            ticket,
+        }
+    }
+
+    pub(crate) fn into_parts(self) -> (Run, Ticket)
+        ensures run { (result.0.start ≡ place_in self.home self.place) × (result.0.bytes ≡ self.bytes) }
+        ensures ticket { (result.1.home ≡ self.home) × (result.1.place ≡ self.place) × (result.1.len ≡ length self.bytes) }
+    {
+        let Block {
+            place: _,
+            len: _,
+            bytes,
+            ticket,
+        } = self;
+        (vacate(bytes), ticket)
+    }
+
+    pub fn place(&self) -> u32
+        ensures { result ≡ self.now.place }
+    {
+        self.place
+    }
+
+    pub fn len(&self) -> u32
+        ensures value { result ≡ length self.now.bytes }
+        ensures some { 0 < result }
+    {
+        self.len
+    }
+
+    pub fn bytes(&self) -> &[u8]
+        ensures { result.now ≡ self.now.bytes }
+    {
+        self.bytes.as_slice()
+    }
+
+    pub fn bytes_mut(&mut self) -> &mut [u8]
+        ensures* writes_back { sem 𝓛 (Lends the_row (Array byte 0) self.entry result (with_content self.old)) }
+        ensures value { result.now ≡ self.old.bytes }
+    {
+        self.bytes.as_mut_slice()
+    }
+
+    pub fn load_u16(&self, at: u32) -> u16
+        requires { at + 2 ≤ length self.now.bytes }
+        ensures { result ≡ number_at self.now.bytes at 2 }
+    {
+        let at = at as usize;
+        LittleEndian::read_u16(&self.bytes.as_slice()[at..at + 2])
+    }
+
+    pub fn load_u32(&self, at: u32) -> u32
+        requires { at + 4 ≤ length self.now.bytes }
+        ensures { result ≡ number_at self.now.bytes at 4 }
+    {
+        let at = at as usize;
+        LittleEndian::read_u32(&self.bytes.as_slice()[at..at + 4])
+    }
+
+    pub fn store_u16(&mut self, at: u32, v: u16)
+        requires { at + 2 ≤ length self.old.bytes }
+        ensures { self.new ≡ record self.old { bytes = with_number self.old.bytes at 2 v } }
+    {
+        let at = at as usize;
+        LittleEndian::write_u16(&mut self.bytes.as_mut_slice()[at..at + 2], v);
+    }
+
+    pub fn store_u32(&mut self, at: u32, v: u32)
+        requires { at + 4 ≤ length self.old.bytes }
+        ensures { self.new ≡ record self.old { bytes = with_number self.old.bytes at 4 v } }
+    {
+        let at = at as usize;
+        LittleEndian::write_u32(&mut self.bytes.as_mut_slice()[at..at + 4], v);
+    }
+
+    pub(crate) fn store_u64(&mut self, at: u32, v: u64)
+        requires { at + 8 ≤ length self.old.bytes }
+        ensures { self.new ≡ record self.old { bytes = with_number self.old.bytes at 8 v } }
+    {
+        let at = at as usize;
+        LittleEndian::write_u64(&mut self.bytes.as_mut_slice()[at..at + 8], v);
+    }
+
+    /// Copies `len` bytes from `from` to `to`. The two parts may overlap.
+    pub fn copy_within(&mut self, from: u32, len: u32, to: u32)
+        requires { (from + len ≤ length self.old.bytes) × (to + len ≤ length self.old.bytes) }
+        ensures { self.new ≡ record self.old { bytes = with_bytes self.old.bytes to (bytes_in self.old.bytes from len) } }
+    {
+        let (from, len, to) = (from as usize, len as usize, to as usize);
+        self.bytes.as_mut_slice().copy_within(from..from + len, to);
+    }
+}

@@ -1,0 +1,154 @@
+ghost use Rattle.std.specs.Prelude.{◌≡◌, ℕ, ◌+◌, ◌<◌, ◌≤◌, true, [], length, replicate, IfOk};
+ghost use Rattle.dp_region.specs.Spans.{Span, listed, IsUnlent, with_span, without_span, bytes_in, with_bytes};
+ghost use Rattle.dp_region.specs.Ownership.{Home, place_in};
+ghost use Rattle.dp_region.specs.Region.{IsRegionSize, IsFree, number_at, with_number, span_of};
+
+use crate::block::Block;
+use crate::raw::{Cells, Run, Shell, Ticket, attach, detach};
+use byteorder::{ByteOrder, LittleEndian};
+use core::mem::replace_with;
+use std::alloc::Global;
+use std::marker::Model;
+
+/// There is not enough memory.
+#[derive(Clone, Copy, Debug, PartialEq, Eq, Drop)]
+pub struct Memory;
+
+/// One block of memory. Its owner reads and writes the bytes that are not lent.
+pub struct Region {
+    ptr: *mut u8,
+    size: u32,
+    cells: Cells,
+    shell: Shell,
+}
+
+impl Model for Region {
+    ghost use Rattle.std.specs.Prelude.{◌≡◌, ◌≤◌, length};
+    ghost use Rattle.dp_region.specs.Ownership.{place_in};
+    ghost use Rattle.dp_region.specs.Region.{RegionView, region_code};
+
+    ghost Value = { RegionView };
+
+    ghost coded = { region_code };
+
+    ghost view = { λ r. record { home = r.cells.home; bytes = r.cells.bytes; lent = r.cells.lent } };
+
+    ghost invariant = { λ r. (r.ptr ≡ place_in r.cells.home 0) × (r.shell.ptr ≡ r.ptr) × (r.shell.len ≡ r.size) × (length r.cells.bytes ≡ r.size) × (r.size ≤ 1073741824) };
+}
+
+impl Region {
+    /// All the bytes are 0.
+    pub fn new(alloc: Global, size: u32) -> Result<Region, Memory>
+        requires { IsRegionSize size }
+        ensures { IfOk result (λ r. (r.bytes ≡ replicate size 0) × (r.lent ≡ [])) }
+    {
+        let Ok(mut vec) = Vec::from_elem(alloc, 0u8, size as usize) else {
+            return Err(Memory);
+        };
+        let ptr = vec.as_mut_ptr();
+        let (run, shell) = detach(vec);
+        Ok(Region {
+            ptr,
+            size,
+            cells: Cells::new(run),
+            shell,
+        })
+    }
+
+    pub fn size(&self) -> u32
+        ensures { result ≡ length self.now.bytes }
+    {
+        self.size
+    }
+
+    pub fn lend(&mut self, place: u32, len: u32) -> Block
+        requires some { 0 < len }
+        requires unlent { IsFree self.old place len }
+        ensures block { result ≡ record { home = self.old.home; place = place; bytes = bytes_in self.old.bytes place len } }
+        ensures lent { self.new ≡ record self.old { lent = with_span (place, len) self.old.lent } }
+    {
+        let (run, ticket) = replace_with(&mut self.cells, (place as usize, len as usize), take);
+        let ptr = unsafe { self.ptr.byte_add(place as usize) };
+        Block::over(ptr, place, len, run, ticket)
+    }
+
+    /// The bytes stay as the holder left them.
+    pub fn reclaim(&mut self, block: Block)
+        requires { block.home ≡ self.old.home }
+        ensures was_lent { listed (span_of block) self.old.lent ≡ true }
+        ensures back { self.new ≡ record { home = self.old.home; bytes = with_bytes self.old.bytes block.place block.bytes; lent = without_span (span_of block) self.old.lent } }
+    {
+        replace_with(&mut self.cells, block.into_parts(), give);
+    }
+
+    pub fn close(self)
+        requires { self.lent ≡ [] }
+    {
+        let Region {
+            ptr: _,
+            size: _,
+            cells,
+            shell,
+        } = self;
+        drop(attach(shell, cells.into_run()));
+    }
+
+    fn bytes(&self, place: u32, len: u32) -> &[u8]
+        requires { IsFree self.now place len }
+        ensures { result.now ≡ bytes_in self.now.bytes place len }
+    {
+        let ptr = unsafe { self.ptr.byte_add(place as usize) };
+        self.cells.view(ptr, place as usize, len as usize)
+    }
+
+    pub fn load_u32(&self, place: u32) -> u32
+        requires { IsFree self.now place 4 }
+        ensures { result ≡ number_at self.now.bytes place 4 }
+    {
+        LittleEndian::read_u32(self.bytes(place, 4))
+    }
+
+    pub fn load_u64(&self, place: u32) -> u64
+        requires { IsFree self.now place 8 }
+        ensures { result ≡ number_at self.now.bytes place 8 }
+    {
+        LittleEndian::read_u64(self.bytes(place, 8))
+    }
+
+    pub fn store_u32(&mut self, place: u32, v: u32)
+        requires { IsFree self.old place 4 }
+        ensures { self.new ≡ record self.old { bytes = with_number self.old.bytes place 4 v } }
+    {
+        let mut block = self.lend(place, 4);
+        block.store_u32(0, v);
+        self.reclaim(block);
+    }
+
+    pub fn store_u64(&mut self, place: u32, v: u64)
+        requires { IsFree self.old place 8 }
+        ensures { self.new ≡ record self.old { bytes = with_number self.old.bytes place 8 v } }
+    {
+        let mut block = self.lend(place, 8);
+        block.store_u64(0, v);
+        self.reclaim(block);
+    }
+}
+
+fn take(cells: Cells, span: (usize, usize)) -> (Cells, (Run, Ticket))
+    requires { (0 < span.1) × (span.0 + span.1 ≤ length cells.bytes) × IsUnlent cells.lent span.0 span.1 }
+    ensures cells { (result.0.home ≡ cells.home) × (result.0.bytes ≡ cells.bytes) × (result.0.lent ≡ with_span span cells.lent) }
+    ensures run { (result.1.0.start ≡ place_in cells.home span.0) × (result.1.0.bytes ≡ bytes_in cells.bytes span.0 span.1) }
+    ensures ticket { (result.1.1.home ≡ cells.home) × (result.1.1.place ≡ span.0) × (result.1.1.len ≡ span.1) }
+{
+    let (place, len) = span;
+    let (cells, run, ticket) = cells.take(place, len);
+    (cells, (run, ticket))
+}
+
+fn give(cells: Cells, back: (Run, Ticket)) -> (Cells, ())
+    requires { (back.1.home ≡ cells.home) × (back.0.start ≡ place_in cells.home back.1.place) × (length back.0.bytes ≡ back.1.len) }
+    ensures { (listed (back.1.place, back.1.len) cells.lent ≡ true) × (result.0.home ≡ cells.home) × (result.0.bytes ≡ with_bytes cells.bytes back.1.place back.0.bytes) × (result.0.lent ≡ without_span (back.1.place, back.1.len) cells.lent) }
+{
+    let (run, ticket) = back;
+    (cells.give(run, ticket), ())
+}
