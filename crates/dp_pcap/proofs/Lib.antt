@@ -1,0 +1,9 @@
+pub mod CountLemmas
+pub mod Fills
+pub mod Pieces
+pub mod Parts
+pub mod Known
+pub mod History
+pub mod Once
+pub mod Back
+pub mod Refusals

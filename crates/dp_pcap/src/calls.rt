@@ -1,0 +1,32 @@
+//! A count of calls that only clauses read.
+ghost use Rattle.std.specs.Prelude.{◌≡◌, ℕ, ◌+◌};
+ghost use Rattle.std.specs.Borrow.{ftrue};
+
+use std::marker::Model;
+
+/// How many calls of a device were made, as `count` in a clause. It takes no bytes and has no limit,
+/// and neither function does anything at run time.
+#[derive(Drop)]
+pub struct Calls {
+    pub ghost count: { ℕ },
+}
+
+impl Model for Calls {
+    ghost also_owns = { λ _. ftrue };
+}
+
+impl Calls {
+    /// No call yet.
+    pub fn new() -> Calls
+        ensures { result.count ≡ 0 }
+    {
+        Calls {}
+    }
+
+    /// One call more.
+    pub fn one_more(&self) -> Calls
+        ensures { result.count ≡ self.now.count + 1 }
+    {
+        Calls {}
+    }
+}
