@@ -1,0 +1,60 @@
+//! Whether a device is sound, and how often it was called.
+ghost use Rattle.std.specs.Prelude.{◌≡◌, true, false};
+ghost use Rattle.dp_pcap.specs.Health.{fresh, after_answer, after_failure};
+
+use crate::{Calls, Failed};
+use std::marker::Model;
+
+/// What a device keeps of itself: whether it is broken and, for clauses alone, how many calls it had
+/// and how many of them failed. It is one `bool` at run time.
+#[derive(Drop)]
+pub struct Health {
+    is_broken: bool,
+    calls: Calls,
+    failures: Calls,
+}
+
+impl Model for Health {
+    ghost use Rattle.dp_pcap.specs.Health.{State};
+
+    ghost Value = { State };
+
+    ghost view = { λ h. record { is_broken = h.is_broken; calls = h.calls.count; failures = h.failures.count } };
+}
+
+impl Health {
+    /// Sound, and not called yet.
+    pub fn new() -> Health
+        ensures { result ≡ fresh }
+    {
+        Health {
+            is_broken: false,
+            calls: Calls::new(),
+            failures: Calls::new(),
+        }
+    }
+
+    /// Whether a call failed.
+    pub fn is_broken(&self) -> bool
+        ensures { result ≡ self.now.is_broken }
+    {
+        self.is_broken
+    }
+
+    /// Counts a call that is answered.
+    pub fn answer(&mut self)
+        ensures { self.new ≡ after_answer self.old }
+    {
+        self.calls = self.calls.one_more();
+    }
+
+    /// Counts a call that fails, and gives its answer. The device is broken from now on.
+    pub fn fail(&mut self) -> Failed
+        ensures { self.new ≡ after_failure self.old }
+    {
+        self.calls = self.calls.one_more();
+        self.failures = self.failures.one_more();
+        self.is_broken = true;
+        Failed
+    }
+}
