@@ -1,7 +1,6 @@
 pub mod CountLemmas
 pub mod Fills
 pub mod Pieces
-pub mod Parts
 pub mod Known
 pub mod History
 pub mod Once
