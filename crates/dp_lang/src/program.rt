@@ -1,0 +1,47 @@
+// Programs of nodes.
+
+ghost use Rattle.std.specs.Prelude.{◌≡◌, ◌≤◌, length};
+ghost use Rattle.dp_lang.specs.Programs.{IsProgram};
+
+use dp_model::Instr;
+use std::marker::Model;
+
+/// A program of a node: from 1 to 1,024 instructions, each with numbers that the language has, and with a label
+/// that is the number of one of them.
+#[derive(Drop)]
+pub struct Program {
+    instrs: Vec<Instr>,
+}
+
+impl Model for Program {
+    ghost use Rattle.std.specs.Prelude.{List};
+    ghost use Rattle.dp_model.specs.declared.instr.Instr.{Instr};
+
+    ghost Value = { List Instr };
+
+    ghost use Rattle.dp_lang.specs.Programs.{IsProgram};
+
+    ghost view = { λ p. p.instrs.items };
+
+    ghost invariant = { λ p. IsProgram p.instrs.items };
+}
+
+impl Program {
+    /// The program of these instructions.
+    pub(crate) fn of(instrs: Vec<Instr>) -> Program
+        requires { IsProgram instrs.items }
+        ensures { result ≡ instrs.items }
+    {
+        Program { instrs }
+    }
+
+    /// The instructions. A label is the place of one of them, from 0.
+    pub fn instrs(&self) -> &[Instr]
+        ensures same { result.now ≡ self.now }
+        ensures some { 1 ≤ length result.now }
+        ensures few { length result.now ≤ 1024 }
+        ensures program { IsProgram result.now }
+    {
+        &self.instrs
+    }
+}
