@@ -1,0 +1,188 @@
+-- What is wrong where nothing is read.
+use Rattle.std.proofs.Common.{◌≡◌, ◌≢◌, ◌⊎◌, ℕ, zero, suc, ◌+◌, ◌-◌, ◌*◌, ◌<◌, ◌&&◌, ◌||◌, Bool, true, false, cond, eqb, get_or, Some, None, List, [], ◌∷◌, ◌++◌, length, take, drop, Result, Ok, Err, refl, sym, ap, subst, ◌∙◌, append_assoc, inl, inr, arith}
+use Rattle.std.specs.Prelude.{IfErr, IsOk, is_some, nat_eq, nat_le}
+use Rattle.std.specs.Global.{Vec}
+use Rattle.std.specs.List.{flat_map, list_all, AllByRecursion, starts_with}
+use Rattle.std.specs.Str.{bytes_eq}
+use Rattle.std.proofs.lemmas.List.{take-append-drop, length-take}
+use Rattle.std.proofs.lemmas.List.Sums.{AllPass-from_list_all}
+use Rattle.std.proofs.lemmas.Bool.Decides.{Decides-eqb}
+use Rattle.std.proofs.lemmas.Slice.Eq.{starts_is}
+use Rattle.hex.specs.Hex.{decode_sized, is_hex_digit}
+use Rattle.hex.specs.declared.error.FromHexError.{FromHexError}
+use Rattle.hex.proofs.HexLemmas.{IsOk-decode_sized}
+use Rattle.dp_model.specs.declared.row.Row.{Row}
+use Rattle.dp_model.specs.Rows.{is_well_formed_row}
+use Rattle.dp_cert.specs.declared.error.Cause.{Cause}
+use Rattle.dp_cert.specs.declared.error.Cause.TheVariants.{BadHead, BadLine, BadRow, BadCount}
+use Rattle.dp_cert.specs.declared.error.Fault.{Fault}
+use Rattle.dp_cert.specs.declared.error.CertError.{CertError}
+use Rattle.dp_cert.specs.declared.error.CertError.TheVariants as errors
+use Rattle.dp_cert.specs.Spelling.{IsRow, row_line, head_line, is_digit, digits_in, is_line}
+use Rattle.dp_cert.specs.Faults.{IsWrong, HasFault, IsFaultOf}
+use Rattle.dp_cert.specs.Reading.{◌>>=◌, at_line, onto, of_bytes, row_in, row_of, rows_of, cert_of, Gives}
+use Rattle.dp_cert.proofs.Found.{both_true, row_found, from_line, Spells}
+use Rattle.dp_cert.proofs.Again.{line_again}
+
+abbrev wrong : {A E : Type 0} → E → Result A E
+wrong e = Err e
+
+-- what is wrong with a line alone
+abbrev IsWrongLine : List ℕ → Cause → Type 0
+IsWrongLine line BadLine = is_line line ≡ false
+IsWrongLine line BadRow = (is_line line ≡ true) × ((row : Row) → IsRow row → line ≢ row_line row)
+IsWrongLine line BadHead = ⊥
+IsWrongLine line BadCount = ⊥
+
+not_spelled : (line : List ℕ) (cause : Cause) → row_of line ≡ Err cause → (row : Row) → IsRow row → line ≢ row_line row
+not_spelled line cause h row fits e = let other : row_of line ≡ Ok row = rw e (line_again row fits) in absurd (cc (h, other))
+
+same_error : {A E : Type 0} (x y : E) → wrong {A = A} x ≡ wrong y → x ≡ y
+same_error x y h = cc
+
+-- one of the two tests is enough
+some_value : (a b d : Bool) (x y z : ℕ) → (d || b) ≡ true → is_some (cond a (Some x) (cond b (Some y) (cond d (Some z) None))) ≡ true
+some_value true b d x y z h = refl
+some_value false true d x y z h = refl
+some_value false false true x y z h = refl
+some_value false false false x y z h = absurd cc
+
+is_hex : (c : ℕ) → is_digit c ≡ true → is_hex_digit c ≡ true
+is_hex c h = some_value (nat_le 65 c && nat_le c 70) (nat_le 97 c && nat_le c 102) (nat_le 48 c && nat_le c 57) (c - 55) (c - 87) (c - 48) h
+
+all_hex : (digits : List ℕ) → list_all is_digit digits ≡ true → list_all is_hex_digit digits ≡ true
+all_hex [] h = refl
+all_hex (c ∷ digits) h =
+    let p = both_true (is_digit c) (list_all is_digit digits) h in
+    rw (is_hex c p.0, all_hex digits p.1) refl
+
+-- a line of digits gives bytes
+has_bytes : (line : List ℕ) → is_line line ≡ true → IsOk (decode_sized (digits_in line) 153)
+has_bytes line h =
+    let p = both_true (eqb (length line) 307 && list_all is_digit (digits_in line)) (eqb (get_or line (length line - 1) 0) 10) h in
+    let q = both_true (eqb (length line) 307) (list_all is_digit (digits_in line)) p.0 in
+    let long : length line ≡ 307 = (Decides-eqb (length line) 307).0 q.0 in
+    let half : length (digits_in line) ≡ 2 * 153 = omega (arith, long, length-take (length line - 1) line) in
+    (IsOk-decode_sized (digits_in line) 153).1 (half, AllPass-from_list_all is_hex_digit (digits_in line) (all_hex (digits_in line) q.1))
+
+-- what is wrong with a line of digits is its row
+row_wrong : (b : Bool) (row : Row) (cause : Cause) → cond b (Ok row) (Err BadRow) ≡ Err cause → cause ≡ BadRow
+row_wrong true row cause h = absurd cc
+row_wrong false row cause h = cc
+
+bytes_wrong : (line : List ℕ) (d : Result (List ℕ) FromHexError) (cause : Cause) → IsOk d → of_bytes line d ≡ Err cause → cause ≡ BadRow
+bytes_wrong line (Ok bytes) cause ok h = row_wrong (bytes_eq (row_line (row_in bytes)) line && is_well_formed_row (row_in bytes)) (row_in bytes) cause h
+bytes_wrong line (Err e) cause ok h = absurd cc
+
+line_wrong : (line : List ℕ) (cause : Cause) → row_of line ≡ Err cause → IsWrongLine line cause
+unfolding row_of
+line_wrong line cause h = go (is_line line) refl
+  where
+    go : (b : Bool) → is_line line ≡ b → IsWrongLine line cause
+    go true e =
+        let read : of_bytes line (decode_sized (digits_in line) 153) ≡ Err cause = rw e at h in
+        let is : cause ≡ BadRow = bytes_wrong line (decode_sized (digits_in line) 153) cause (has_bytes line e) read in
+        subst (λ (x : Cause). IsWrongLine line x) (sym is) (e, not_spelled line cause h)
+    go false e =
+        let read : Err BadLine ≡ Err cause = rw e at h in
+        subst (λ (x : Cause). IsWrongLine line x) (same_error BadLine cause read) e
+
+-- the next of the lines is wrong
+next_wrong : (n : ℕ) (rows : List Row) (rest : List ℕ) (cause : Cause) → length rows < n → 0 < length rest → IsWrongLine (take 307 rest) cause → IsWrong n rows rest cause
+next_wrong n rows rest BadHead lt some h = h
+next_wrong n rows rest BadLine lt some h = (lt, some, h)
+next_wrong n rows rest BadRow lt some h = (lt, h.0, h.1)
+next_wrong n rows rest BadCount lt some h = absurd h
+
+-- after some rows, the first of which is at this line
+record Stops (start n : ℕ) (bytes : List ℕ) (fault : Fault) : Type 0 where
+  pub rows : List Row
+  pub rest : List ℕ
+  pub read : bytes ≡ flat_map row_line rows ++ rest
+  pub well_formed : AllByRecursion (λ row. is_well_formed_row row ≡ true) rows
+  pub line : fault.line ≡ length rows + start
+  pub wrong : IsWrong n rows rest fault.cause
+
+-- with one row more in front
+later : (n : ℕ) (row : Row) (rows : List Row) (rest : List ℕ) (cause : Cause) → IsWrong n rows rest cause → IsWrong (suc n) (row ∷ rows) rest cause
+later n row rows rest BadHead h = h
+later n row rows rest BadLine h = (omega arith, h.1, h.2)
+later n row rows rest BadRow h = (omega arith, h.1, h.2)
+later n row rows rest BadCount (inl h) = inl (omega arith, h.1)
+later n row rows rest BadCount (inr h) = inr (omega arith, h.1)
+
+-- a result that is an error
+bind_err : {A B E : Type 0} (r : Result A E) (f : A → Result B E) (e : E) → (r >>= f) ≡ Err e → (r ≡ Err e) ⊎ ((x : A) × (r ≡ Ok x) × (f x ≡ Err e))
+bind_err (Ok x) f e h = inr (x, refl, h)
+bind_err {A = A} {B = B} (Err x) f e h = inl (ap (λ (z : _). Err z) (same_error {A = B} x e h))
+
+line_err : {A : Type 0} (line : ℕ) (r : Result A Cause) (fault : Fault) → at_line line r ≡ Err fault → (r ≡ Err fault.cause) × (fault.line ≡ line)
+line_err line (Ok a) fault h = absurd cc
+line_err line (Err cause) fault h =
+    let same : record { line = line; cause = cause } ≡ fault = same_error (record { line = line; cause = cause }) fault h in
+    (ap (λ (f : Fault). Err f.cause) same, sym (ap (λ (f : Fault). f.line) same))
+
+onto_err : (row : Row) (r : Result (List Row) Fault) (fault : Fault) → (r >>= onto row) ≡ Err fault → r ≡ Err fault
+onto_err row (Ok rows) fault h = absurd cc
+onto_err row (Err f) fault h = h
+
+here : (start n : ℕ) (bytes : List ℕ) (fault : Fault) → fault.line ≡ start → IsWrong n [] bytes fault.cause → Stops start n bytes fault
+here start n bytes fault at bad = record { rows = []; rest = bytes; read = refl; well_formed = tt; line = omega (arith, at); wrong = bad }
+
+further : (start n : ℕ) (bytes : List ℕ) (fault : Fault) (row : Row) → Spells (take 307 bytes) row → Stops (start + 1) n (drop 307 bytes) fault → Stops start (suc n) bytes fault
+further start n bytes fault row one s = record {
+  rows = row ∷ s.rows;
+  rest = s.rest;
+  read = sym (take-append-drop 307 bytes) ∙ ap (λ (x : List ℕ). x ++ drop 307 bytes) one.text ∙ ap (λ (x : List ℕ). row_line row ++ x) s.read ∙ sym (append_assoc (row_line row) (flat_map row_line s.rows) s.rest);
+  well_formed = (one.well_formed, s.well_formed);
+  line = omega (arith, s.line);
+  wrong = later n row s.rows s.rest fault.cause s.wrong;
+}
+
+counted : (start n : ℕ) (bytes : List ℕ) (fault : Fault) → IsWrong n [] bytes BadCount → wrong {A = List Row} (record { line = start; cause = BadCount }) ≡ wrong fault → Stops start n bytes fault
+counted start n bytes fault bad h =
+    let same : record { line = start; cause = BadCount } ≡ fault = same_error (record { line = start; cause = BadCount }) fault h in
+    here start n bytes fault (sym (ap (λ (f : Fault). f.line) same)) (subst (λ (f : Fault). IsWrong n [] bytes f.cause) same bad)
+
+stops : (start n : ℕ) (bytes : List ℕ) (fault : Fault) → rows_of start n bytes ≡ Err fault → Stops start n bytes fault
+unfolding rows_of
+stops start zero [] fault h = absurd cc
+stops start zero (b ∷ bytes) fault h = counted start 0 (b ∷ bytes) fault (inr (refl, omega arith)) h
+stops start (suc n) [] fault h = counted start (suc n) [] fault (inl (omega arith, refl)) h
+stops start (suc n) (b ∷ bytes) fault h =
+    let front = take 307 (b ∷ bytes) in
+    let back = drop 307 (b ∷ bytes) in
+    elim (bind_err (at_line start (row_of front)) (λ row. rows_of (start + 1) n back >>= onto row) fault h) [
+      | inl bad ↦
+          let p = line_err start (row_of front) fault bad in
+          here start (suc n) (b ∷ bytes) fault p.1 (next_wrong (suc n) [] (b ∷ bytes) fault.cause (omega arith) (omega arith) (line_wrong front fault.cause p.0))
+      | inr more ↦
+          let one = row_found front more.0 (from_line start (row_of front) more.0 more.1) in
+          further start n (b ∷ bytes) fault more.0 one (stops (start + 1) n back fault (onto_err more.0 (rows_of (start + 1) n back) fault more.2))
+    ]
+
+is_fault_of : (n : ℕ) (text : List ℕ) (fault : Fault) → cert_of n text ≡ Err fault → HasFault n text fault
+unfolding cert_of
+is_fault_of n text fault h = go (starts_with nat_eq text head_line) refl
+  where
+    go : (b : Bool) → starts_with nat_eq text head_line ≡ b → HasFault n text fault
+    go false e =
+        let bad : wrong {A = List Row} (record { line = 1; cause = BadHead }) ≡ wrong fault = rw e at h in
+        inl (record { is = sym (same_error (record { line = 1; cause = BadHead }) fault bad); other = e })
+    go true e =
+        let more : rows_of 2 n (drop 11 text) ≡ Err fault = rw e at h in
+        let s = stops 2 n (drop 11 text) fault more in
+        let begins : text ≡ head_line ++ drop 11 text = (starts_is Decides-eqb text head_line (starts_with nat_eq text head_line) refl).0 e in
+        inr (record {
+          rows = s.rows;
+          rest = s.rest;
+          read = begins ∙ ap (λ (x : List ℕ). head_line ++ x) s.read ∙ sym (append_assoc head_line (flat_map row_line s.rows) s.rest);
+          well_formed = s.well_formed;
+          line = s.line;
+          wrong = s.wrong;
+        })
+
+pub is_fault : (n : ℕ) (text : List ℕ) (r : Result (Vec Row) CertError) → Gives (λ v. v.items) r (cert_of n text) → IfErr r (λ e. IsFaultOf n text e)
+is_fault n text (Ok v) h = tt
+is_fault n text (Err errors.Memory) h = tt
+is_fault n text (Err (errors.Fault f)) h = is_fault_of n text f h

@@ -1,0 +1,107 @@
+-- What is read is spelled so.
+use Rattle.std.proofs.Common.{◌≡◌, ℕ, zero, suc, ◌+◌, ◌&&◌, Bool, true, false, cond, List, [], ◌∷◌, ◌++◌, length, take, drop, Result, Ok, Err, refl, sym, ap, subst, ◌∙◌}
+use Rattle.std.specs.Prelude.{IfOk, IsTrue, nat_eq}
+use Rattle.std.specs.Global.{Vec}
+use Rattle.std.specs.List.{flat_map, list_all, AllByRecursion, starts_with}
+use Rattle.std.specs.Str.{bytes_eq}
+use Rattle.std.proofs.lemmas.List.{take-append-drop}
+use Rattle.std.proofs.lemmas.Bool.Decides.{Decides-eqb}
+use Rattle.std.proofs.lemmas.Slice.Eq.{bytes_eq-Decides, starts_is}
+use Rattle.hex.specs.Hex.{decode_sized}
+use Rattle.hex.specs.declared.error.FromHexError.{FromHexError}
+use Rattle.dp_model.specs.declared.row.Row.{Row}
+use Rattle.dp_model.specs.Rows.{is_well_formed_row}
+use Rattle.dp_cert.specs.declared.error.Cause.{Cause}
+use Rattle.dp_cert.specs.declared.error.Cause.TheVariants.{BadHead, BadLine, BadRow}
+use Rattle.dp_cert.specs.declared.error.Fault.{Fault}
+use Rattle.dp_cert.specs.declared.error.CertError.{CertError}
+use Rattle.dp_cert.specs.Spelling.{row_line, head_line, CertText}
+use Rattle.dp_cert.specs.Reading.{◌>>=◌, at_line, onto, is_line, digits_in, of_bytes, spelled_row, row_in, row_of, rows_of, cert_of, Gives}
+
+pub chosen : {A E : Type 0} (b : Bool) (r : Result A E) (e : E) (x : A) → cond b r (Err e) ≡ Ok x → (b ≡ true) × (r ≡ Ok x)
+chosen true r e x h = (refl, h)
+chosen false r e x h = absurd cc
+
+pub both_true : (a b : Bool) → (a && b) ≡ true → (a ≡ true) × (b ≡ true)
+both_true true b h = (refl, h)
+both_true false b h = absurd cc
+
+pub bind_ok : {A B E : Type 0} (r : Result A E) (f : A → Result B E) (y : B) → (r >>= f) ≡ Ok y → (x : A) × (r ≡ Ok x) × (f x ≡ Ok y)
+bind_ok (Ok x) f y h = (x, refl, h)
+bind_ok (Err e) f y h = absurd cc
+
+abbrev done : {A E : Type 0} → A → Result A E
+done x = Ok x
+
+pub ok_is : {A E : Type 0} (x y : A) → done {A = A} {E = E} x ≡ done y → x ≡ y
+ok_is x y h = cc
+
+pub from_line : {A : Type 0} (line : ℕ) (r : Result A Cause) (x : A) → at_line line r ≡ Ok x → r ≡ Ok x
+from_line line (Ok a) x h = let e : a ≡ x = cc in ap (λ (z : _). Ok z) e
+from_line line (Err c) x h = absurd cc
+
+-- the line spells the row, which is well formed
+pub record Spells (line : List ℕ) (row : Row) : Type 0 where
+  pub text : line ≡ row_line row
+  pub well_formed : is_well_formed_row row ≡ true
+
+spelled_found : (line : List ℕ) (made row : Row) → spelled_row line made ≡ Ok row → Spells line row
+spelled_found line made row h =
+    let p = chosen (bytes_eq (row_line made) line && is_well_formed_row made) (Ok made) BadRow row h in
+    let q = both_true (bytes_eq (row_line made) line) (is_well_formed_row made) p.0 in
+    let same : made ≡ row = ok_is {E = Cause} made row p.1 in
+    let P : Row → Type 0 = λ r. Spells line r in
+    subst P same (record { text = sym ((bytes_eq-Decides (row_line made) line).0 q.0); well_formed = q.1 })
+
+bytes_found : (line : List ℕ) (d : Result (List ℕ) FromHexError) (row : Row) → of_bytes line d ≡ Ok row → Spells line row
+bytes_found line (Ok bytes) row h = spelled_found line (row_in bytes) row h
+bytes_found line (Err e) row h = absurd cc
+
+pub row_found : (line : List ℕ) (row : Row) → row_of line ≡ Ok row → Spells line row
+unfolding row_of
+row_found line row h = bytes_found line (decode_sized (digits_in line) 153) row (chosen (is_line line) (of_bytes line (decode_sized (digits_in line) 153)) BadLine row h).1
+
+-- the bytes spell so many rows
+pub record SpellAll (n : ℕ) (bytes : List ℕ) (rows : List Row) : Type 0 where
+  pub text : bytes ≡ flat_map row_line rows
+  pub count : length rows ≡ n
+  pub well_formed : AllByRecursion (λ row. is_well_formed_row row ≡ true) rows
+
+rows_found : (line n : ℕ) (bytes : List ℕ) (rows : List Row) → rows_of line n bytes ≡ Ok rows → SpellAll n bytes rows
+unfolding rows_of
+rows_found line zero [] rows h = let P : List Row → Type 0 = λ rs. SpellAll 0 [] rs in subst P (ok_is {E = Fault} [] rows h) (record { text = refl; count = refl; well_formed = tt })
+rows_found line zero (b ∷ bytes) rows h = absurd cc
+rows_found line (suc n) [] rows h = absurd cc
+rows_found line (suc n) (b ∷ bytes) rows h =
+    let front = take 307 (b ∷ bytes) in
+    let back = drop 307 (b ∷ bytes) in
+    let p = bind_ok (at_line line (row_of front)) (λ row. rows_of (line + 1) n back >>= onto row) rows h in
+    let q = bind_ok (rows_of (line + 1) n back) (onto p.0) rows p.2 in
+    let one = row_found front p.0 (from_line line (row_of front) p.0 p.1) in
+    let others = rows_found (line + 1) n back q.0 q.1 in
+    let P : List Row → Type 0 = λ rs. SpellAll (suc n) (b ∷ bytes) rs in
+    subst P (ok_is {E = Fault} (p.0 ∷ q.0) rows q.2) (record {
+      text = sym (take-append-drop 307 (b ∷ bytes)) ∙ ap (λ (x : List ℕ). x ++ back) one.text ∙ ap (λ (x : List ℕ). row_line p.0 ++ x) others.text;
+      count = ap suc others.count;
+      well_formed = (one.well_formed, others.well_formed);
+    })
+
+cert_found : (n : ℕ) (text : List ℕ) (rows : List Row) → cert_of n text ≡ Ok rows → CertText n text rows
+unfolding cert_of
+cert_found n text rows h =
+    let p = chosen (starts_with nat_eq text head_line) (rows_of 2 n (drop 11 text)) (record { line = 1; cause = BadHead }) rows h in
+    let all = rows_found 2 n (drop 11 text) rows p.1 in
+    let begins : text ≡ head_line ++ drop 11 text = (starts_is Decides-eqb text head_line (starts_with nat_eq text head_line) refl).0 p.0 in
+    record { text = begins ∙ ap (λ (x : List ℕ). head_line ++ x) all.text; count = all.count; well_formed = all.well_formed }
+
+pub is_found : (n : ℕ) (text : List ℕ) (r : Result (Vec Row) CertError) → Gives (λ v. v.items) r (cert_of n text) → IfOk r (λ v. CertText n text v.items)
+is_found n text (Ok v) h = cert_found n text v.items h
+is_found n text (Err e) h = tt
+
+all_true : (rows : List Row) → AllByRecursion (λ row. is_well_formed_row row ≡ true) rows → list_all is_well_formed_row rows ≡ true
+all_true [] h = refl
+all_true (row ∷ rows) h = rw (h.0, all_true rows h.1) refl
+
+pub are_well_formed : (n : ℕ) (text : List ℕ) (r : Result (Vec Row) CertError) → Gives (λ v. v.items) r (cert_of n text) → IfOk r (λ v. IsTrue (list_all is_well_formed_row v.items))
+are_well_formed n text (Ok v) h = all_true v.items (cert_found n text v.items h).well_formed
+are_well_formed n text (Err e) h = tt

@@ -1,0 +1,6 @@
+pub mod Parts
+pub mod Loop
+pub mod Rows
+pub mod Found
+pub mod Again
+pub mod Faulty

@@ -1,0 +1,92 @@
+-- Reading line by line, with the first fault that is met.
+use Rattle.std.specs.Prelude.{◌≡◌, ℕ, zero, suc, ◌+◌, ◌&&◌, ◌==◌, nat_eq, List, [], ◌∷◌, take, drop, slice_index, Result, Ok, Err, if◌then◌else◌}
+use Rattle.std.specs.List.{starts_with}
+use Rattle.std.specs.Int.{w16, w64, from_be_bytes}
+use Rattle.std.specs.Str.{bytes_eq}
+use Rattle.hex.specs.Hex.{decode_sized}
+use Rattle.hex.specs.declared.error.FromHexError.{FromHexError}
+use Rattle.dp_model.specs.declared.row.Fact.{Fact}
+use Rattle.dp_model.specs.declared.row.Fact.TheVariants.{Empty, Held}
+use Rattle.dp_model.specs.declared.row.Row.{Row}
+use Rattle.dp_model.specs.Rows.{is_well_formed_row}
+use Rattle.dp_cert.specs.declared.error.Cause.{Cause}
+use Rattle.dp_cert.specs.declared.error.Cause.TheVariants.{BadHead, BadLine, BadRow, BadCount}
+use Rattle.dp_cert.specs.declared.error.Fault.{Fault}
+use Rattle.dp_cert.specs.declared.error.CertError.{CertError}
+use Rattle.dp_cert.specs.declared.error.CertError.TheVariants as errors
+pub use Rattle.dp_cert.specs.Spelling.{is_digit, digits_in, is_line}
+use Rattle.dp_cert.specs.Spelling.{head_line, row_line}
+
+-- ---- the row that some bytes would be, if they were spelled as a row is
+
+unfoldable pub fact_in : List ℕ → Fact
+fact_in bytes =
+    if slice_index bytes 0 == 0 then Empty
+    else Held
+    (slice_index bytes 1)
+    (from_be_bytes w16 (take 2 (drop 2 bytes)))
+    (from_be_bytes w16 (take 2 (drop 4 bytes)))
+    (from_be_bytes w16 (take 2 (drop 6 bytes)))
+    (from_be_bytes w16 (take 2 (drop 8 bytes)))
+    (slice_index bytes 10)
+
+-- so many parts of this width from the front
+unfoldable pub parts_in : {A : Type 0} → (List ℕ → A) → ℕ → ℕ → List ℕ → List A
+parts_in part width zero bytes = []
+parts_in part width (suc n) bytes = part (take width bytes) ∷ parts_in part width n (drop width bytes)
+
+unfoldable pub facts_in : List ℕ → List Fact
+facts_in bytes = parts_in fact_in 11 8 bytes
+
+unfoldable pub bound_in : List ℕ → ℕ
+bound_in bytes = from_be_bytes w64 bytes
+
+unfoldable pub bounds_in : List ℕ → List ℕ
+bounds_in bytes = parts_in bound_in 8 8 bytes
+
+unfoldable pub row_in : List ℕ → Row
+row_in bytes = record { live = slice_index bytes 0 == 1; facts = facts_in (drop 1 bytes); bounds = bounds_in (drop 89 bytes) }
+
+-- ---- lines
+
+-- the line is the one spelling of a row that is well formed
+abbrev pub spelled_row : List ℕ → Row → Result Row Cause
+spelled_row line row = if bytes_eq (row_line row) line && is_well_formed_row row then Ok row else Err BadRow
+
+abbrev pub of_bytes : List ℕ → Result (List ℕ) FromHexError → Result Row Cause
+of_bytes line (Ok bytes) = spelled_row line (row_in bytes)
+of_bytes line (Err e) = Err BadLine
+
+unfoldable pub row_of : List ℕ → Result Row Cause
+row_of line = if is_line line then of_bytes line (decode_sized (digits_in line) 153) else Err BadLine
+
+infixl 10 ◌>>=◌
+abbrev pub ◌>>=◌ : {A B E : Type 0} → Result A E → (A → Result B E) → Result B E
+(Ok x) >>= f = f x
+(Err e) >>= f = Err e
+
+abbrev pub at_line : {A : Type 0} → ℕ → Result A Cause → Result A Fault
+at_line line (Ok a) = Ok a
+at_line line (Err cause) = Err (record { line = line; cause = cause })
+
+abbrev pub onto : Row → List Row → Result (List Row) Fault
+onto row rows = Ok (row ∷ rows)
+
+-- so many rows, from a line on, and nothing behind them
+unfoldable pub rows_of : ℕ → ℕ → List ℕ → Result (List Row) Fault
+rows_of line zero [] = Ok []
+rows_of line zero (b ∷ bytes) = Err (record { line = line; cause = BadCount })
+rows_of line (suc n) [] = Err (record { line = line; cause = BadCount })
+rows_of line (suc n) (b ∷ bytes) = at_line line (row_of (take 307 (b ∷ bytes))) >>= λ row. rows_of (line + 1) n (drop 307 (b ∷ bytes)) >>= onto row
+
+unfoldable pub cert_of : ℕ → List ℕ → Result (List Row) Fault
+cert_of n text = if starts_with nat_eq text head_line then rows_of 2 n (drop 11 text) else Err (record { line = 1; cause = BadHead })
+
+-- What a function returned, seen by view, is what reading gives, unless memory ran out.
+abbrev pub Fails : {Y : Type 0} → CertError → Result Y Fault → Type 0
+Fails errors.Memory read = Unit {0}
+Fails (errors.Fault f) read = read ≡ Err f
+
+abbrev pub Gives : {X Y : Type 0} → (X → Y) → Result X CertError → Result Y Fault → Type 0
+Gives view (Ok x) read = read ≡ Ok (view x)
+Gives view (Err e) read = Fails e read

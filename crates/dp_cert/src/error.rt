@@ -1,0 +1,77 @@
+//! Why a text is no certificate.
+
+ghost use Rattle.std.specs.Prelude.{◌≡◌};
+ghost use Rattle.dp_cert.specs.Faults.{number_of};
+
+use std::alloc::{AllocError, AllocFailed};
+use thiserror::Error;
+
+/// What is wrong with a line of a text.
+#[derive(Clone, Copy, Debug, PartialEq, Eq, Error)]
+pub enum Cause {
+    /// The first line is not `dpv-cert 1` and a newline.
+    #[error("this is not the head of a certificate")]
+    BadHead,
+    /// The line is not 306 lower-case hexadecimal digits and a newline.
+    #[error("this is not a line of 306 hexadecimal digits")]
+    BadLine,
+    /// The digits give no well-formed row: values are out of their ranges, or zeros are missing.
+    #[error("this is not a row")]
+    BadRow,
+    /// A line is missing, or bytes follow the last.
+    #[error("there are too few or too many lines")]
+    BadCount,
+}
+
+impl Cause {
+    /// Its number, from 1.
+    pub fn number(self) -> u8
+        ensures { result ≡ number_of self }
+    {
+        match self {
+            Cause::BadHead => 1,
+            Cause::BadLine => 2,
+            Cause::BadRow => 3,
+            Cause::BadCount => 4,
+        }
+    }
+}
+
+/// The first fault of a text. Lines count from 1.
+#[derive(Clone, Copy, Debug, PartialEq, Eq, Error)]
+#[error("line {line}: {cause}")]
+pub struct Fault {
+    pub line: usize,
+    pub cause: Cause,
+}
+
+/// Why there is no certificate.
+#[derive(Debug, Drop, Error)]
+pub enum CertError {
+    /// The memory for the rows was refused.
+    #[error("out of memory")]
+    Memory,
+    /// The text is no certificate.
+    #[error("{0}")]
+    Fault(Fault),
+}
+
+impl From<AllocError> for CertError {
+    ghost use Rattle.dp_cert.specs.declared.error.CertError.TheVariants.{Memory};
+
+    ghost from_gives = { λ _ e. e ≡ Memory };
+
+    fn from(_e: AllocError) -> CertError {
+        CertError::Memory
+    }
+}
+
+impl<T: Drop> From<AllocFailed<T>> for CertError {
+    ghost use Rattle.dp_cert.specs.declared.error.CertError.TheVariants.{Memory};
+
+    ghost from_gives = { λ _ e. e ≡ Memory };
+
+    fn from(_e: AllocFailed<T>) -> CertError {
+        CertError::Memory
+    }
+}
