@@ -1,0 +1,147 @@
+// The check of a program with its certificate.
+
+ghost use Rattle.std.specs.Prelude.{◌≡◌, ◌≤◌, length, IsTrue, IfSome, IfNone, IfOk, IfErr};
+ghost use Rattle.std.specs.List.{list_all};
+ghost use Rattle.dp_model.specs.Rows.{is_well_formed_row};
+ghost use Rattle.dp_model.specs.Rules.{begins_well, IsAccepted, IsRefused};
+ghost use Rattle.dp_lang.specs.Programs.{IsProgram};
+ghost use Rattle.dp_check.specs.Faults.{question, IsChecked, IsRefusedWith};
+
+use crate::rules::{fault_at, is_entailed};
+use dp_cert::Cert;
+use dp_lang::Program;
+use dp_model::{Entry, Env, Instr, Row, Rule};
+use std::fmt::{self, Display, Formatter, Write};
+use std::marker::Model;
+
+/// A program that is accepted with its certificate, for an environment and an entry: only `check` makes one.
+#[derive(Drop)]
+pub struct Checked {
+    program: Program,
+    cert: Cert,
+    env: Env,
+    entry: Entry,
+}
+
+impl Model for Checked {
+    ghost use Rattle.dp_model.specs.Rules.{Question};
+    ghost use Rattle.dp_check.specs.Faults.{question, IsChecked};
+
+    ghost Value = { Question };
+
+    ghost view = { λ a. question a.program a.cert a.env a.entry };
+
+    ghost invariant = { λ a. IsChecked (question a.program a.cert a.env a.entry) };
+}
+
+impl Checked {
+    /// The program.
+    pub fn program(&self) -> &Program
+        ensures same { result.now ≡ self.now.program }
+        // No rule fails.
+        ensures accepted { IsAccepted self.now }
+        // It has from 1 to 1,024 instructions.
+        ensures program { IsProgram self.now.program }
+        ensures well_formed { IsTrue (list_all is_well_formed_row self.now.rows) }
+    {
+        &self.program
+    }
+
+    /// Its certificate.
+    pub fn cert(&self) -> &Cert
+        ensures { result.now ≡ self.now.rows }
+    {
+        &self.cert
+    }
+
+    /// The environment that it is accepted for.
+    pub fn env(&self) -> &Env
+        ensures { result.now ≡ self.now.env }
+    {
+        &self.env
+    }
+
+    /// The entry that it is accepted for.
+    pub fn entry(&self) -> Entry
+        ensures { result ≡ self.now.entry }
+    {
+        self.entry
+    }
+}
+
+/// A program that is refused: the least failing label, from 0, the number of its first failing rule, 1 to 12, and
+/// what was handed in. It is displayed as `refused at 4 by J11`.
+#[derive(Drop)]
+pub struct Refused {
+    pub label: u16,
+    pub rule: u8,
+    pub program: Program,
+    pub cert: Cert,
+}
+
+impl Display for Refused {
+    fn fmt<W: Write>(&self, f: &mut Formatter<W>) -> fmt::Result {
+        write!(f, "refused at {} by J{}", self.label, self.rule)
+    }
+}
+
+/// Whether the entry's row entails the first.
+fn begins_well(program: &[Instr], rows: &[Row], env: &Env, entry: Entry) -> bool
+    ensures { result ≡ begins_well (question program.now rows.now env.now entry) }
+{
+    match env.entry_row(entry) {
+        Some(row) => is_entailed(rows, &row, 0),
+        None => false,
+    }
+}
+
+/// The least failing label with its first failing rule.
+#[tactic(auto, using(crate::proofs::RuleLemmas::later_is, crate::proofs::RuleLemmas::later_past))]
+fn first_fault(program: &[Instr], rows: &[Row], env: &Env, entry: Entry) -> Option<(u16, Rule)>
+    requires at_most { length program.now ≤ 1024 }
+    requires well_formed { IsTrue (list_all is_well_formed_row rows.now) }
+    ensures none { IfNone result (IsAccepted (question program.now rows.now env.now entry)) }
+    ensures some { IfSome result (λ f. IsRefused (question program.now rows.now env.now entry) f.0 f.1) }
+{
+    if rows.len() != program.len() {
+        return Some((0, Rule::J1));
+    }
+    if !begins_well(program, rows, env, entry) {
+        return Some((0, Rule::J2));
+    }
+    for label in 0..program.len() as u16 {
+        if let Some(rule) = fault_at(program, rows, env, label) {
+            return Some((label, rule));
+        }
+    }
+    None
+}
+
+/// Whether a program may be run in an environment at an entry, as its certificate shows. Each instruction is looked
+/// at once, and nothing is allocated.
+///
+/// # Errors
+/// `Refused` where a rule fails, with the least failing label and the first rule that fails there. An entry that the
+/// environment does not have is refused at label 0 by J2.
+pub fn check(program: Program, cert: Cert, env: &Env, entry: Entry) -> Result<Checked, Refused>
+    ensures same { IfOk result (λ checked. checked ≡ question program cert env.now entry) }
+    ensures accepted { IfOk result (λ checked. IsChecked checked) }
+    ensures refused { IfErr result (λ r. IsRefusedWith (question program cert env.now entry) r.label r.rule) }
+    ensures program_back { IfErr result (λ r. r.program ≡ program) }
+    ensures cert_back { IfErr result (λ r. r.cert ≡ cert) }
+{
+    match first_fault(program.instrs(), cert.rows(), env, entry) {
+        Some((label, rule)) => Err(Refused {
+            label,
+            rule: rule.number(),
+            program,
+            cert,
+        }),
+        None => Ok(Checked {
+            program,
+            cert,
+            env: env.copy(),
+            entry,
+        }),
+    }
+}
