@@ -1,0 +1,59 @@
+-- Rings of numbers in a zone.
+use Rattle.std.specs.Prelude.{refl, ℕ, zero, suc, ◌+◌, ◌-◌, ◌*◌, ◌≤◌, IsTrue, nat_lt, if◌then◌else◌, List, [], ◌∷◌, ◌++◌, length, drop}
+use Rattle.std.specs.Int.{is_power_of_two}
+use Rattle.std.specs.Coded.{Coded, code_by, coded×, coded_list, coded_ℕ}
+use Rattle.dp_region.specs.Ownership.{Home, home_code}
+use Rattle.dp_region.specs.Region.{number_at}
+use Rattle.dp_zone.specs.Zones.{ZoneView}
+
+-- what a contract sees of a ring: how many places it has, of which one stays unused, its entries, first in first, and
+-- the name, the region, the place and the length of the zone in which it stands
+pub record RingView : Type 0 where
+  pub count : ℕ
+  pub entries : List ℕ
+  pub name : List ℕ
+  pub home : Home
+  pub place : ℕ
+  pub len : ℕ
+
+-- it is stored as the tuple of its fields
+abbrev pub ring_code : Coded RingView
+ring_code =
+    code_by (ℕ × (List ℕ × (List ℕ × (Home × (ℕ × ℕ))))) (coded× coded_ℕ (coded× (coded_list coded_ℕ) (coded× (coded_list coded_ℕ) (coded× home_code (coded× coded_ℕ coded_ℕ)))))
+    (λ r. (r.count, (r.entries, (r.name, (r.home, (r.place, r.len))))))
+    (λ p. record { count = p.0; entries = p.1.0; name = p.1.1.0; home = p.1.1.1.0; place = p.1.1.1.1.0; len = p.1.1.1.1.1 }) (λ _. refl)
+
+-- how many places a ring may have
+abbrev pub IsCount : ℕ → Type 0
+IsCount n = (2 ≤ n) × (n ≤ 65536) × IsTrue (is_power_of_two n)
+
+-- a ring without entries in a zone
+abbrev pub empty_over : ZoneView → ℕ → RingView
+empty_over zone count = record { count = count; entries = []; name = zone.name; home = zone.home; place = zone.place; len = length zone.bytes }
+
+-- how many more entries it can take
+abbrev pub room_in : RingView → ℕ
+room_in r = r.count - 1 - length r.entries
+
+-- with these entries behind its own
+abbrev pub with_more : RingView → List ℕ → RingView
+with_more r values = record r { entries = r.entries ++ values }
+
+-- without its first n entries
+abbrev pub without_first : RingView → ℕ → RingView
+without_first r n = record r { entries = drop n r.entries }
+
+-- ---- how the entries stand in the zone's bytes
+
+-- the place behind one
+abbrev pub next_place : ℕ → ℕ → ℕ
+next_place count i = if nat_lt (i + 1) count then i + 1 else 0
+
+-- the n entries from a place on
+abbrev pub entries_from : List ℕ → ℕ → ℕ → ℕ → List ℕ
+entries_from bytes count first zero = []
+entries_from bytes count first (suc n) = number_at bytes (4 * first) 4 ∷ entries_from bytes count (next_place count first) n
+
+-- the place that is so far behind one
+abbrev pub place_behind : ℕ → ℕ → ℕ → ℕ
+place_behind count first n = if nat_lt (first + n) count then first + n else first + n - count

@@ -1,0 +1,215 @@
+//! A ring of numbers.
+
+ghost use Rattle.std.specs.Prelude.{◌≡◌, ℕ, ◌+◌, ◌-◌, ◌*◌, ◌<◌, ◌≤◌, ◌++◌, [], ◌∷◌, length, take, drop, min, nat_lt, nat_le, if◌then◌else◌, slice_get, Some, None, MatchOption};
+ghost use Rattle.dp_ring.specs.Rings.{IsCount, empty_over, room_in, with_more, without_first, place_behind, next_place};
+
+use dp_zone::Zone;
+use std::marker::Model;
+
+/// A ring of `count` places, a power of two from 2 to 65,536, of which one stays unused. It stands in a zone of at
+/// least 4 bytes a place, and gives it back by `into_zone`.
+pub struct Ring {
+    zone: Zone,
+    count: u32,
+    // The place of the first entry.
+    first: u32,
+    // How many entries there are.
+    used: u32,
+}
+
+impl Model for Ring {
+    ghost use Rattle.std.specs.Prelude.{◌*◌, ◌<◌, ◌≤◌, length};
+    ghost use Rattle.dp_ring.specs.Rings.{RingView, ring_code, entries_from};
+
+    ghost Value = { RingView };
+
+    ghost coded = { ring_code };
+
+    ghost view = { λ r. record { count = r.count; entries = entries_from r.zone.bytes r.count r.first r.used; name = r.zone.name; home = r.zone.home; place = r.zone.place; len = length r.zone.bytes } };
+
+    ghost invariant = { λ r. (r.first < r.count) × (r.used < r.count) × (r.count ≤ 65536) × (4 * r.count ≤ length r.zone.bytes) };
+}
+
+// The place that is so far behind one.
+fn place_behind(count: u32, first: u32, n: u32) -> u32
+    requires { (first < count) × (n < count) × (count ≤ 65536) }
+    ensures value { result ≡ place_behind count first n }
+    ensures bound { result < count }
+{
+    let behind = first + n;
+    if behind < count {
+        behind
+    } else {
+        behind - count
+    }
+}
+
+// The place behind one.
+fn next_place(count: u32, place: u32) -> u32
+    requires { (place < count) × (count ≤ 65536) }
+    ensures value { result ≡ next_place count place }
+    ensures bound { result < count }
+{
+    let next = place + 1;
+    if next < count { next } else { 0 }
+}
+
+impl Ring {
+    /// An empty ring in a zone.
+    pub fn over(zone: Zone, count: u32) -> Ring
+        requires count { IsCount count }
+        requires room { 4 * count ≤ length zone.bytes }
+        ensures { result ≡ empty_over zone count }
+    {
+        Ring {
+            zone,
+            count,
+            first: 0,
+            used: 0,
+        }
+    }
+
+    /// How many entries there are.
+    #[tactic(auto, using(crate::proofs::Entries::counted))]
+    pub fn count(&self) -> u32
+        ensures { result ≡ length self.now.entries }
+    {
+        self.used
+    }
+
+    /// How many more entries it can take.
+    #[tactic(auto, using(crate::proofs::Entries::counted))]
+    pub fn free_count(&self) -> u32
+        ensures { result ≡ room_in self.now }
+    {
+        self.count - 1 - self.used
+    }
+
+    // Puts an entry behind the others.
+    #[tactic(auto, using(crate::proofs::Entries::counted, crate::proofs::Entries::entries_pushed))]
+    fn push(&mut self, value: u32)
+        requires { 0 < room_in self.old }
+        ensures { self.new ≡ with_more self.old (value ∷ []) }
+    {
+        let place = place_behind(self.count, self.first, self.used);
+        self.zone.store_u32(4 * place, value);
+        self.used += 1;
+    }
+
+    // Takes the first entry out.
+    fn pop(&mut self) -> u32
+        requires { 0 < length self.old.entries }
+        ensures first { self.old.entries ≡ result ∷ self.new.entries }
+        ensures rest { self.new ≡ without_first self.old 1 }
+    {
+        let value = self.zone.load_u32(4 * self.first);
+        self.first = next_place(self.count, self.first);
+        self.used -= 1;
+        value
+    }
+
+    /// Puts an entry behind the others, or answers false where the ring is full.
+    pub fn enqueue(&mut self, value: u32) -> bool
+        ensures taken { result ≡ nat_lt 0 (room_in self.old) }
+        ensures entries { self.new ≡ (if nat_lt 0 (room_in self.old) then with_more self.old (value ∷ []) else self.old) }
+    {
+        if self.free_count() == 0 {
+            return false;
+        }
+        self.push(value);
+        true
+    }
+
+    /// Takes the first entry out, if there is one.
+    pub fn dequeue(&mut self) -> Option<u32>
+        ensures first { result ≡ slice_get self.old.entries 0 }
+        ensures rest { self.new ≡ without_first self.old 1 }
+    {
+        if self.count() == 0 {
+            return None;
+        }
+        Some(self.pop())
+    }
+
+    // Puts entries behind the others, in order.
+    fn push_all(&mut self, values: &[u32])
+        requires { length values.now ≤ room_in self.old }
+        ensures { self.new ≡ with_more self.old values.now }
+    {
+        for value in values {
+            self.push(*value);
+        }
+    }
+
+    // Takes the first entries out, in order, as many as there are places for them.
+    fn pop_all(&mut self, values: &mut [u32])
+        requires { length values.old ≤ length self.old.entries }
+        ensures first { values.new ≡ take (length values.old) self.old.entries }
+        ensures rest { self.new ≡ without_first self.old (length values.old) }
+    {
+        for value in values.iter_mut() {
+            *value = self.pop();
+        }
+    }
+
+    /// Puts all entries behind the others, in order, or none and answers false where the free places are fewer.
+    pub fn enqueue_bulk(&mut self, values: &[u32]) -> bool
+        ensures taken { result ≡ nat_le (length values.now) (room_in self.old) }
+        ensures entries { self.new ≡ (if nat_le (length values.now) (room_in self.old) then with_more self.old values.now else self.old) }
+    {
+        if values.len() > self.free_count() as usize {
+            return false;
+        }
+        self.push_all(values);
+        true
+    }
+
+    /// Fills the list with the first entries, in order, or takes none and answers false where the entries are fewer.
+    pub fn dequeue_bulk(&mut self, values: &mut [u32]) -> bool
+        ensures taken { result ≡ nat_le (length values.old) (length self.old.entries) }
+        ensures first { values.new ≡ (if nat_le (length values.old) (length self.old.entries) then take (length values.old) self.old.entries else values.old) }
+        ensures rest { self.new ≡ (if nat_le (length values.old) (length self.old.entries) then without_first self.old (length values.old) else self.old) }
+    {
+        if values.len() > self.count() as usize {
+            return false;
+        }
+        self.pop_all(values);
+        true
+    }
+
+    /// Puts as many of the entries as can be behind the others, in order, and answers how many.
+    pub fn enqueue_burst(&mut self, values: &[u32]) -> usize
+        ensures number { result ≡ min (length values.now) (room_in self.old) }
+        ensures entries { self.new ≡ with_more self.old (take (min (length values.now) (room_in self.old)) values.now) }
+    {
+        let number = values.len().min(self.free_count() as usize);
+        self.push_all(&values[..number]);
+        number
+    }
+
+    /// Takes as many of the first entries as there are and as the list holds, in order, and answers how many. The
+    /// rest of the list stays.
+    pub fn dequeue_burst(&mut self, values: &mut [u32]) -> usize
+        ensures number { result ≡ min (length values.old) (length self.old.entries) }
+        ensures first { values.new ≡ take (min (length values.old) (length self.old.entries)) self.old.entries ++ drop (min (length values.old) (length self.old.entries)) values.old }
+        ensures rest { self.new ≡ without_first self.old (min (length values.old) (length self.old.entries)) }
+    {
+        let number = values.len().min(self.count() as usize);
+        self.pop_all(&mut values[..number]);
+        number
+    }
+
+    /// Gives the zone back, with any bytes.
+    pub fn into_zone(self) -> Zone
+        ensures place { (result.name ≡ self.name) × (result.home ≡ self.home) × (result.place ≡ self.place) }
+        ensures len { length result.bytes ≡ self.len }
+    {
+        let Ring {
+            zone,
+            count: _,
+            first: _,
+            used: _,
+        } = self;
+        zone
+    }
+}

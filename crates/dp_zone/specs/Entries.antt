@@ -1,0 +1,11 @@
+-- What the entries of a table say.
+use Rattle.std.specs.Prelude.{List, map}
+use Rattle.dp_zone.specs.declared.zones.Entry.{Entry}
+use Rattle.dp_zone.specs.Zones.{Reserved}
+
+-- an entry as what the table knows of its zone
+abbrev pub entry_of : Entry → Reserved
+entry_of e = record { name = e.name.bytes; place = e.place; len = e.len }
+
+abbrev pub table_of : List Entry → List Reserved
+table_of entries = map entry_of entries

@@ -1,0 +1,12 @@
+-- Names of zones.
+use Rattle.std.specs.Prelude.{ℕ, Bool, ◌&&◌, nat_le, List, length}
+use Rattle.std.specs.List.{list_all}
+use Rattle.std.specs.Str.{bytes_eq}
+
+-- whether a name has 1 to 31 characters, each visible: 33 to 126
+abbrev pub is_name : List ℕ → Bool
+is_name name = nat_le 1 (length name) && nat_le (length name) 31 && list_all (λ b. nat_le 33 b && nat_le b 126) name
+
+-- whether two names are the same
+abbrev pub same_name : List ℕ → List ℕ → Bool
+same_name = bytes_eq

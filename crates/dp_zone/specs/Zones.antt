@@ -1,0 +1,83 @@
+-- Zones: what a contract sees of one, and of the table of those that are reserved.
+use Rattle.std.specs.Prelude.{◌≡◌, refl, ℕ, ◌<◌, ◌≤◌, Bool, true, false, List, [], ◌∷◌, ◌++◌, length, take, drop, Option, find, if◌then◌else◌}
+use Rattle.std.specs.List.{list_any}
+use Rattle.std.specs.Coded.{Coded, code_by, coded×, coded_list, coded_ℕ}
+use Rattle.dp_region.specs.Ownership.{Home, home_code}
+use Rattle.dp_heap.specs.declared.elements.Element.{Element}
+use Rattle.dp_heap.specs.Elements.{rounded, alignment, NothingFits}
+use Rattle.dp_heap.specs.Refusals.{IsAlign}
+use Rattle.dp_zone.specs.declared.error.ZoneError.{ZoneError}
+use Rattle.dp_zone.specs.declared.error.ZoneError.TheVariants.{BadName, BadLength, BadAlign, Exists, Full, NoRoom}
+use Rattle.dp_zone.specs.declared.zones.ZoneInfo.{ZoneInfo}
+use Rattle.dp_zone.specs.Names.{is_name, same_name}
+
+-- a zone: its name, the region that it is of, its place there, and its bytes
+pub record ZoneView : Type 0 where
+  pub name : List ℕ
+  pub home : Home
+  pub place : ℕ
+  pub bytes : List ℕ
+
+-- it is stored as the tuple of its fields
+abbrev pub zone_code : Coded ZoneView
+zone_code =
+    code_by (List ℕ × (Home × (ℕ × List ℕ))) (coded× (coded_list coded_ℕ) (coded× home_code (coded× coded_ℕ (coded_list coded_ℕ))))
+    (λ z. (z.name, (z.home, (z.place, z.bytes)))) (λ p. record { name = p.0; home = p.1.0; place = p.1.1.0; bytes = p.1.1.1 }) (λ _. refl)
+
+-- z with ws as its bytes. Where ws has another length it is cut, or filled up from z's
+abbrev pub with_content : ZoneView → List ℕ → ZoneView
+with_content z ws = record z { bytes = take (length z.bytes) (ws ++ drop (length ws) z.bytes) }
+
+-- what a table knows of a zone
+pub record Reserved : Type 0 where
+  pub name : List ℕ
+  pub place : ℕ
+  pub len : ℕ
+
+abbrev pub reserved_of : ZoneView → Reserved
+reserved_of z = record { name = z.name; place = z.place; len = length z.bytes }
+
+-- whether it has this name
+abbrev pub is_named : List ℕ → Reserved → Bool
+is_named name r = same_name r.name name
+
+-- whether the table has the name
+abbrev pub has_name : List ℕ → List Reserved → Bool
+has_name name table = list_any (is_named name) table
+
+-- the zone of that name, if there is one
+abbrev pub zone_named : List ℕ → List Reserved → Option Reserved
+zone_named name table = find (is_named name) table
+
+-- the table without its first zone of that name
+abbrev pub without_name : List ℕ → List Reserved → List Reserved
+without_name name [] = []
+without_name name (r ∷ rs) = if is_named name r then rs else r ∷ without_name name rs
+
+-- what a look-up tells of it
+abbrev pub info_of : Reserved → ZoneInfo
+info_of r = record { place = r.place; len = r.len }
+
+-- a length that a zone may have
+abbrev pub IsLength : ℕ → Type 0
+IsLength len = (0 < len) × (len ≤ 1073741824)
+
+-- a request is refused by this error: none of the earlier ones applies
+abbrev pub IsZoneRefused : ZoneError → List ℕ → ℕ → ℕ → List Reserved → List Element → Type 0
+IsZoneRefused BadName name len align table es = is_name name ≡ false
+IsZoneRefused BadLength name len align table es = (is_name name ≡ true) × ¬ IsLength len
+IsZoneRefused BadAlign name len align table es = (is_name name ≡ true) × IsLength len × ¬ IsAlign align
+IsZoneRefused Exists name len align table es = (is_name name ≡ true) × IsLength len × IsAlign align × (has_name name table ≡ true)
+IsZoneRefused Full name len align table es =
+    (is_name name ≡ true) × IsLength len × IsAlign align × (has_name name table ≡ false) × (length table ≡ 64)
+IsZoneRefused NoRoom name len align table es =
+    (is_name name ≡ true) × IsLength len × IsAlign align × (has_name name table ≡ false) × (length table < 64)
+    × NothingFits (rounded len) (alignment align) es
+
+-- a request that no error but NoRoom applies to
+pub record IsReservable (name : List ℕ) (len align : ℕ) (table : List Reserved) : Type 0 where
+  pub named : is_name name ≡ true
+  pub length_fits : IsLength len
+  pub aligned : IsAlign align
+  pub fresh : has_name name table ≡ false
+  pub room : length table < 64

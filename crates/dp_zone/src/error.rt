@@ -1,0 +1,40 @@
+//! Why a zone is not reserved.
+
+use thiserror::Error;
+
+/// Why a zone is not reserved: the first of these that applies.
+#[derive(Clone, Copy, Debug, PartialEq, Eq, Drop, Error)]
+pub enum ZoneError {
+    /// The name has not 1 to 31 characters, or one of them is not from 33 to 126.
+    #[error("bad zone name")]
+    BadName,
+    /// The length is 0 or above 1,073,741,824.
+    #[error("bad zone length")]
+    BadLength,
+    /// The alignment is neither 0 nor a power of two.
+    #[error("bad zone alignment")]
+    BadAlign,
+    /// There is a zone of that name.
+    #[error("the zone exists")]
+    Exists,
+    /// There are 64 zones.
+    #[error("too many zones")]
+    Full,
+    /// No free part of the heap is large enough.
+    #[error("no room for the zone")]
+    NoRoom,
+}
+
+impl ZoneError {
+    /// Its number, from 1, in the order in which the causes are looked for.
+    pub fn number(self) -> u8 {
+        match self {
+            ZoneError::BadName => 1,
+            ZoneError::BadLength => 2,
+            ZoneError::BadAlign => 3,
+            ZoneError::Exists => 4,
+            ZoneError::Full => 5,
+            ZoneError::NoRoom => 6,
+        }
+    }
+}

@@ -1,0 +1,12 @@
+//! Memzones: named blocks of a heap (DPDK Programmer's Guide, "Memory Zone Management").
+#![tactic(auto)]
+
+mod error;
+mod name;
+mod zone;
+mod zones;
+
+pub use error::ZoneError;
+pub use name::ZoneName;
+pub use zone::Zone;
+pub use zones::{ZoneInfo, Zones};

@@ -1,0 +1,82 @@
+//! Names of zones.
+
+ghost use Rattle.std.specs.Prelude.{◌≡◌, ◌&&◌, nat_le, true, false, IfSome, IfNone};
+ghost use Rattle.std.specs.List.{list_all};
+ghost use Rattle.dp_zone.specs.Names.{is_name, same_name};
+
+use arrayvec::ArrayString;
+use std::marker::Model;
+
+/// The name of a zone: 1 to 31 visible ASCII characters, without blanks.
+#[derive(Drop)]
+pub struct ZoneName {
+    text: ArrayString<31>,
+}
+
+impl Model for ZoneName {
+    ghost use Rattle.std.specs.Prelude.{List, ℕ, ◌≡◌, true};
+    ghost use Rattle.dp_zone.specs.Names.{is_name};
+
+    ghost Value = { List ℕ };
+
+    ghost view = { λ n. n.text.bytes };
+
+    ghost invariant = { λ n. is_name n.text.bytes ≡ true };
+}
+
+/// Whether all are visible characters.
+fn are_visible(bytes: &[u8]) -> bool
+    ensures { result ≡ list_all (λ b. nat_le 33 b && nat_le b 126) bytes.now }
+{
+    bytes.iter().all(|b| *b >= 33 && *b <= 126)
+}
+
+/// Whether a text is a name.
+pub(crate) fn is_name(text: &str) -> bool
+    ensures { result ≡ is_name text.now }
+{
+    !text.is_empty() && text.len() <= 31 && are_visible(text.as_bytes())
+}
+
+impl ZoneName {
+    /// The name of this text, or `None` where it is none.
+    pub fn new(text: &str) -> Option<ZoneName>
+        ensures some { IfSome result (λ n. (n ≡ text.now) × (is_name text.now ≡ true)) }
+        ensures none { IfNone result (is_name text.now ≡ false) }
+    {
+        if !is_name(text) {
+            return None;
+        }
+        let mut name = ArrayString::new();
+        name.push_str(text);
+        Some(ZoneName { text: name })
+    }
+
+    /// Its text.
+    pub fn as_str(&self) -> &str
+        ensures { result.now ≡ self.now }
+    {
+        self.text.as_str()
+    }
+
+    // Its text, in room of its own.
+    pub(crate) fn text(&self) -> ArrayString<31>
+        ensures { result.bytes ≡ self.now }
+    {
+        self.text
+    }
+
+    /// Whether two names are the same.
+    pub fn is(&self, text: &str) -> bool
+        ensures { result ≡ same_name self.now text.now }
+    {
+        self.as_str() == text
+    }
+
+    /// The same name again.
+    pub fn copy(&self) -> ZoneName
+        ensures { result ≡ self.now }
+    {
+        ZoneName { text: self.text }
+    }
+}

@@ -1,0 +1,122 @@
+//! A zone.
+
+ghost use Rattle.std.specs.Prelude.{◌≡◌, ℕ, ◌+◌, ◌<◌, ◌≤◌, length};
+ghost use Rattle.std.specs.Borrow.{Lends, Array, sem, u8 as byte};
+ghost use Rattle.dp_region.specs.Spans.{bytes_in, with_bytes};
+ghost use Rattle.dp_region.specs.Region.{number_at, with_number};
+ghost use Rattle.dp_zone.specs.Zones.{with_content};
+ghost use Rattle.dp_zone.specs.contracts.zone.Zone.{the_row};
+
+use crate::name::ZoneName;
+use dp_region::Block;
+use std::marker::Model;
+
+/// A named block of a heap. It goes back by `Zones::give_back`.
+pub struct Zone {
+    name: ZoneName,
+    block: Block,
+}
+
+impl Model for Zone {
+    ghost use Rattle.dp_zone.specs.Zones.{ZoneView, zone_code};
+
+    ghost Value = { ZoneView };
+
+    ghost coded = { zone_code };
+
+    ghost view = { λ z. record { name = z.name; home = z.block.home; place = z.block.place; bytes = z.block.bytes } };
+}
+
+impl Zone {
+    // The zone of this name that a block is.
+    pub(crate) fn over(name: ZoneName, block: Block) -> Zone
+        ensures { result ≡ record { name = name; home = block.home; place = block.place; bytes = block.bytes } }
+    {
+        Zone { name, block }
+    }
+
+    // The name and the block.
+    pub(crate) fn into_parts(self) -> (ZoneName, Block)
+        ensures { (result.0 ≡ self.name) × (result.1 ≡ record { home = self.home; place = self.place; bytes = self.bytes }) }
+    {
+        let Zone { name, block } = self;
+        (name, block)
+    }
+
+    /// Its name.
+    pub fn name(&self) -> &ZoneName
+        ensures { result.now ≡ self.now.name }
+    {
+        &self.name
+    }
+
+    /// Where it begins, in bytes from the region's start.
+    pub fn place(&self) -> u32
+        ensures { result ≡ self.now.place }
+    {
+        self.block.place()
+    }
+
+    /// How many bytes it has.
+    pub fn len(&self) -> u32
+        ensures value { result ≡ length self.now.bytes }
+        ensures some { 0 < result }
+    {
+        self.block.len()
+    }
+
+    /// Its bytes.
+    pub fn bytes(&self) -> &[u8]
+        ensures { result.now ≡ self.now.bytes }
+    {
+        self.block.bytes()
+    }
+
+    /// Its bytes, to be written.
+    pub fn bytes_mut(&mut self) -> &mut [u8]
+        ensures* writes_back { sem 𝓛 (Lends the_row (Array byte 0) self.entry result (with_content self.old)) }
+        ensures value { result.now ≡ self.old.bytes }
+    {
+        self.block.bytes_mut()
+    }
+
+    /// The number in the 2 bytes from `at` on, the lowest first.
+    pub fn load_u16(&self, at: u32) -> u16
+        requires { at + 2 ≤ length self.now.bytes }
+        ensures { result ≡ number_at self.now.bytes at 2 }
+    {
+        self.block.load_u16(at)
+    }
+
+    /// The number in the 4 bytes from `at` on, the lowest first.
+    pub fn load_u32(&self, at: u32) -> u32
+        requires { at + 4 ≤ length self.now.bytes }
+        ensures { result ≡ number_at self.now.bytes at 4 }
+    {
+        self.block.load_u32(at)
+    }
+
+    /// Writes a number into the 2 bytes from `at` on, the lowest first.
+    pub fn store_u16(&mut self, at: u32, v: u16)
+        requires { at + 2 ≤ length self.old.bytes }
+        ensures { self.new ≡ record self.old { bytes = with_number self.old.bytes at 2 v } }
+    {
+        self.block.store_u16(at, v);
+    }
+
+    /// Writes a number into the 4 bytes from `at` on, the lowest first.
+    pub fn store_u32(&mut self, at: u32, v: u32)
+        requires { at + 4 ≤ length self.old.bytes }
+        ensures { self.new ≡ record self.old { bytes = with_number self.old.bytes at 4 v } }
+    {
+        self.block.store_u32(at, v);
+    }
+
+    /// Copies `len` bytes from `from` to `to`. The two parts may overlap.
+    pub fn copy_within(&mut self, from: u32, len: u32, to: u32)
+        requires { (from + len ≤ length self.old.bytes) × (to + len ≤ length self.old.bytes) }
+        ensures { self.new ≡ record self.old { bytes = with_bytes self.old.bytes to (bytes_in self.old.bytes from len) } }
+    {
+        self.block.copy_within(from, len, to);
+    }
+}

@@ -1,0 +1,197 @@
+//! The table of zones.
+
+ghost use Rattle.std.specs.Prelude.{◌≡◌, ◌<◌, ◌≤◌, ◌&&◌, List, [], ◌∷◌, ◌++◌, length, Contains, IfOk, IfErr, IfSome, IfNone, OnOk, OnErr, MatchResult, find, position, option_map, true, false};
+ghost use Rattle.std.specs.List.{list_any};
+ghost use Rattle.dp_heap.specs.declared.elements.Element.{Element};
+ghost use Rattle.dp_heap.specs.Elements.{rounded, alignment, Taken, merged, IsOut};
+ghost use Rattle.dp_zone.specs.Names.{same_name};
+ghost use Rattle.dp_zone.specs.Entries.{table_of};
+ghost use Rattle.dp_zone.specs.Zones.{Reserved, info_of, reserved_of, is_named, has_name, zone_named, without_name, IsZoneRefused, IsReservable};
+
+use crate::error::ZoneError;
+use crate::name::{ZoneName, is_name};
+use crate::zone::Zone;
+use arrayvec::{ArrayString, ArrayVec};
+use dp_heap::{Heap, HeapError};
+use std::marker::Model;
+
+/// The most zones of a table.
+const MOST: usize = 64;
+
+/// The longest zone, in bytes.
+const LONGEST: u32 = 1_073_741_824;
+
+/// Where a zone is: its place, in bytes from the region's start, and how many bytes it has.
+#[derive(Clone, Copy, Debug, PartialEq, Eq)]
+pub struct ZoneInfo {
+    pub place: u32,
+    pub len: u32,
+}
+
+// What the table knows of a zone.
+#[derive(Clone, Copy, Default, Drop)]
+struct Entry {
+    name: ArrayString<31>,
+    place: u32,
+    len: u32,
+}
+
+impl Entry {
+    // Whether it has this name.
+    fn is(&self, name: &str) -> bool
+        ensures { result ≡ same_name self.now.name.bytes name.now }
+    {
+        self.name.as_str() == name
+    }
+}
+
+// The place of the entry of that name.
+fn place_of(entries: &[Entry], name: &str) -> Option<usize>
+    ensures { result ≡ position (λ e. same_name e.name.bytes name.now) entries.now }
+{
+    entries.iter().position(|e| e.is(name))
+}
+
+// Whether an entry has that name.
+fn any_named(entries: &[Entry], name: &str) -> bool
+    ensures { result ≡ list_any (λ e. same_name e.name.bytes name.now) entries.now }
+{
+    entries.iter().any(|e| e.is(name))
+}
+
+// The entry of that name.
+fn entry_named(entries: &[Entry], name: &str) -> Option<Entry>
+    ensures { result ≡ find (λ e. same_name e.name.bytes name.now) entries.now }
+{
+    entries.iter().copied().find(|e| e.is(name))
+}
+
+/// A table of at most 64 zones, each with a name of its own.
+#[derive(Drop)]
+pub struct Zones {
+    entries: ArrayVec<Entry, 64>,
+}
+
+impl Model for Zones {
+    ghost use Rattle.std.specs.Prelude.{List};
+    ghost use Rattle.dp_zone.specs.Zones.{Reserved};
+    ghost use Rattle.dp_zone.specs.Entries.{table_of};
+
+    ghost Value = { List Reserved };
+
+    ghost view = { λ z. table_of z.entries.items };
+}
+
+impl Zones {
+    /// An empty table.
+    pub fn new() -> Zones
+        ensures { result ≡ [] }
+    {
+        Zones {
+            entries: ArrayVec::new(),
+        }
+    }
+
+    // Whether there is a zone of that name.
+    #[tactic(auto, using(crate::proofs::Tables::has_name_any))]
+    fn has(&self, name: &str) -> bool
+        ensures { result ≡ has_name name.now self.now }
+    {
+        any_named(self.entries.as_slice(), name)
+    }
+
+    /// Where the zone of that name is, if there is one.
+    #[tactic(auto, using(crate::proofs::Tables::lookup_found, crate::proofs::Tables::lookup_missed))]
+    pub fn lookup(&self, name: &str) -> Option<ZoneInfo>
+        ensures { result ≡ option_map info_of (zone_named name.now self.now) }
+    {
+        match entry_named(self.entries.as_slice(), name) {
+            Some(entry) => Some(ZoneInfo {
+                place: entry.place,
+                len: entry.len,
+            }),
+            None => None,
+        }
+    }
+
+    // Why no zone of these is reserved, whatever the heap holds.
+    fn refusal(&self, name: &str, len: u32, align: u32) -> Option<ZoneError>
+        ensures none { IfNone result (IsReservable name.now len align self.now) }
+        ensures some { IfSome result (λ e. (es : List Element) → IsZoneRefused e name.now len align self.now es) }
+    {
+        if !is_name(name) {
+            return Some(ZoneError::BadName);
+        }
+        if len == 0 || len > LONGEST {
+            return Some(ZoneError::BadLength);
+        }
+        if align != 0 && !align.is_power_of_two() {
+            return Some(ZoneError::BadAlign);
+        }
+        if self.has(name) {
+            return Some(ZoneError::Exists);
+        }
+        if self.entries.len() == MOST {
+            return Some(ZoneError::Full);
+        }
+        None
+    }
+
+    // Takes the zone of that name out of the table.
+    fn forget(&mut self, name: &str)
+        ensures { self.new ≡ without_name name.now self.old }
+    {
+        if let Some(place) = place_of(self.entries.as_slice(), name) {
+            self.entries.remove(place);
+        }
+    }
+
+    /// A new zone of that name: `len` bytes, rounded up to 64, aligned to `align` (0 counts as 64). It begins with the
+    /// bytes that were there. An error is the first that applies, and then nothing has changed.
+    pub fn reserve(
+        &mut self,
+        heap: &mut Heap,
+        name: &str,
+        len: u32,
+        align: u32,
+    ) -> Result<Zone, ZoneError>
+        ensures zone { IfOk result (λ z. (z.name ≡ name.now) × (z.home ≡ heap.old.home) × (length z.bytes ≡ rounded len)) }
+        ensures taken { IfOk result (λ z. Taken heap.old.elements (rounded len) (alignment align) z.place heap.new.elements) }
+        ensures undone { IfOk result (λ z. merged z.place heap.new.elements ≡ heap.old.elements) }
+        ensures table { IfOk result (λ z. self.new ≡ self.old ++ reserved_of z ∷ []) }
+        ensures reservable { OnOk result (IsReservable name.now len align self.old) }
+        ensures home { heap.new.home ≡ heap.old.home }
+        ensures refused { IfErr result (λ e. IsZoneRefused e name.now len align self.old heap.old.elements) }
+        ensures kept { OnErr result ((self.new ≡ self.old) × (heap.new ≡ heap.old)) }
+    {
+        if let Some(error) = self.refusal(name, len, align) {
+            return Err(error);
+        }
+        let Some(zone_name) = ZoneName::new(name) else {
+            return Err(ZoneError::BadName);
+        };
+        match heap.malloc(len, align) {
+            Ok(block) => {
+                self.entries.push(Entry {
+                    name: zone_name.text(),
+                    place: block.place(),
+                    len: block.len(),
+                });
+                Ok(Zone::over(zone_name, block))
+            }
+            Err(_) => Err(ZoneError::NoRoom),
+        }
+    }
+
+    /// Gives a zone of that heap back: its name is free again, and its bytes are the heap's.
+    pub fn give_back(&mut self, heap: &mut Heap, zone: Zone)
+        requires { zone.home ≡ heap.old.home }
+        ensures was_out { IsOut zone.place heap.old.elements }
+        ensures table { self.new ≡ without_name zone.name self.old }
+        ensures heap { heap.new ≡ record { home = heap.old.home; elements = merged zone.place heap.old.elements } }
+    {
+        let (name, block) = zone.into_parts();
+        self.forget(name.as_str());
+        heap.free(block);
+    }
+}
