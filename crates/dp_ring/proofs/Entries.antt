@@ -1,7 +1,8 @@
 -- How the entries of a ring stand in its bytes, and what one more does to them.
-use Rattle.std.proofs.Common.{◌≡◌, ℕ, zero, suc, ◌+◌, ◌-◌, ◌*◌, ◌^◌, ◌<◌, ◌≤◌, cond, ltb, List, [], ◌∷◌, ◌++◌, length, refl, sym, ap, ◌∙◌, arith, inl, inr}
+use Rattle.std.proofs.Common.{◌≡◌, ℕ, zero, suc, ◌+◌, ◌-◌, ◌*◌, ◌^◌, ◌<◌, ◌≤◌, cond, ltb, List, [], ◌∷◌, ◌++◌, length, slice_get, Some, None, refl, sym, ap, ◌∙◌, arith, inl, inr}
 use Rattle.std.specs.Prelude.{◌⊎◌}
 use Rattle.std.proofs.lemmas.Bool.{ltb-true, ltb-false, cases_Bool}
+use Rattle.std.proofs.lemmas.Option.{slice_get_past}
 use Rattle.dp_region.specs.Region.{number_at, with_number}
 use Rattle.dp_region.proofs.Numbers.{number_at-same, number_at-other}
 use Rattle.dp_ring.specs.Rings.{next_place, entries_from, place_behind}
@@ -121,7 +122,26 @@ entries_pushed bytes count first used v small few room fits =
     ∙ ap (λ x. entries_from (with_number bytes (4 * p) 4 v) count first used ++ x ∷ []) (number_at-same bytes (4 * p) v (omega (arith, place, room)) fits)
     ∙ ap (λ xs. xs ++ v ∷ []) (entries_from-kept bytes count p v first used small place (omega (arith, few)) room (λ i less is. place_behind-other count first i used small less (omega (arith, few)) is))
 
+-- ---- the entries one by one
+
+slice_get_entries : (bytes : List ℕ) (count first n k : ℕ) → first < count → n < count → k < n → slice_get (entries_from bytes count first n) k ≡ Some (number_at bytes (4 * place_behind count first k) 4)
+slice_get_entries bytes count first zero k small few less = absurd (omega (arith, less))
+slice_get_entries bytes count first (suc n) zero small few less =
+    ap (λ p. Some (number_at bytes (4 * p) 4)) (elim (place_cases count first 0) [
+      | inl c ↦ omega (arith, c.1)
+      | inr c ↦ absurd (omega (arith, c.0, small))
+    ])
+slice_get_entries bytes count first (suc n) (suc k) small few less =
+    slice_get_entries bytes count (next_place count first) n k (next_place-small count first small) (omega (arith, few)) (omega (arith, less))
+    ∙ ap (λ p. Some (number_at bytes (4 * p) 4)) (place_behind-next count first k small (omega (arith, few, less)))
+
 -- ---- what the calls cite
 
 pub counted : (bytes : List ℕ) (count first used : ℕ) → used ≡ length (entries_from bytes count first used)
 counted bytes count first used = sym (length_entries bytes count first used)
+
+pub entry_at : (bytes : List ℕ) (count first n k : ℕ) → first < count → n < count → k < n → Some (number_at bytes (4 * place_behind count first k) 4) ≡ slice_get (entries_from bytes count first n) k
+entry_at bytes count first n k small few less = sym (slice_get_entries bytes count first n k small few less)
+
+pub no_entry_at : (bytes : List ℕ) (count first n k : ℕ) → n ≤ k → None ≡ slice_get (entries_from bytes count first n) k
+no_entry_at bytes count first n k past = sym (slice_get_past (entries_from bytes count first n) k (let long = length_entries bytes count first n in omega (arith, long, past)))

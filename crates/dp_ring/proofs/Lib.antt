@@ -1,2 +1,3 @@
 pub mod Entries
 pub mod Taking
+pub mod Searching

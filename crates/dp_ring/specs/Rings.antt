@@ -1,6 +1,5 @@
 -- Rings of numbers in a zone.
-use Rattle.std.specs.Prelude.{refl, ℕ, zero, suc, ◌+◌, ◌-◌, ◌*◌, ◌≤◌, IsTrue, nat_lt, if◌then◌else◌, List, [], ◌∷◌, ◌++◌, length, drop}
-use Rattle.std.specs.Int.{is_power_of_two}
+use Rattle.std.specs.Prelude.{refl, ℕ, zero, suc, ◌+◌, ◌-◌, ◌*◌, ◌≤◌, nat_lt, if◌then◌else◌, List, [], ◌∷◌, ◌++◌, length, drop}
 use Rattle.std.specs.Coded.{Coded, code_by, coded×, coded_list, coded_ℕ}
 use Rattle.dp_region.specs.Ownership.{Home, home_code}
 use Rattle.dp_region.specs.Region.{number_at}
@@ -23,9 +22,9 @@ ring_code =
     (λ r. (r.count, (r.entries, (r.name, (r.home, (r.place, r.len))))))
     (λ p. record { count = p.0; entries = p.1.0; name = p.1.1.0; home = p.1.1.1.0; place = p.1.1.1.1.0; len = p.1.1.1.1.1 }) (λ _. refl)
 
--- how many places a ring may have
+-- how many places a ring may have. Nothing here rests on its being a power of two, as DPDK's rings want it
 abbrev pub IsCount : ℕ → Type 0
-IsCount n = (2 ≤ n) × (n ≤ 65536) × IsTrue (is_power_of_two n)
+IsCount n = (2 ≤ n) × (n ≤ 65536)
 
 -- a ring without entries in a zone
 abbrev pub empty_over : ZoneView → ℕ → RingView

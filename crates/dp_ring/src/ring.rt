@@ -1,6 +1,7 @@
 //! A ring of numbers.
 
-ghost use Rattle.std.specs.Prelude.{◌≡◌, ℕ, ◌+◌, ◌-◌, ◌*◌, ◌<◌, ◌≤◌, ◌++◌, [], ◌∷◌, length, take, drop, min, nat_lt, nat_le, if◌then◌else◌, slice_get, Some, None, MatchOption};
+ghost use Rattle.std.specs.Prelude.{◌≡◌, ℕ, ◌+◌, ◌-◌, ◌*◌, ◌<◌, ◌≤◌, ◌++◌, [], ◌∷◌, length, take, drop, min, nat_lt, nat_le, if◌then◌else◌, slice_get, Some, None, MatchOption, ◌==◌};
+ghost use Rattle.std.specs.List.{list_any};
 ghost use Rattle.dp_ring.specs.Rings.{IsCount, empty_over, room_in, with_more, without_first, place_behind, next_place};
 
 use dp_zone::Zone;
@@ -19,6 +20,7 @@ pub struct Ring {
 
 impl Model for Ring {
     ghost use Rattle.std.specs.Prelude.{◌*◌, ◌<◌, ◌≤◌, length};
+    ghost use Rattle.std.specs.List.{list_any};
     ghost use Rattle.dp_ring.specs.Rings.{RingView, ring_code, entries_from};
 
     ghost Value = { RingView };
@@ -83,6 +85,33 @@ impl Ring {
         ensures { result ≡ room_in self.now }
     {
         self.count - 1 - self.used
+    }
+
+    /// The k-th entry from the first, if there are so many.
+    #[tactic(auto, using(crate::proofs::Entries::counted, crate::proofs::Entries::entry_at, crate::proofs::Entries::no_entry_at))]
+    pub fn peek(&self, k: u32) -> Option<u32>
+        ensures { result ≡ slice_get self.now.entries k }
+    {
+        if k >= self.used {
+            return None;
+        }
+        let place = place_behind(self.count, self.first, k);
+        Some(self.zone.load_u32(4 * place))
+    }
+
+    /// Whether a number is one of the entries. All of them are looked at.
+    pub fn contains(&self, value: u32) -> bool
+        ensures { result ≡ list_any (λ x. x == value) self.now.entries }
+    {
+        for k in 0..self.count() {
+            let Some(entry) = self.peek(k) else {
+                unreachable!();
+            };
+            if entry == value {
+                return true;
+            }
+        }
+        false
     }
 
     // Puts an entry behind the others.

@@ -1,6 +1,6 @@
 //! A zone.
 
-ghost use Rattle.std.specs.Prelude.{◌≡◌, ℕ, ◌+◌, ◌<◌, ◌≤◌, length};
+ghost use Rattle.std.specs.Prelude.{◌≡◌, ℕ, ◌+◌, ◌<◌, ◌≤◌, length, replicate};
 ghost use Rattle.std.specs.Borrow.{Lends, Array, sem, u8 as byte};
 ghost use Rattle.dp_region.specs.Spans.{bytes_in, with_bytes};
 ghost use Rattle.dp_region.specs.Region.{number_at, with_number};
@@ -118,5 +118,23 @@ impl Zone {
         ensures { self.new ≡ record self.old { bytes = with_bytes self.old.bytes to (bytes_in self.old.bytes from len) } }
     {
         self.block.copy_within(from, len, to);
+    }
+
+    /// Writes bytes from `at` on.
+    pub fn write(&mut self, at: u32, bytes: &[u8])
+        requires { at + length bytes.now ≤ length self.old.bytes }
+        ensures { self.new ≡ record self.old { bytes = with_bytes self.old.bytes at bytes.now } }
+    {
+        let at = at as usize;
+        self.block.bytes_mut()[at..at + bytes.len()].copy_from_slice(bytes);
+    }
+
+    /// Writes `len` zeros from `at` on.
+    pub fn clear(&mut self, at: u32, len: u32)
+        requires { at + len ≤ length self.old.bytes }
+        ensures { self.new ≡ record self.old { bytes = with_bytes self.old.bytes at (replicate len 0) } }
+    {
+        let (at, len) = (at as usize, len as usize);
+        self.block.bytes_mut()[at..at + len].fill(0);
     }
 }

@@ -1,0 +1,10 @@
+pub mod Bulk
+pub mod Effects
+pub mod Moving
+pub mod Names
+pub mod Objects
+pub mod Once
+pub mod Pools
+pub mod Steps
+pub mod Upto
+pub mod Views

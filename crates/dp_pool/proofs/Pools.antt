@@ -1,0 +1,78 @@
+-- What is true of every pool.
+use Rattle.std.proofs.Common.{◌≡◌, ℕ, ◌+◌, ◌*◌, ◌<◌, ◌≤◌, Bool, List, length, sym, ap, ◌∙◌, arith}
+use Rattle.std.specs.Prelude.{slice_set}
+use Rattle.dp_region.specs.Spans.{bytes_in, with_bytes}
+use Rattle.dp_region.proofs.Bytes.{length-bytes_in}
+use Rattle.dp_zone.specs.Zones.{ZoneView}
+use Rattle.dp_pool.specs.Queues.{IndexView}
+use Rattle.dp_pool.specs.Pools.{PoolView, PoolZones, IsPool, object_in, overwritten, with_written, stride_of, objects_from, object_place}
+use Rattle.dp_pool.proofs.Objects.{length-objects, object_is, objects_written, object_place_is, place_within, stride_covers}
+
+pub counted : (bytes : List ℕ) (size n : ℕ) → n ≡ length (objects_from bytes size 0 n)
+counted bytes size n = sym (length-objects bytes size 0 n)
+
+-- an object lies within the bytes
+pub object_fits : (bytes : List ℕ) (size n i : ℕ) → i < n → n * stride_of size ≤ length bytes → object_place size 0 i + size ≤ length bytes
+object_fits bytes size n i less room =
+    let high = place_within size 0 n i less in
+    let end = object_place_is size 0 n in
+    let covers = stride_covers size in
+    omega (arith, high, end, covers, room)
+
+pub is_pool : (size cache cached n : ℕ) (bytes : List ℕ) (out : List Bool) (zones : PoolZones) → length out ≡ n → 1 ≤ n → n ≤ 65535 → n * stride_of size ≤ length bytes
+    → IsPool (record { size = size; cache = cache; cached = cached; objects = objects_from bytes size 0 n; out = out; zones = zones })
+is_pool size cache cached n bytes out zones long some few room =
+    let objects = length-objects bytes size 0 n in
+    record {
+      some = omega (arith, objects, some);
+      count = omega (arith, objects, few);
+      out = long ∙ sym objects;
+      sizes = λ i less. let low : i < n = omega (arith, less, objects) in ap length (object_is bytes size 0 n i low) ∙ length-bytes_in bytes (object_place size 0 i) size (object_fits bytes size n i low room);
+    }
+
+-- the product of a place's number and the part of each object is its place
+pub place_is : (size i : ℕ) → i * stride_of size ≡ object_place size 0 i
+place_is size i = sym (object_place_is size 0 i ∙ omega arith)
+
+pub place_ends : (size n i : ℕ) → i < n → object_place size 0 i + stride_of size ≤ n * stride_of size
+place_ends size n i less = let high = place_within size 0 n i less in let end = object_place_is size 0 n in omega (arith, high, end)
+
+-- ---- a pool from its parts
+
+abbrev pub pool_of : ZoneView → IndexView → ℕ → ℕ → PoolView
+pool_of objects indexes count size = record {
+  size = size;
+  cache = indexes.cache;
+  cached = indexes.cached;
+  objects = objects_from objects.bytes size 0 count;
+  out = indexes.out;
+  zones = record { home = objects.home; object_name = objects.name; object_place = objects.place; queue_name = indexes.name; queue_place = indexes.place };
+}
+
+abbrev pub with_objects : PoolView → List (List ℕ) → PoolView
+with_objects p objects = record p { objects = objects }
+
+module _ (zone : ZoneView) (indexes : IndexView) (count size index : ℕ) (now : PoolView) (is : pool_of zone indexes count size ≡ now) (there : index < length now.objects) where
+  -- the index is below the number of objects
+  pub index_below : index < count
+  index_below = let same = ap (λ v. length v.objects) is in let long = length-objects zone.bytes size 0 count in omega (arith, there, same, long)
+
+  -- the bytes of an object are those from its place on
+  pub object_bytes : bytes_in zone.bytes (object_place size 0 index) size ≡ object_in now index
+  object_bytes = sym (object_is zone.bytes size 0 count index index_below) ∙ ap (λ v. object_in v index) is
+
+  -- bytes that are written into the zone at an object's place are written into the object
+  pub pool_written : (at : ℕ) (ws : List ℕ) (place : ℕ) (new : ZoneView) → place ≡ object_place size 0 index → at + length ws ≤ now.size → count * stride_of size ≤ length zone.bytes
+      → new ≡ record zone { bytes = with_bytes zone.bytes (place + at) ws } → pool_of new indexes count size ≡ with_written now index at ws
+  pool_written at ws place new is_place within room is_new =
+      let sizes = ap (λ v. v.size) is in
+      let fits : at + length ws ≤ size = omega (arith, within, sizes) in
+      let end = object_place_is size 0 count in
+      let bytes = zone.bytes in
+      let objects : objects_from (with_bytes bytes (place + at) ws) size 0 count ≡ slice_set (objects_from bytes size 0 count) index (overwritten (object_in (pool_of zone indexes count size) index) at ws) =
+      ap (λ p. objects_from (with_bytes bytes (p + at) ws) size 0 count) is_place
+      ∙ (objects_written bytes size 0 count index at ws index_below fits (omega (arith, end, room))
+      ∙ ap (λ b. slice_set (objects_from bytes size 0 count) index (overwritten b at ws)) (sym (object_is bytes size 0 count index index_below))) in
+      ap (λ z. pool_of z indexes count size) is_new
+      ∙ (ap (with_objects (pool_of zone indexes count size)) objects
+      ∙ ap (λ v. with_written v index at ws) is)

@@ -1,0 +1,48 @@
+-- Either both zones stand last in the table, or none does.
+use Rattle.std.proofs.Common.{◌*◌, refl, ap, ap₂, sym, subst, ◌∙◌}
+use Rattle.dp_zone.specs.Zones.{without_name}
+use Rattle.dp_pool.specs.Making.{Reserves, object_name, queue_name, object_len}
+use Rattle.dp_pool.proofs.Names.{without_last, given_back, as_before}
+use Rattle.dp_pool.proofs.pool.Pool.make.Goals as goal
+
+pub returns-in-Err-reserve-clause-kept : goal.returns-in-Err-reserve-clause-kept
+returns-in-Err-reserve-clause-kept c =
+    let objects = c.in-Ok.ensures in
+    let refused = c.in-Err-reserve.ensures in
+    let name = objects.zone.0 in (
+      c.give_back.ensures.table
+          ∙ (ap₂ (λ n t. without_name n t) name (refused.kept.0 ∙ objects.reserves.table)
+          ∙ without_last (object_name c.args.name.now) c.args.zones.now _ objects.reserves.reservable.fresh refl),
+      c.give_back.ensures.heap
+          ∙ (ap (given_back c.in-Ok.objects.place) refused.kept.1
+          ∙ as_before c.in-Ok.objects.place c.args.heap.now c.reserve.new.heap objects.home objects.undone),
+    )
+
+pub returns-clause-made : goal.returns-clause-made
+returns-clause-made c =
+    let objects = c.in-Ok.ensures in
+    let queue = c.in-Ok-reserve.ensures in
+    let numbers = c.in_default.ensures.none in
+    let made = c.over.ensures in
+    record {
+      count = numbers.0;
+      size_fits = numbers.1;
+      cache_fits = numbers.2;
+      size_is = made.numbers.0;
+      cache_is = made.numbers.1;
+      cached = made.numbers.2;
+      objects = made.numbers.3;
+      all_in = made.numbers.4;
+      home_is = ap (λ z. z.home) made.zones ∙ objects.zone.1;
+      names = (ap (λ z. z.object_name) made.zones ∙ objects.zone.0, ap (λ z. z.queue_name) made.zones ∙ queue.zone.0);
+      len = 4 * c.queue_count-places.result;
+      len_is = (c.queue_count-places.result, c.queue_count-places.ensures.next, refl);
+      mid = c.reserve.new.zones;
+      left = c.reserve.new.heap.elements;
+      objects_reserved =
+          subst (λ p. Reserves (object_name c.args.name.now) (object_len c.args.count c.args.size) c.args.zones.now c.args.heap.now.elements p c.reserve.new.zones c.reserve.new.heap.elements) (sym (ap (λ z. z.object_place) made.zones))
+          (subst (λ n. Reserves (object_name c.args.name.now) (c.args.count * n) c.args.zones.now c.args.heap.now.elements c.in-Ok.objects.place c.reserve.new.zones c.reserve.new.heap.elements) c.stride_of.ensures objects.reserves);
+      queue_reserved =
+          subst (λ p. Reserves (queue_name c.args.name.now) (4 * c.queue_count-places.result) c.reserve.new.zones c.reserve.new.heap.elements p c.reserve-2.new.zones c.reserve-2.new.heap.elements) (sym (ap (λ z. z.queue_place) made.zones))
+          queue.reserves;
+    }

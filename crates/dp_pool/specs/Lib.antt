@@ -1,0 +1,4 @@
+pub mod Making
+pub mod Once
+pub mod Pools
+pub mod Queues

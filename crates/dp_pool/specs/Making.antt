@@ -1,0 +1,72 @@
+-- Pools that are made: which there are, and why there is none.
+use Rattle.std.specs.Prelude.{◌≡◌, ℕ, ◌+◌, ◌*◌, ◌≤◌, ◌⊎◌, codes, false, List, [], ◌∷◌, ◌++◌, length, replicate}
+use Rattle.std.specs.Int.{IsNextPowerOfTwo}
+use Rattle.dp_heap.specs.declared.elements.Element.{Element}
+use Rattle.dp_heap.specs.Elements.{rounded, alignment, Taken}
+use Rattle.dp_zone.specs.Zones.{Reserved, IsZoneRefused, IsReservable}
+use Rattle.dp_region.specs.Ownership.{Home}
+use Rattle.dp_pool.specs.declared.error.PoolError.{PoolError}
+use Rattle.dp_pool.specs.declared.error.PoolError.TheVariants.{BadCount, BadSize, BadCache, Zone}
+use Rattle.dp_pool.specs.Pools.{PoolView, stride_of}
+
+-- how many objects a pool may have, of which size, and with which cache
+abbrev pub IsPoolCount : ℕ → Type 0
+IsPoolCount n = (1 ≤ n) × (n ≤ 65535)
+
+abbrev pub IsObjectSize : ℕ → Type 0
+IsObjectSize size = (1 ≤ size) × (size ≤ 4224)
+
+abbrev pub IsCacheSize : ℕ → ℕ → Type 0
+IsCacheSize n cache = (cache ≤ 512) × (3 * cache ≤ 2 * n)
+
+-- the names of a pool's zones
+abbrev pub object_name : List ℕ → List ℕ
+object_name name = name ++ codes ".obj"
+
+abbrev pub queue_name : List ℕ → List ℕ
+queue_name name = name ++ codes ".ring"
+
+-- how long they are: a part of its own for each object, and 4 bytes for each place of the queue, which has as many
+-- places as the smallest power of two above n
+abbrev pub object_len : ℕ → ℕ → ℕ
+object_len n size = n * stride_of size
+
+abbrev pub IsQueueLen : ℕ → ℕ → Type 0
+IsQueueLen n len = (count : ℕ) × IsNextPowerOfTwo (n + 1) count × (len ≡ 4 * count)
+
+-- a zone of that name and length is taken from the heap and stands last in the table
+pub record Reserves (name : List ℕ) (len : ℕ) (old : List Reserved) (before : List Element) (place : ℕ) (new : List Reserved) (after : List Element) : Type 0 where
+  pub reservable : IsReservable name len 0 old
+  pub taken : Taken before (rounded len) (alignment 0) place after
+  pub table : new ≡ old ++ record { name = name; place = place; len = rounded len } ∷ []
+
+-- no pool is made, for this reason and no earlier one
+abbrev pub IsPoolRefused : PoolError → List ℕ → ℕ → ℕ → ℕ → List Reserved → List Element → Type 0
+IsPoolRefused BadCount name n size cache table es = ¬ IsPoolCount n
+IsPoolRefused BadSize name n size cache table es = IsPoolCount n × ¬ IsObjectSize size
+IsPoolRefused BadCache name n size cache table es = IsPoolCount n × IsObjectSize size × ¬ IsCacheSize n cache
+-- by the zone of the objects, or with that by the zone of the queue
+IsPoolRefused (Zone error) name n size cache table es =
+    IsPoolCount n × IsObjectSize size × IsCacheSize n cache
+    × (IsZoneRefused error (object_name name) (object_len n size) 0 table es
+    ⊎ ((len place : ℕ) × (mid : List Reserved) × (left : List Element) × IsQueueLen n len
+    × Reserves (object_name name) (object_len n size) table es place mid left × IsZoneRefused error (queue_name name) len 0 mid left))
+
+-- a pool of n objects is made, all of them in: its zones are taken, the objects' first
+pub record IsMade (name : List ℕ) (n size cache : ℕ) (home : Home) (old : List Reserved) (before : List Element) (p : PoolView) (new : List Reserved) (after : List Element) : Type 0 where
+  pub count : IsPoolCount n
+  pub size_fits : IsObjectSize size
+  pub cache_fits : IsCacheSize n cache
+  pub size_is : p.size ≡ size
+  pub cache_is : p.cache ≡ cache
+  pub cached : p.cached ≡ 0
+  pub objects : length p.objects ≡ n
+  pub all_in : p.out ≡ replicate n false
+  pub home_is : p.zones.home ≡ home
+  pub names : (p.zones.object_name ≡ object_name name) × (p.zones.queue_name ≡ queue_name name)
+  pub len : ℕ
+  pub len_is : IsQueueLen n len
+  pub mid : List Reserved
+  pub left : List Element
+  pub objects_reserved : Reserves (object_name name) (object_len n size) old before p.zones.object_place mid left
+  pub queue_reserved : Reserves (queue_name name) len mid left p.zones.queue_place new after

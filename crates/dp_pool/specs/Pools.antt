@@ -1,0 +1,93 @@
+-- Pools of objects.
+use Rattle.std.specs.Prelude.{◌≡◌, refl, ℕ, zero, suc, ◌+◌, ◌*◌, ◌/◌, ◌<◌, ◌≤◌, Bool, false, List, [], ◌∷◌, ◌++◌, take, drop, length, slice_get, slice_index_or, slice_set, Some, unwrap_or}
+use Rattle.std.specs.Coded.{Coded, code_by, coded×, coded_list, coded_ℕ, coded_bool}
+use Rattle.dp_region.specs.Ownership.{Home, home_code}
+use Rattle.dp_region.specs.Spans.{bytes_in}
+use Rattle.dp_pool.specs.Queues.{in_count, taken, back, cached_after_get, cached_after_put}
+
+-- the zones in which a pool stands: the region, and the name and the place of the objects' zone and of the queue's
+pub record PoolZones : Type 0 where
+  pub home : Home
+  pub object_name : List ℕ
+  pub object_place : ℕ
+  pub queue_name : List ℕ
+  pub queue_place : ℕ
+
+abbrev pub zones_code : Coded PoolZones
+zones_code =
+    code_by (Home × (List ℕ × (ℕ × (List ℕ × ℕ)))) (coded× home_code (coded× (coded_list coded_ℕ) (coded× coded_ℕ (coded× (coded_list coded_ℕ) coded_ℕ))))
+    (λ z. (z.home, (z.object_name, (z.object_place, (z.queue_name, z.queue_place)))))
+    (λ p. record { home = p.0; object_name = p.1.0; object_place = p.1.1.0; queue_name = p.1.1.1.0; queue_place = p.1.1.1.1 }) (λ _. refl)
+
+-- what a pool is: the size of an object, how many indexes its cache is for and how many it holds, the bytes of each
+-- object, whether each is out, and the zones in which it stands
+pub record PoolView : Type 0 where
+  pub size : ℕ
+  pub cache : ℕ
+  pub cached : ℕ
+  pub objects : List (List ℕ)
+  pub out : List Bool
+  pub zones : PoolZones
+
+-- it is stored as the tuple of its fields
+abbrev pub pool_code : Coded PoolView
+pool_code =
+    code_by (ℕ × (ℕ × (ℕ × (List (List ℕ) × (List Bool × PoolZones))))) (coded× coded_ℕ (coded× coded_ℕ (coded× coded_ℕ (coded× (coded_list (coded_list coded_ℕ)) (coded× (coded_list coded_bool) zones_code)))))
+    (λ p. (p.size, (p.cache, (p.cached, (p.objects, (p.out, p.zones))))))
+    (λ t. record { size = t.0; cache = t.1.0; cached = t.1.1.0; objects = t.1.1.1.0; out = t.1.1.1.1.0; zones = t.1.1.1.1.1 }) (λ _. refl)
+
+-- the bytes of an object, and none where there is no such object
+abbrev pub object_in : PoolView → ℕ → List ℕ
+object_in p i = slice_index_or p.objects i []
+
+-- bytes with others written over them from a place on
+abbrev pub overwritten : List ℕ → ℕ → List ℕ → List ℕ
+overwritten old at new = take at old ++ (new ++ drop (at + length new) old)
+
+-- the pool with other bytes in one object
+abbrev pub with_object : PoolView → ℕ → List ℕ → PoolView
+with_object p i bytes = record p { objects = slice_set p.objects i bytes }
+
+-- the pool with these bytes written into an object from a place on
+abbrev pub with_written : PoolView → ℕ → ℕ → List ℕ → PoolView
+with_written p i at bytes = with_object p i (overwritten (object_in p i) at bytes)
+
+-- whether an index is out
+abbrev pub is_out_in : List Bool → ℕ → Bool
+is_out_in out i = unwrap_or (slice_get out i) false
+
+-- the pool once an index that was in is handed out
+abbrev pub got : PoolView → ℕ → PoolView
+got p i = record p { out = taken i p.out; cached = cached_after_get p.cache p.cached (in_count p.out) }
+
+-- and once an index that was out comes back
+abbrev pub put_back : PoolView → ℕ → PoolView
+put_back p i = record p { out = back i p.out; cached = cached_after_put p.cache p.cached }
+
+-- indexes that were in are handed out, one after another
+abbrev pub AreGot : PoolView → List ℕ → PoolView → Type 0
+AreGot old [] new = new ≡ old
+AreGot old (i ∷ is) new = (slice_get old.out i ≡ Some false) × AreGot (got old i) is new
+
+-- true of every pool
+pub record IsPool (p : PoolView) : Type 0 where
+  pub some : 1 ≤ length p.objects
+  pub count : length p.objects ≤ 65535
+  pub out : length p.out ≡ length p.objects
+  pub sizes : (i : ℕ) → i < length p.objects → length (object_in p i) ≡ p.size
+
+-- ---- how the objects stand in their zone
+
+-- what an object of a size takes
+abbrev pub stride_of : ℕ → ℕ
+stride_of size = (size + 63) / 64 * 64
+
+-- the n objects of a size from a place on
+abbrev pub objects_from : List ℕ → ℕ → ℕ → ℕ → List (List ℕ)
+objects_from bytes size place zero = []
+objects_from bytes size place (suc n) = bytes_in bytes place size ∷ objects_from bytes size (place + stride_of size) n
+
+-- where the i-th of them begins
+abbrev pub object_place : ℕ → ℕ → ℕ → ℕ
+object_place size place zero = place
+object_place size place (suc i) = object_place size (place + stride_of size) i

@@ -1,0 +1,43 @@
+-- The indexes of a pool: which are in, and how many of them stand in the cache.
+use Rattle.std.specs.Prelude.{refl, ℕ, ◌+◌, ◌-◌, ◌*◌, ◌/◌, Bool, true, false, not, ◌==◌, nat_le, if◌then◌else◌, min, List, slice_set, count_by}
+use Rattle.std.specs.Coded.{Coded, code_by, coded×, coded_list, coded_ℕ, coded_bool}
+use Rattle.dp_region.specs.Ownership.{Home, home_code}
+
+-- how many indexes there are, how many the cache is for and how many it holds, which are out, and the zone of the queue
+pub record IndexView : Type 0 where
+  pub cache : ℕ
+  pub cached : ℕ
+  pub out : List Bool
+  pub name : List ℕ
+  pub home : Home
+  pub place : ℕ
+  pub len : ℕ
+
+-- it is stored as the tuple of its fields
+abbrev pub index_code : Coded IndexView
+index_code =
+    code_by (ℕ × (ℕ × (List Bool × (List ℕ × (Home × (ℕ × ℕ)))))) (coded× coded_ℕ (coded× coded_ℕ (coded× (coded_list coded_bool) (coded× (coded_list coded_ℕ) (coded× home_code (coded× coded_ℕ coded_ℕ))))))
+    (λ v. (v.cache, (v.cached, (v.out, (v.name, (v.home, (v.place, v.len)))))))
+    (λ p. record { cache = p.0; cached = p.1.0; out = p.1.1.0; name = p.1.1.1.0; home = p.1.1.1.1.0; place = p.1.1.1.1.1.0; len = p.1.1.1.1.1.1 }) (λ _. refl)
+
+-- how many indexes are in
+abbrev pub in_count : List Bool → ℕ
+in_count out = count_by not out
+
+-- an index that was in is out
+abbrev pub taken : ℕ → List Bool → List Bool
+taken i out = slice_set out i true
+
+-- an index that was out is in
+abbrev pub back : ℕ → List Bool → List Bool
+back i out = slice_set out i false
+
+-- how many are cached after a get: an empty cache is filled from the queue first
+abbrev pub cached_after_get : ℕ → ℕ → ℕ → ℕ
+cached_after_get cache cached available =
+    if cache == 0 then 0 else (if cached == 0 then min cache available else cached) - 1
+
+-- how many are cached after a put: a cache that is half as full again as it should be goes back to that
+abbrev pub cached_after_put : ℕ → ℕ → ℕ
+cached_after_put cache cached =
+    if cache == 0 then 0 else (if nat_le (3 * cache / 2) (cached + 1) then cache else cached + 1)

@@ -1,0 +1,217 @@
+//! The indexes of a pool's objects: a queue of those that are in, and a cache in front of it.
+
+ghost use Rattle.std.specs.Prelude.{◌≡◌, ℕ, ◌+◌, ◌-◌, ◌*◌, ◌/◌, ◌<◌, ◌≤◌, ◌++◌, ◌∷◌, [], length, take, drop, min, not, true, false, IsNone, IfSome, MatchOption, Some, slice_get, slice_set, count_by, replicate, ◌==◌};
+ghost use Rattle.std.specs.List.{list_any};
+ghost use Rattle.dp_pool.specs.Once.{upto};
+ghost use Rattle.dp_pool.specs.Pools.{is_out_in};
+ghost use Rattle.dp_ring.specs.Rings.{room_in, with_more, without_first};
+ghost use Rattle.dp_pool.specs.Queues.{in_count, taken, back, cached_after_get, cached_after_put};
+
+use arrayvec::ArrayVec;
+use dp_ring::Ring;
+use std::marker::Model;
+
+/// The indexes below a number, of which each is in or out. Those that are in stand in the queue or in the cache.
+pub(crate) struct Indexes {
+    queue: Ring,
+    cached: ArrayVec<u32, 768>,
+    // How many the cache is for.
+    cache: u32,
+    // How many indexes there are.
+    count: u32,
+}
+
+impl Model for Indexes {
+    ghost use Rattle.std.specs.Prelude.{◌≡◌, ◌<◌, ◌≤◌, ◌++◌, length};
+    ghost use Rattle.dp_pool.specs.Queues.{IndexView, index_code};
+    ghost use Rattle.dp_pool.specs.Once.{absent, AreOnce};
+
+    ghost Value = { IndexView };
+
+    ghost coded = { index_code };
+
+    ghost view = { λ v. record { cache = v.cache; cached = length v.cached.items; out = absent v.count (v.cached.items ++ v.queue.entries); name = v.queue.name; home = v.queue.home; place = v.queue.place; len = v.queue.len } };
+
+    ghost invariant = { λ v. AreOnce v.count (v.cached.items ++ v.queue.entries) × (v.count < v.queue.count) × (v.cache ≤ 512) × (length v.cached.items ≤ 767) × (v.cache ≡ 0 → length v.cached.items ≡ 0) × (v.count ≤ 65535) };
+}
+
+// Moves the first indexes of the queue to the end of the cache.
+fn move_in(queue: &mut Ring, cached: &mut ArrayVec<u32, 768>, number: u32)
+    requires there { number ≤ length queue.old.entries }
+    requires room { length cached.old.items + number ≤ 768 }
+    ensures cached { cached.new.items ≡ cached.old.items ++ take number queue.old.entries }
+    ensures queue { queue.new ≡ without_first queue.old number }
+{
+    for _ in 0..number {
+        if let Some(index) = queue.dequeue() {
+            cached.push(index);
+        }
+    }
+}
+
+// Moves all that the cache holds beyond a number to the end of the queue.
+fn move_out(queue: &mut Ring, cached: &mut ArrayVec<u32, 768>, keep: usize)
+    requires some { keep ≤ length cached.old.items }
+    requires room { length cached.old.items ≤ keep + room_in queue.old }
+    ensures cached { cached.new.items ≡ take keep cached.old.items }
+    ensures queue { queue.new ≡ with_more queue.old (drop keep cached.old.items) }
+{
+    queue.enqueue_burst(&cached.as_slice()[keep..]);
+    cached.truncate(keep);
+}
+
+// Puts all indexes below a number into an empty queue, in order.
+fn fill(queue: &mut Ring, count: u32)
+    requires empty { queue.old.entries ≡ [] }
+    requires room { count < queue.old.count }
+    ensures { queue.new ≡ record queue.old { entries = upto count } }
+{
+    for index in 0..count {
+        queue.enqueue(index);
+    }
+}
+
+// Whether an index is one of them.
+fn is_one_of(indexes: &[u32], index: u32) -> bool
+    ensures { result ≡ list_any (λ x. x == index) indexes.now }
+{
+    indexes.iter().any(|x| *x == index)
+}
+
+impl Indexes {
+    /// All the indexes below a number, in an empty queue that has room for one more.
+    pub(crate) fn over(queue: Ring, count: u32, cache: u32) -> Indexes
+        requires empty { queue.entries ≡ [] }
+        requires room { count < queue.count }
+        requires limits { (count ≤ 65535) × (cache ≤ 512) }
+        ensures { result ≡ record { cache = cache; cached = 0; out = replicate count false; name = queue.name; home = queue.home; place = queue.place; len = queue.len } }
+    {
+        let mut queue = queue;
+        fill(&mut queue, count);
+        Indexes {
+            queue,
+            cached: ArrayVec::new(),
+            cache,
+            count,
+        }
+    }
+
+    /// The queue, with any entries.
+    pub(crate) fn into_queue(self) -> Ring
+        ensures { (result.name ≡ self.name) × (result.home ≡ self.home) × (result.place ≡ self.place) × (result.len ≡ self.len) }
+    {
+        let Indexes {
+            queue,
+            cached: _,
+            cache: _,
+            count: _,
+        } = self;
+        queue
+    }
+
+    /// Whether an index is out; false where there is no such index.
+    pub(crate) fn is_out(&self, index: u32) -> bool
+        ensures { result ≡ is_out_in self.now.out index }
+    {
+        if index >= self.count {
+            return false;
+        }
+        !is_one_of(self.cached.as_slice(), index) && !self.queue.contains(index)
+    }
+
+    /// How many are in.
+    pub(crate) fn available(&self) -> u32
+        ensures { result ≡ in_count self.now.out }
+    {
+        self.cached.len() as u32 + self.queue.count()
+    }
+
+    /// How many stand in the cache.
+    pub(crate) fn cached(&self) -> u32
+        ensures { result ≡ self.now.cached }
+    {
+        self.cached.len() as u32
+    }
+
+    // Hands out the first index of the queue.
+    fn next_queued(&mut self) -> u32
+        requires cache { self.old.cache ≡ 0 }
+        requires some { 0 < in_count self.old.out }
+        ensures was_in { slice_get self.old.out result ≡ Some false }
+        ensures out { self.new ≡ record self.old { out = taken result self.old.out } }
+    {
+        let Some(index) = self.queue.dequeue() else {
+            unreachable!();
+        };
+        index
+    }
+
+    // Hands out the last index of the cache.
+    fn next_cached(&mut self) -> u32
+        requires { 0 < self.old.cached }
+        ensures was_in { slice_get self.old.out result ≡ Some false }
+        ensures out { self.new ≡ record self.old { out = taken result self.old.out; cached = self.old.cached - 1 } }
+    {
+        let Some(index) = self.cached.pop() else {
+            unreachable!();
+        };
+        index
+    }
+
+    // Fills an empty cache from the queue.
+    fn refill(&mut self)
+        requires { self.old.cached ≡ 0 }
+        ensures { self.new ≡ record self.old { cached = min self.old.cache (in_count self.old.out) } }
+    {
+        let number = self.cache.min(self.queue.count());
+        move_in(&mut self.queue, &mut self.cached, number);
+    }
+
+    /// Hands out an index that is in; `None` where none is.
+    pub(crate) fn get(&mut self) -> Option<u32>
+        ensures { MatchOption result ((in_count self.old.out ≡ 0) × (self.new ≡ self.old)) (λ i. (slice_get self.old.out i ≡ Some false) × (self.new ≡ record self.old { out = taken i self.old.out; cached = cached_after_get self.old.cache self.old.cached (in_count self.old.out) })) }
+    {
+        if self.available() == 0 {
+            return None;
+        }
+        if self.cache == 0 {
+            return Some(self.next_queued());
+        }
+        if self.cached.is_empty() {
+            self.refill();
+        }
+        Some(self.next_cached())
+    }
+
+    // Takes an index back at the end of the queue.
+    fn put_queued(&mut self, index: u32)
+        requires { slice_get self.old.out index ≡ Some true }
+        ensures { self.new ≡ record self.old { out = back index self.old.out } }
+    {
+        self.queue.enqueue(index);
+    }
+
+    // Takes an index back at the end of the cache, which keeps as many as it is for where it is half as full again.
+    fn put_cached(&mut self, index: u32)
+        requires out { slice_get self.old.out index ≡ Some true }
+        requires cache { 0 < self.old.cache }
+        ensures { self.new ≡ record self.old { out = back index self.old.out; cached = cached_after_put self.old.cache self.old.cached } }
+    {
+        self.cached.push(index);
+        if self.cached.len() as u32 >= 3 * self.cache / 2 {
+            move_out(&mut self.queue, &mut self.cached, self.cache as usize);
+        }
+    }
+
+    /// Takes an index back that is out.
+    pub(crate) fn put(&mut self, index: u32)
+        requires { slice_get self.old.out index ≡ Some true }
+        ensures { self.new ≡ record self.old { out = back index self.old.out; cached = cached_after_put self.old.cache self.old.cached } }
+    {
+        if self.cache == 0 {
+            self.put_queued(index);
+        } else {
+            self.put_cached(index);
+        }
+    }
+}

@@ -1,0 +1,85 @@
+//! Pools that are made, and taken apart.
+
+ghost use Rattle.std.specs.Prelude.{◌≡◌, ◌+◌, ◌*◌, ◌<◌, ◌≤◌, ◌++◌, true, false, codes, length, replicate, IfOk, IfErr, IfSome, IfNone, OnErr, count_by, not, max};
+ghost use Rattle.std.specs.Prelude.{◌⊎◌};
+ghost use Rattle.std.specs.Int.{IsNextPowerOfTwo};
+ghost use Rattle.dp_heap.specs.Elements.{rounded, merged, IsOut};
+ghost use Rattle.dp_zone.specs.Zones.{IsZoneRefused, without_name};
+ghost use Rattle.dp_pool.specs.Pools.{stride_of};
+ghost use Rattle.dp_pool.specs.Making.{IsPoolCount, IsObjectSize, IsCacheSize, object_name, queue_name, Reserves, IsPoolRefused, IsMade};
+
+use crate::error::PoolError;
+use arrayvec::ArrayString;
+use dp_heap::Heap;
+use dp_zone::{Zone, ZoneError, Zones};
+
+// The name of a zone of the pool of that name, if it is short enough for a zone.
+fn with_suffix(name: &str, suffix: &str) -> Option<ArrayString<32>>
+    requires { length suffix.now ≤ 5 }
+    ensures some { IfSome result (λ t. t.bytes ≡ name.now ++ suffix.now) }
+    ensures none { IfNone result (27 < length name.now) }
+{
+    if name.len() > 27 {
+        return None;
+    }
+    let mut text = ArrayString::new();
+    text.push_str(name);
+    text.push_str(suffix);
+    Some(text)
+}
+
+// Why there is no pool of these numbers, whatever its zones.
+pub(crate) fn refused_numbers(count: u32, size: u32, cache: u32) -> Option<PoolError>
+    ensures some { IfSome result (λ e. (e ≡ PoolError.BadCount × ¬ IsPoolCount count) ⊎ ((e ≡ PoolError.BadSize × IsPoolCount count × ¬ IsObjectSize size) ⊎ (e ≡ PoolError.BadCache × IsPoolCount count × IsObjectSize size × ¬ IsCacheSize count cache))) }
+    ensures none { IfNone result (IsPoolCount count × IsObjectSize size × IsCacheSize count cache) }
+{
+    if count == 0 || count > 65_535 {
+        return Some(PoolError::BadCount);
+    }
+    if size == 0 || size > 4_224 {
+        return Some(PoolError::BadSize);
+    }
+    if cache > 512 || 3 * cache > 2 * count {
+        return Some(PoolError::BadCache);
+    }
+    None
+}
+
+// What an object takes.
+pub(crate) fn stride_of(size: u32) -> u32
+    requires { size ≤ 4224 }
+    ensures { result ≡ stride_of size }
+{
+    (size + 63) / 64 * 64
+}
+
+// How many places the queue has: the smallest power of two above the number of objects.
+pub(crate) fn queue_count(count: u32) -> u32
+    requires { (1 ≤ count) × (count ≤ 65535) }
+    ensures next { IsNextPowerOfTwo (count + 1) result }
+    ensures bound { (count < result) × (result ≤ 65536) }
+{
+    (count + 1).next_power_of_two()
+}
+
+// A zone of the pool of that name.
+pub(crate) fn reserve(
+    heap: &mut Heap,
+    zones: &mut Zones,
+    name: &str,
+    suffix: &str,
+    len: u32,
+) -> Result<Zone, ZoneError>
+    requires { (length suffix.now ≤ 5) × (4 ≤ length suffix.now) }
+    ensures zone { IfOk result (λ z. (z.name ≡ name.now ++ suffix.now) × (z.home ≡ heap.old.home) × (length z.bytes ≡ rounded len)) }
+    ensures reserves { IfOk result (λ z. Reserves (name.now ++ suffix.now) len zones.old heap.old.elements z.place zones.new heap.new.elements) }
+    ensures undone { IfOk result (λ z. merged z.place heap.new.elements ≡ heap.old.elements) }
+    ensures home { heap.new.home ≡ heap.old.home }
+    ensures refused { IfErr result (λ e. IsZoneRefused e (name.now ++ suffix.now) len 0 zones.old heap.old.elements) }
+    ensures kept { OnErr result ((zones.new ≡ zones.old) × (heap.new ≡ heap.old)) }
+{
+    match with_suffix(name, suffix) {
+        Some(text) => zones.reserve(heap, text.as_str(), len, 0),
+        None => Err(ZoneError::BadName),
+    }
+}

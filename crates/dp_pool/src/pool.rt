@@ -1,0 +1,257 @@
+//! A mempool.
+
+ghost use Rattle.std.specs.Prelude.{◌≡◌, ◌+◌, ◌*◌, ◌<◌, ◌≤◌, true, false, not, Some, length, replicate, slice_get, count_by, nat_le, MatchOption, IfOk, IfErr, OnErr};
+ghost use Rattle.dp_heap.specs.Elements.{merged};
+ghost use Rattle.dp_zone.specs.Zones.{without_name};
+ghost use Rattle.dp_pool.specs.Making.{IsPoolCount, IsObjectSize, IsCacheSize, IsPoolRefused, IsMade};
+ghost use Rattle.dp_pool.specs.Queues.{in_count};
+ghost use Rattle.dp_pool.specs.Pools.{IsPool, AreGot, object_place, stride_of, object_in, with_written, is_out_in, got, put_back};
+
+use crate::error::PoolError;
+use crate::indexes::Indexes;
+use crate::making::{queue_count, refused_numbers, reserve, stride_of};
+use dp_heap::Heap;
+use dp_ring::Ring;
+use dp_zone::{Zone, Zones};
+use std::marker::Model;
+
+/// Objects of one size, of which each is in or handed out. They stand in a zone of their own, reached by their index,
+/// and the indexes of those that are in stand in a queue with a cache in front of it. It ends by `unmake`.
+pub struct Pool {
+    objects: Zone,
+    indexes: Indexes,
+    // How many objects there are, how many bytes each has, and how many it takes.
+    count: u32,
+    size: u32,
+    stride: u32,
+}
+
+// The numbers of a pool: its objects, their size, what its cache is for, and the places of its queue.
+#[derive(Clone, Copy)]
+struct Numbers {
+    count: u32,
+    size: u32,
+    cache: u32,
+    places: u32,
+}
+
+impl Model for Pool {
+    ghost use Rattle.std.specs.Prelude.{◌≡◌, ◌*◌, ◌≤◌, length};
+    ghost use Rattle.dp_pool.specs.Pools.{PoolView, PoolZones, pool_code, objects_from, stride_of};
+
+    ghost Value = { PoolView };
+
+    ghost coded = { pool_code };
+
+    ghost view = { λ p. record {
+      size = p.size;
+      cache = p.indexes.cache;
+      cached = p.indexes.cached;
+      objects = objects_from p.objects.bytes p.size 0 p.count;
+      out = p.indexes.out;
+      zones = record { home = p.objects.home; object_name = p.objects.name; object_place = p.objects.place; queue_name = p.indexes.name; queue_place = p.indexes.place };
+    } };
+
+    ghost invariant = { λ p. (length p.indexes.out ≡ p.count) × (1 ≤ p.count) × (p.count ≤ 65535) × (1 ≤ p.size) × (p.size ≤ 4224)
+        × (p.stride ≡ stride_of p.size) × (p.count * stride_of p.size ≤ length p.objects.bytes) × (p.indexes.home ≡ p.objects.home) };
+}
+
+// Where an object begins in the zone of so many, each of which takes so many bytes.
+#[tactic(auto, using(crate::proofs::Pools::place_is, crate::proofs::Pools::place_ends))]
+fn place_of(index: u32, count: u32, size: u32, stride: u32) -> u32
+    requires there { index < count }
+    requires limits { (count ≤ 65535) × (size ≤ 4224) × (stride ≡ stride_of size) }
+    ensures value { result ≡ object_place size 0 index }
+    ensures end { result + stride_of size ≤ count * stride_of size }
+    ensures bound { result ≤ 276819840 }
+{
+    index * stride
+}
+
+impl Pool {
+    // The pool over its two zones, all objects in.
+    fn over(objects: Zone, queue: Zone, numbers: Numbers) -> Pool
+        requires numbers { IsPoolCount numbers.count × IsObjectSize numbers.size × IsCacheSize numbers.count numbers.cache }
+        requires room { numbers.count * stride_of numbers.size ≤ length objects.bytes }
+        requires places { (numbers.count < numbers.places) × (numbers.places ≤ 65536) × (4 * numbers.places ≤ length queue.bytes) }
+        requires home { queue.home ≡ objects.home }
+        ensures numbers { (result.size ≡ numbers.size) × (result.cache ≡ numbers.cache) × (result.cached ≡ 0) × (length result.objects ≡ numbers.count) × (result.out ≡ replicate numbers.count false) }
+        ensures zones { result.zones ≡ record { home = objects.home; object_name = objects.name; object_place = objects.place; queue_name = queue.name; queue_place = queue.place } }
+    {
+        let ring = Ring::over(queue, numbers.places);
+        Pool {
+            objects,
+            indexes: Indexes::over(ring, numbers.count, numbers.cache),
+            count: numbers.count,
+            size: numbers.size,
+            stride: stride_of(numbers.size),
+        }
+    }
+
+    /// A pool of `count` objects (1 to 65,535) of `size` bytes (1 to 4,224), all of them in, with a cache for `cache`
+    /// indexes (at most 512 and at most two thirds of the objects). It reserves the zones `NAME.obj` and `NAME.ring`. An
+    /// error is the first that applies, and then zones and elements are as before.
+    pub fn make(
+        heap: &mut Heap,
+        zones: &mut Zones,
+        name: &str,
+        count: u32,
+        size: u32,
+        cache: u32,
+    ) -> Result<Pool, PoolError>
+        ensures made { IfOk result (λ p. IsMade name.now count size cache heap.old.home zones.old heap.old.elements p zones.new heap.new.elements) }
+        ensures home { heap.new.home ≡ heap.old.home }
+        ensures refused { IfErr result (λ e. IsPoolRefused e name.now count size cache zones.old heap.old.elements) }
+        ensures kept { OnErr result ((zones.new ≡ zones.old) × (heap.new ≡ heap.old)) }
+    {
+        if let Some(error) = refused_numbers(count, size, cache) {
+            return Err(error);
+        }
+        let places = queue_count(count);
+        let objects = match reserve(heap, zones, name, ".obj", count * stride_of(size)) {
+            Ok(objects) => objects,
+            Err(error) => return Err(PoolError::Zone(error)),
+        };
+        let queue = match reserve(heap, zones, name, ".ring", 4 * places) {
+            Ok(queue) => queue,
+            Err(error) => {
+                zones.give_back(heap, objects);
+                return Err(PoolError::Zone(error));
+            }
+        };
+        let numbers = Numbers {
+            count,
+            size,
+            cache,
+            places,
+        };
+        Ok(Pool::over(objects, queue, numbers))
+    }
+
+    /// Gives the two zones of the pool back, whose objects should all be in.
+    pub fn unmake(self, heap: &mut Heap, zones: &mut Zones)
+        requires { self.zones.home ≡ heap.old.home }
+        ensures table { zones.new ≡ without_name self.zones.object_name (without_name self.zones.queue_name zones.old) }
+        ensures heap { heap.new ≡ record { home = heap.old.home; elements = merged self.zones.object_place (merged self.zones.queue_place heap.old.elements) } }
+    {
+        let Pool {
+            objects,
+            indexes,
+            count: _,
+            size: _,
+            stride: _,
+        } = self;
+        zones.give_back(heap, indexes.into_queue().into_zone());
+        zones.give_back(heap, objects);
+    }
+
+    /// How many objects there are.
+    #[tactic(auto, using(crate::proofs::Pools::counted, crate::proofs::Pools::is_pool))]
+    pub fn count(&self) -> u32
+        ensures value { result ≡ length self.now.objects }
+        ensures pool { IsPool self.now }
+    {
+        self.count
+    }
+
+    /// How many bytes an object has.
+    pub fn size(&self) -> u32
+        ensures { result ≡ self.now.size }
+    {
+        self.size
+    }
+
+    /// How many objects are in.
+    pub fn available(&self) -> u32
+        ensures { result ≡ in_count self.now.out }
+    {
+        self.indexes.available()
+    }
+
+    /// How many indexes stand in the cache.
+    pub fn cached(&self) -> u32
+        ensures { result ≡ self.now.cached }
+    {
+        self.indexes.cached()
+    }
+
+    /// Whether an object is out; false where there is no such object. The whole queue is looked at.
+    pub fn is_out(&self, index: u32) -> bool
+        ensures { result ≡ is_out_in self.now.out index }
+    {
+        self.indexes.is_out(index)
+    }
+
+    /// Hands out an object that is in, by its index; `None` where none is.
+    pub fn get(&mut self) -> Option<u32>
+        ensures { MatchOption result ((in_count self.old.out ≡ 0) × (self.new ≡ self.old)) (λ i. (slice_get self.old.out i ≡ Some false) × (self.new ≡ got self.old i)) }
+    {
+        self.indexes.get()
+    }
+
+    // Hands out an object for each place of the list.
+    fn get_all(&mut self, indexes: &mut [u32])
+        requires { length indexes.old ≤ in_count self.old.out }
+        ensures got { AreGot self.old indexes.new self.new }
+        ensures len { length indexes.new ≡ length indexes.old }
+    {
+        for place in indexes.iter_mut() {
+            let Some(index) = self.get() else {
+                unreachable!();
+            };
+            *place = index;
+        }
+    }
+
+    /// Hands out an object for each place of the list, as so many gets, or none and answers false where fewer are in.
+    pub fn get_bulk(&mut self, indexes: &mut [u32]) -> bool
+        ensures taken { result ≡ nat_le (length indexes.old) (in_count self.old.out) }
+        ensures got { result ≡ true → AreGot self.old indexes.new self.new }
+        ensures kept { result ≡ false → (self.new ≡ self.old) × (indexes.new ≡ indexes.old) }
+        ensures len { length indexes.new ≡ length indexes.old }
+    {
+        if indexes.len() > self.available() as usize {
+            return false;
+        }
+        self.get_all(indexes);
+        true
+    }
+
+    /// Takes back an object that is out.
+    pub fn put(&mut self, index: u32)
+        requires { slice_get self.old.out index ≡ Some true }
+        ensures { self.new ≡ put_back self.old index }
+    {
+        self.indexes.put(index);
+    }
+
+    /// The bytes of an object.
+    pub fn object(&self, index: u32) -> &[u8]
+        requires { index < length self.now.objects }
+        ensures value { result.now ≡ object_in self.now index }
+        ensures size { length result.now ≡ self.now.size }
+    {
+        let place = place_of(index, self.count, self.size, self.stride) as usize;
+        &self.objects.bytes()[place..place + self.size as usize]
+    }
+
+    /// Writes bytes into an object from a place on.
+    pub fn write(&mut self, index: u32, at: u32, bytes: &[u8])
+        requires object { index < length self.old.objects }
+        requires fits { at + length bytes.now ≤ self.old.size }
+        ensures { self.new ≡ with_written self.old index at bytes.now }
+    {
+        let place = place_of(index, self.count, self.size, self.stride);
+        self.objects.write(place + at, bytes);
+    }
+
+    /// Writes zeros into an object from a place on.
+    pub fn clear(&mut self, index: u32, at: u32, len: u32)
+        requires object { index < length self.old.objects }
+        requires fits { at + len ≤ self.old.size }
+        ensures { self.new ≡ with_written self.old index at (replicate len 0) }
+    {
+        let place = place_of(index, self.count, self.size, self.stride);
+        self.objects.clear(place + at, len);
+    }
+}
