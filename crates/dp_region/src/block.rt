@@ -1,3 +1,4 @@
+//! A block, as its holder has it.
 ghost use Rattle.std.specs.Prelude.{◌≡◌, ℕ, ◌+◌, ◌^◌, ◌<◌, ◌≤◌, length};
 ghost use Rattle.std.specs.Borrow.{Lends, Array, sem, u8 as byte};
 ghost use Rattle.dp_region.specs.Spans.{bytes_in, with_bytes};
@@ -10,7 +11,7 @@ use byteorder::{ByteOrder, LittleEndian};
 use std::marker::Model;
 use std_alloc::vec::Lodged;
 
-/// Bytes of a region that are lent. They go back by `Region::reclaim`.
+/// Bytes of a region that are lent, at least one. They go back by `Region::reclaim`. Places in a block count from its start.
 pub struct Block {
     place: u32,
     len: u32,
@@ -33,6 +34,7 @@ impl Model for Block {
 }
 
 impl Block {
+    // The bytes of the run, which lie at `place` of the region that the ticket is of.
     pub(crate) fn over(ptr: *mut u8, place: u32, len: u32, run: Run, ticket: Ticket) -> Block
         requires run { (run.start ≡ ptr) × (length run.bytes ≡ len) × (0 < len) }
         requires ticket { (ticket.place ≡ place) × (ticket.len ≡ len) × (ptr ≡ place_in ticket.home place) }
@@ -46,6 +48,7 @@ impl Block {
         }
     }
 
+    // The run, and the right to give it back.
     pub(crate) fn into_parts(self) -> (Run, Ticket)
         ensures run { (result.0.start ≡ place_in self.home self.place) × (result.0.bytes ≡ self.bytes) }
         ensures ticket { (result.1.home ≡ self.home) × (result.1.place ≡ self.place) × (result.1.len ≡ length self.bytes) }
@@ -59,12 +62,14 @@ impl Block {
         (vacate(bytes), ticket)
     }
 
+    /// Where it begins in its region.
     pub fn place(&self) -> u32
         ensures { result ≡ self.now.place }
     {
         self.place
     }
 
+    /// How many bytes it has.
     pub fn len(&self) -> u32
         ensures value { result ≡ length self.now.bytes }
         ensures some { 0 < result }
@@ -72,12 +77,14 @@ impl Block {
         self.len
     }
 
+    /// Its bytes.
     pub fn bytes(&self) -> &[u8]
         ensures { result.now ≡ self.now.bytes }
     {
         self.bytes.as_slice()
     }
 
+    /// Its bytes, to be changed.
     pub fn bytes_mut(&mut self) -> &mut [u8]
         ensures* writes_back { sem 𝓛 (Lends the_row (Array byte 0) self.entry result (with_content self.old)) }
         ensures value { result.now ≡ self.old.bytes }
@@ -85,6 +92,7 @@ impl Block {
         self.bytes.as_mut_slice()
     }
 
+    /// The number in the 2 bytes at `at`, which are in the block.
     pub fn load_u16(&self, at: u32) -> u16
         requires { at + 2 ≤ length self.now.bytes }
         ensures { result ≡ number_at self.now.bytes at 2 }
@@ -93,6 +101,7 @@ impl Block {
         LittleEndian::read_u16(&self.bytes.as_slice()[at..at + 2])
     }
 
+    /// The number in the 4 bytes at `at`, which are in the block.
     pub fn load_u32(&self, at: u32) -> u32
         requires { at + 4 ≤ length self.now.bytes }
         ensures { result ≡ number_at self.now.bytes at 4 }
@@ -101,34 +110,41 @@ impl Block {
         LittleEndian::read_u32(&self.bytes.as_slice()[at..at + 4])
     }
 
-    pub fn store_u16(&mut self, at: u32, v: u16)
+    /// Puts `value` into the 2 bytes at `at`, which are in the block.
+    pub fn store_u16(&mut self, at: u32, value: u16)
         requires { at + 2 ≤ length self.old.bytes }
-        ensures { self.new ≡ record self.old { bytes = with_number self.old.bytes at 2 v } }
+        ensures stored { self.new ≡ record self.old { bytes = with_number self.old.bytes at 2 value } }
+        ensures long { length self.new.bytes ≡ length self.old.bytes }
     {
         let at = at as usize;
-        LittleEndian::write_u16(&mut self.bytes.as_mut_slice()[at..at + 2], v);
+        LittleEndian::write_u16(&mut self.bytes.as_mut_slice()[at..at + 2], value);
     }
 
-    pub fn store_u32(&mut self, at: u32, v: u32)
+    /// Puts `value` into the 4 bytes at `at`, which are in the block.
+    pub fn store_u32(&mut self, at: u32, value: u32)
         requires { at + 4 ≤ length self.old.bytes }
-        ensures { self.new ≡ record self.old { bytes = with_number self.old.bytes at 4 v } }
+        ensures stored { self.new ≡ record self.old { bytes = with_number self.old.bytes at 4 value } }
+        ensures long { length self.new.bytes ≡ length self.old.bytes }
     {
         let at = at as usize;
-        LittleEndian::write_u32(&mut self.bytes.as_mut_slice()[at..at + 4], v);
+        LittleEndian::write_u32(&mut self.bytes.as_mut_slice()[at..at + 4], value);
     }
 
-    pub(crate) fn store_u64(&mut self, at: u32, v: u64)
+    // Puts `value` into the 8 bytes at `at`, which are in the block.
+    pub(crate) fn store_u64(&mut self, at: u32, value: u64)
         requires { at + 8 ≤ length self.old.bytes }
-        ensures { self.new ≡ record self.old { bytes = with_number self.old.bytes at 8 v } }
+        ensures stored { self.new ≡ record self.old { bytes = with_number self.old.bytes at 8 value } }
+        ensures long { length self.new.bytes ≡ length self.old.bytes }
     {
         let at = at as usize;
-        LittleEndian::write_u64(&mut self.bytes.as_mut_slice()[at..at + 8], v);
+        LittleEndian::write_u64(&mut self.bytes.as_mut_slice()[at..at + 8], value);
     }
 
-    /// Copies `len` bytes from `from` to `to`. The two parts may overlap.
+    /// Copies the `len` bytes at `from` to `to`. Both lie in the block, and may overlap.
     pub fn copy_within(&mut self, from: u32, len: u32, to: u32)
         requires { (from + len ≤ length self.old.bytes) × (to + len ≤ length self.old.bytes) }
-        ensures { self.new ≡ record self.old { bytes = with_bytes self.old.bytes to (bytes_in self.old.bytes from len) } }
+        ensures copied { self.new ≡ record self.old { bytes = with_bytes self.old.bytes to (bytes_in self.old.bytes from len) } }
+        ensures long { length self.new.bytes ≡ length self.old.bytes }
     {
         let (from, len, to) = (from as usize, len as usize, to as usize);
         self.bytes.as_mut_slice().copy_within(from..from + len, to);

@@ -1,3 +1,4 @@
+//! The region, as its owner has it.
 ghost use Rattle.std.specs.Prelude.{◌≡◌, ℕ, ◌+◌, ◌<◌, ◌≤◌, true, [], length, replicate, IfOk};
 ghost use Rattle.dp_region.specs.Spans.{Span, listed, IsUnlent, with_span, without_span, bytes_in, with_bytes};
 ghost use Rattle.dp_region.specs.Ownership.{Home, place_in};
@@ -9,12 +10,14 @@ use byteorder::{ByteOrder, LittleEndian};
 use core::mem::replace_with;
 use std::alloc::Global;
 use std::marker::Model;
+use thiserror::Error;
 
-/// There is not enough memory.
-#[derive(Clone, Copy, Debug, PartialEq, Eq, Drop)]
+/// The memory for a region was refused.
+#[derive(Clone, Copy, Debug, PartialEq, Eq, Error)]
+#[error("out of memory")]
 pub struct Memory;
 
-/// One block of memory. Its owner reads and writes the bytes that are not lent.
+/// One region of raw memory. It ends by `close`.
 pub struct Region {
     ptr: *mut u8,
     size: u32,
@@ -25,7 +28,7 @@ pub struct Region {
 impl Model for Region {
     ghost use Rattle.std.specs.Prelude.{◌≡◌, ◌≤◌, length};
     ghost use Rattle.dp_region.specs.Ownership.{place_in};
-    ghost use Rattle.dp_region.specs.Region.{RegionView, region_code};
+    ghost use Rattle.dp_region.specs.Region.{RegionView, region_code, IsRegionSize};
 
     ghost Value = { RegionView };
 
@@ -33,11 +36,11 @@ impl Model for Region {
 
     ghost view = { λ r. record { home = r.cells.home; bytes = r.cells.bytes; lent = r.cells.lent } };
 
-    ghost invariant = { λ r. (r.ptr ≡ place_in r.cells.home 0) × (r.shell.ptr ≡ r.ptr) × (r.shell.len ≡ r.size) × (length r.cells.bytes ≡ r.size) × (r.size ≤ 1073741824) };
+    ghost invariant = { λ r. (r.ptr ≡ place_in r.cells.home 0) × (r.shell.ptr ≡ r.ptr) × (r.shell.len ≡ r.size) × (length r.cells.bytes ≡ r.size) × IsRegionSize r.size };
 }
 
 impl Region {
-    /// All the bytes are 0.
+    /// A region of `size` bytes, all 0: a multiple of 64, 4,096 to 1,073,741,824. `Memory` where that much is not to be had.
     pub fn new(alloc: Global, size: u32) -> Result<Region, Memory>
         requires { IsRegionSize size }
         ensures { IfOk result (λ r. (r.bytes ≡ replicate size 0) × (r.lent ≡ [])) }
@@ -55,16 +58,20 @@ impl Region {
         })
     }
 
+    /// How many bytes there are.
     pub fn size(&self) -> u32
-        ensures { result ≡ length self.now.bytes }
+        ensures value { result ≡ length self.now.bytes }
+        ensures range { IsRegionSize result }
     {
         self.size
     }
 
+    /// Lends the `len` bytes from `place` on, at least one, of which none is lent yet. They are as they were.
     pub fn lend(&mut self, place: u32, len: u32) -> Block
         requires some { 0 < len }
         requires unlent { IsFree self.old place len }
         ensures block { result ≡ record { home = self.old.home; place = place; bytes = bytes_in self.old.bytes place len } }
+        ensures long { length result.bytes ≡ len }
         ensures lent { self.new ≡ record self.old { lent = with_span (place, len) self.old.lent } }
     {
         let (run, ticket) = replace_with(&mut self.cells, (place as usize, len as usize), take);
@@ -72,15 +79,17 @@ impl Region {
         Block::over(ptr, place, len, run, ticket)
     }
 
-    /// The bytes stay as the holder left them.
+    /// Takes back a block of this region. Its bytes stay as the holder left them.
     pub fn reclaim(&mut self, block: Block)
         requires { block.home ≡ self.old.home }
         ensures was_lent { listed (span_of block) self.old.lent ≡ true }
         ensures back { self.new ≡ record { home = self.old.home; bytes = with_bytes self.old.bytes block.place block.bytes; lent = without_span (span_of block) self.old.lent } }
+        ensures size { length self.new.bytes ≡ length self.old.bytes }
     {
         replace_with(&mut self.cells, block.into_parts(), give);
     }
 
+    /// Frees the memory, of which nothing may be lent.
     pub fn close(self)
         requires { self.lent ≡ [] }
     {
@@ -101,6 +110,7 @@ impl Region {
         self.cells.view(ptr, place as usize, len as usize)
     }
 
+    /// The number in the 4 bytes at `place`, none of them lent.
     pub fn load_u32(&self, place: u32) -> u32
         requires { IsFree self.now place 4 }
         ensures { result ≡ number_at self.now.bytes place 4 }
@@ -108,6 +118,7 @@ impl Region {
         LittleEndian::read_u32(self.bytes(place, 4))
     }
 
+    /// The number in the 8 bytes at `place`, none of them lent.
     pub fn load_u64(&self, place: u32) -> u64
         requires { IsFree self.now place 8 }
         ensures { result ≡ number_at self.now.bytes place 8 }
@@ -115,25 +126,30 @@ impl Region {
         LittleEndian::read_u64(self.bytes(place, 8))
     }
 
-    pub fn store_u32(&mut self, place: u32, v: u32)
+    /// Puts `value` into the 4 bytes at `place`, none of them lent.
+    pub fn store_u32(&mut self, place: u32, value: u32)
         requires { IsFree self.old place 4 }
-        ensures { self.new ≡ record self.old { bytes = with_number self.old.bytes place 4 v } }
+        ensures stored { self.new ≡ record self.old { bytes = with_number self.old.bytes place 4 value } }
+        ensures size { length self.new.bytes ≡ length self.old.bytes }
     {
         let mut block = self.lend(place, 4);
-        block.store_u32(0, v);
+        block.store_u32(0, value);
         self.reclaim(block);
     }
 
-    pub fn store_u64(&mut self, place: u32, v: u64)
+    /// Puts `value` into the 8 bytes at `place`, none of them lent.
+    pub fn store_u64(&mut self, place: u32, value: u64)
         requires { IsFree self.old place 8 }
-        ensures { self.new ≡ record self.old { bytes = with_number self.old.bytes place 8 v } }
+        ensures stored { self.new ≡ record self.old { bytes = with_number self.old.bytes place 8 value } }
+        ensures size { length self.new.bytes ≡ length self.old.bytes }
     {
         let mut block = self.lend(place, 8);
-        block.store_u64(0, v);
+        block.store_u64(0, value);
         self.reclaim(block);
     }
 }
 
+// The span (place, length) of the bytes leaves, as a run and the right to give it back.
 fn take(cells: Cells, span: (usize, usize)) -> (Cells, (Run, Ticket))
     requires { (0 < span.1) × (span.0 + span.1 ≤ length cells.bytes) × IsUnlent cells.lent span.0 span.1 }
     ensures cells { (result.0.home ≡ cells.home) × (result.0.bytes ≡ cells.bytes) × (result.0.lent ≡ with_span span cells.lent) }
@@ -145,6 +161,7 @@ fn take(cells: Cells, span: (usize, usize)) -> (Cells, (Run, Ticket))
     (cells, (run, ticket))
 }
 
+// A run comes back by the right to that.
 fn give(cells: Cells, back: (Run, Ticket)) -> (Cells, ())
     requires { (back.1.home ≡ cells.home) × (back.0.start ≡ place_in cells.home back.1.place) × (length back.0.bytes ≡ back.1.len) }
     ensures { (listed (back.1.place, back.1.len) cells.lent ≡ true) × (result.0.home ≡ cells.home) × (result.0.bytes ≡ with_bytes cells.bytes back.1.place back.0.bytes) × (result.0.lent ≡ without_span (back.1.place, back.1.len) cells.lent) }

@@ -4,8 +4,8 @@ use Rattle.dp_region.proofs.Spans.{unlent_unlisted}
 use Rattle.dp_region.proofs.Bytes.{stored}
 use Rattle.dp_region.proofs.region.Region.store_u64.Goals as goal
 
-pub returns : goal.returns
-returns c =
+pub returns-clause-stored : goal.returns-clause-stored
+returns-clause-stored c =
     let r = c.args.self.now in
-    rw (c.reclaim.ensures.back, c.store_u64.ensures, c.lend-block.ensures.block, c.lend-block.ensures.lent)
-    (stored r c.args.place 8 (little_bytes 8 c.args.v) refl c.requires.0 (unlent_unlisted r.lent c.args.place 8 (lit< tt) c.requires.1))
+    rw (c.reclaim.ensures.back, c.store_u64.ensures.stored, c.lend-block.ensures.block, c.lend-block.ensures.lent)
+    (stored r c.args.place 8 (little_bytes 8 c.args.value) refl c.requires.0 (unlent_unlisted r.lent c.args.place 8 (lit< tt) c.requires.1))

@@ -1,0 +1,62 @@
+//! Headers of elements, in the region. `specs/Laid.antt` says which word lies where.
+ghost use Rattle.std.specs.Prelude.{◌≡◌, ◌+◌, ◌-◌, ◌<◌, ◌≤◌, length};
+ghost use Rattle.dp_region.specs.Region.{IsFree, number_at};
+ghost use Rattle.dp_heap.specs.Laid.{element_at, with_header, with_back, with_pad};
+
+use crate::elements::{Element, State};
+use dp_region::Region;
+
+// The element whose header lies at `place`.
+pub(crate) fn read_header(region: &Region, place: u32) -> Element
+    requires { IsFree region.now place 12 × (length region.now.bytes ≤ 1073741824) }
+    ensures { result ≡ element_at region.now.bytes place }
+{
+    let state = if region.load_u32(place + 4) == 0 {
+        State::Free
+    } else {
+        State::Busy
+    };
+    Element {
+        place,
+        size: region.load_u32(place),
+        state,
+        pad: region.load_u32(place + 8),
+    }
+}
+
+// A header at `place`, but for the word on the element below.
+pub(crate) fn write_header(region: &mut Region, place: u32, size: u32, state: u32, pad: u32)
+    requires { IsFree region.old place 12 × (length region.old.bytes ≤ 1073741824) }
+    ensures { region.new ≡ record region.old { bytes = with_header region.old.bytes place size state pad } }
+{
+    region.store_u32(place, size);
+    region.store_u32(place + 4, state);
+    region.store_u32(place + 8, pad);
+}
+
+// The element at `place`, if that is not the end, learns the size of the one below it.
+pub(crate) fn write_back(region: &mut Region, place: u32, size: u32)
+    requires { (place < length region.old.bytes → IsFree region.old place 16) × (length region.old.bytes ≤ 1073741824) }
+    ensures { region.new ≡ record region.old { bytes = with_back region.old.bytes place size } }
+{
+    if place < region.size() {
+        region.store_u32(place + 12, size);
+    }
+}
+
+// The PAD header right before the data at `at`: the distance back to the header of its element. Where that is 0 the two
+// headers are one.
+pub(crate) fn write_pad(region: &mut Region, at: u32, pad: u32)
+    requires { (56 ≤ at) × IsFree region.old (at - 56) 4 }
+    ensures { region.new ≡ record region.old { bytes = with_pad region.old.bytes at pad } }
+{
+    region.store_u32(at - 56, pad);
+}
+
+// The distance back from the data at `at`.
+pub(crate) fn read_pad(region: &Region, at: u32) -> u32
+    requires { (56 ≤ at) × IsFree region.now (at - 56) 4 }
+    ensures { result ≡ number_at region.now.bytes (at - 56) 4 }
+{
+    region.load_u32(at - 56)
+}

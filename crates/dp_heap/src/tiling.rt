@@ -1,0 +1,174 @@
+//! Edits of the elements that lie in a region. Each is stated for the list of elements, wherever in it they stand.
+ghost use Rattle.std.specs.Prelude.{◌≡◌, ◌+◌, ◌-◌, ◌%◌, ◌<◌, ◌≤◌, List, [], ◌∷◌, ◌++◌, length};
+ghost use Rattle.dp_heap.specs.Elements.{joined, onto, Emptied, end_of, lower, upper, marked, both, below, above, spare, pieces, IsIn, Replaces};
+ghost use Rattle.dp_heap.specs.Laid.{elements_in, IsLaid, IsHeap};
+ghost use Rattle.dp_heap.specs.declared.elements.Element.{Element as Item};
+
+use crate::elements::{Element, State};
+use crate::header::{read_header, read_pad, write_back, write_header, write_pad};
+use dp_region::{Block, Region};
+
+// The header of `e` becomes that of its bytes below `mid`, and those from there on are an element of their own.
+fn cut(region: &mut Region, e: &Element, mid: u32)
+    requires laid { IsLaid region.old × IsIn e.now (elements_in region.old.bytes) }
+    requires free { e.now.state ≡ State.Free }
+    requires inside { (mid % 64 ≡ 0) × (e.now.place + 64 ≤ mid) × (mid + 64 ≤ end_of e.now) }
+    ensures laid { IsLaid region.new }
+    ensures home { region.new.home ≡ region.old.home }
+    ensures pieces { Replaces e.now (lower e.now mid ∷ upper e.now mid ∷ []) (elements_in region.old.bytes) (elements_in region.new.bytes) }
+{
+    let end = e.place + e.size;
+    write_header(region, mid, end - mid, 0, 0);
+    write_back(region, mid, mid - e.place);
+    write_header(region, e.place, mid - e.place, 0, 0);
+    write_back(region, end, end - mid);
+}
+
+// `e`, which is free, holds a block of `len` bytes at `at` from now on.
+fn mark(region: &mut Region, e: &Element, at: u32, len: u32) -> Block
+    requires laid { IsLaid region.old × IsIn e.now (elements_in region.old.bytes) }
+    requires free { e.now.state ≡ State.Free }
+    requires inside { (0 < len) × (e.now.place + 64 ≤ at) × (at + len ≤ end_of e.now) × (at % 64 ≡ 0) }
+    ensures block { (result.home ≡ region.old.home) × (result.place ≡ at) × (length result.bytes ≡ len) }
+    ensures laid { IsLaid region.new }
+    ensures home { region.new.home ≡ region.old.home }
+    ensures pieces { Replaces e.now (marked e.now at ∷ []) (elements_in region.old.bytes) (elements_in region.new.bytes) }
+{
+    let pad = at - 64 - e.place;
+    write_header(region, e.place, e.size, 1, pad);
+    write_pad(region, at, pad);
+    region.lend(at, len)
+}
+
+// `e`, which is free, loses what lies from `end` on, where that is more than 128 bytes.
+fn trim_end(region: &mut Region, e: Element, end: u32) -> Element
+    requires laid { IsLaid region.old × IsIn e (elements_in region.old.bytes) }
+    requires free { e.state ≡ State.Free }
+    requires inside { (e.place + 64 ≤ end) × (end ≤ end_of e) × (end % 64 ≡ 0) }
+    ensures left { result ≡ below e end }
+    ensures laid { IsLaid region.new }
+    ensures home { region.new.home ≡ region.old.home }
+    ensures pieces { Replaces e (below e end ∷ spare end (end_of e - end)) (elements_in region.old.bytes) (elements_in region.new.bytes) }
+{
+    if e.place + e.size - end <= 128 {
+        return e;
+    }
+    cut(region, &e, end);
+    Element {
+        size: end - e.place,
+        pad: 0,
+        ..e
+    }
+}
+
+// `e`, which is free, loses what lies before `start`, where that is more than 128 bytes.
+fn trim_start(region: &mut Region, e: Element, start: u32) -> Element
+    requires laid { IsLaid region.old × IsIn e (elements_in region.old.bytes) }
+    requires free { e.state ≡ State.Free }
+    requires inside { (e.place ≤ start) × (start + 64 ≤ end_of e) × (start % 64 ≡ 0) }
+    ensures left { result ≡ above e start }
+    ensures laid { IsLaid region.new }
+    ensures home { region.new.home ≡ region.old.home }
+    ensures pieces { Replaces e (spare e.place (start - e.place) ++ above e start ∷ []) (elements_in region.old.bytes) (elements_in region.new.bytes) }
+{
+    if start - e.place <= 128 {
+        return e;
+    }
+    cut(region, &e, start);
+    Element {
+        place: start,
+        size: e.place + e.size - start,
+        pad: 0,
+        ..e
+    }
+}
+
+// A block of `len` bytes at `at` is taken from `e`, which is free.
+pub(crate) fn take(region: &mut Region, e: Element, at: u32, len: u32) -> Block
+    requires heap { IsHeap region.old × IsIn e (elements_in region.old.bytes) }
+    requires free { e.state ≡ State.Free }
+    requires inside { (0 < len) × (e.place + 64 ≤ at) × (at + len ≤ end_of e) }
+    requires steps { (at % 64 ≡ 0) × (len % 64 ≡ 0) }
+    ensures block { (result.home ≡ region.old.home) × (result.place ≡ at) × (length result.bytes ≡ len) }
+    ensures heap { IsHeap region.new }
+    ensures home { region.new.home ≡ region.old.home }
+    ensures pieces { Replaces e (pieces e len at) (elements_in region.old.bytes) (elements_in region.new.bytes) }
+{
+    let low = trim_end(region, e, at + len);
+    let mid = trim_start(region, low, at - 64);
+    mark(region, &mid, at, len)
+}
+
+// The block goes back. Its element is found by the header before the data, and becomes free.
+pub(crate) fn unmark(region: &mut Region, block: Block) -> Element
+    requires laid { IsLaid region.old }
+    requires block { block.home ≡ region.old.home }
+    ensures laid { IsLaid region.new }
+    ensures home { region.new.home ≡ region.old.home }
+    ensures emptied { Emptied block.place result (elements_in region.old.bytes) (elements_in region.new.bytes) }
+{
+    let at = block.place();
+    region.reclaim(block);
+    let pad = read_pad(region, at);
+    let e = read_header(region, at - 64 - pad);
+    write_header(region, e.place, e.size, 0, 0);
+    Element {
+        state: State::Free,
+        pad: 0,
+        ..e
+    }
+}
+
+// Two free neighbours become one element.
+fn join(region: &mut Region, x: Element, y: Element) -> Element
+    requires laid { IsLaid region.old }
+    requires here { (before : List Item) × (after : List Item) × (elements_in region.old.bytes ≡ before ++ x ∷ y ∷ after) }
+    requires free { (x.state ≡ State.Free) × (y.state ≡ State.Free) }
+    ensures whole { result ≡ both x y }
+    ensures laid { IsLaid region.new }
+    ensures home { region.new.home ≡ region.old.home }
+    ensures pieces { (before after : List Item) → elements_in region.old.bytes ≡ before ++ x ∷ y ∷ after → elements_in region.new.bytes ≡ before ++ both x y ∷ after }
+{
+    let size = x.size + y.size;
+    write_header(region, x.place, size, 0, 0);
+    write_back(region, x.place + size, size);
+    Element { size, pad: 0, ..x }
+}
+
+// `e`, which is free, is joined to the element above it where that is free.
+pub(crate) fn join_above(region: &mut Region, e: Element) -> Element
+    requires laid { IsLaid region.old × IsIn e (elements_in region.old.bytes) }
+    requires free { e.state ≡ State.Free }
+    ensures laid { IsLaid region.new }
+    ensures home { region.new.home ≡ region.old.home }
+    ensures free { result.state ≡ State.Free }
+    ensures pieces { (before after : List Item) → elements_in region.old.bytes ≡ before ++ e ∷ after → (rest : List Item) × (joined e after ≡ result ∷ rest) × (elements_in region.new.bytes ≡ before ++ result ∷ rest) }
+{
+    let end = e.place + e.size;
+    if end == region.size() {
+        return e;
+    }
+    let above = read_header(region, end);
+    match above.state {
+        State::Free => join(region, e, above),
+        State::Busy => e,
+    }
+}
+
+// `e`, which is free, is joined to the element below it where that is free.
+pub(crate) fn join_below(region: &mut Region, e: Element)
+    requires laid { IsLaid region.old × IsIn e (elements_in region.old.bytes) }
+    requires free { e.state ≡ State.Free }
+    ensures laid { IsLaid region.new }
+    ensures home { region.new.home ≡ region.old.home }
+    ensures pieces { (before after : List Item) → elements_in region.old.bytes ≡ before ++ e ∷ after → elements_in region.new.bytes ≡ onto before (e ∷ after) }
+{
+    if e.place == 0 {
+        return;
+    }
+    let size = region.load_u32(e.place + 12);
+    let below = read_header(region, e.place - size);
+    if let State::Free = below.state {
+        join(region, below, e);
+    }
+}

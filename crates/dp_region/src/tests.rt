@@ -1,0 +1,79 @@
+//! What the loads and stores answer, on bytes and numbers worked out by hand.
+ghost use Rattle.std.specs.Prelude.{◌≡◌, ◌≤◌, [], length};
+
+use crate::{Block, Memory, Region};
+use std::test::Fail;
+
+fn write_low(low: &mut Block)
+    requires { length low.old.bytes ≡ 3 }
+    ensures { (low.new.home ≡ low.old.home) × (low.new.place ≡ low.old.place) × (length low.new.bytes ≡ 3) }
+{
+    low.bytes_mut()[0] = 9;
+}
+
+fn write_high(high: &mut Block)
+    requires { length high.old.bytes ≡ 64 }
+    ensures { (high.new.home ≡ high.old.home) × (high.new.place ≡ high.old.place) × (length high.new.bytes ≡ 64) }
+{
+    high.store_u16(62, 0x0807);
+    high.copy_within(62, 2, 0);
+    high.store_u32(4, 0x0605_0403);
+}
+
+// Two blocks are out at once, are written, and come back. What they began with.
+fn visit(region: &mut Region) -> (u8, u8, u32, u32, u32)
+    requires { (region.old.lent ≡ []) × (4096 ≤ length region.old.bytes) }
+    ensures { (region.new.lent ≡ []) × (4096 ≤ length region.new.bytes) }
+{
+    let mut low = region.lend(61, 3);
+    let mut high = region.lend(64, 64);
+    let first = (
+        low.bytes()[0],
+        low.bytes()[2],
+        high.load_u32(0),
+        high.place(),
+        high.len(),
+    );
+    write_low(&mut low);
+    write_high(&mut high);
+    region.reclaim(high);
+    region.reclaim(low);
+    first
+}
+
+fn numbers(region: &Region) -> (u32, u64, u32)
+    requires { (region.now.lent ≡ []) × (4096 ≤ length region.now.bytes) }
+{
+    (
+        region.load_u32(60),
+        region.load_u64(64),
+        region.load_u32(126),
+    )
+}
+
+// The upper half of a number of 8 bytes.
+fn overlaid(region: &mut Region) -> u32
+    requires { (region.old.lent ≡ []) × (4096 ≤ length region.old.bytes) }
+    ensures { region.new.lent ≡ [] }
+{
+    region.store_u64(1, 0x0102_0304_0506_0708);
+    region.load_u32(5)
+}
+
+#[test]
+fn bytes_stay_as_the_holder_left_them(rt: HostRuntime) -> Result<(), Fail> {
+    let mut region = Region::new(rt.alloc(), 4096).expect(&rt, "memory");
+    region.store_u32(60, 0x0403_0201);
+    let first = visit(&mut region);
+    let last = numbers(&region);
+    let low = overlaid(&mut region);
+    let size = region.size();
+    region.close();
+    assert_eq!(rt; first, (2, 4, 0, 64, 64));
+    assert_eq!(rt; last, (0x0403_0901, 0x0605_0403_0000_0807, 0x0807));
+    assert_eq!(rt; low, 0x0102_0304);
+    assert_eq!(rt; size, 4096);
+    let text = format!(in rt.alloc(); "{Memory}")?;
+    assert_eq!(rt; text.as_str(), "out of memory");
+    Ok(())
+}
