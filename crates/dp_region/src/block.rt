@@ -147,6 +147,7 @@ impl Block {
         ensures long { length self.new.bytes ≡ length self.old.bytes }
     {
         let (from, len, to) = (from as usize, len as usize, to as usize);
-        self.bytes.as_mut_slice().copy_within(from..from + len, to);
+        let bytes = self.bytes.as_mut_slice();
+        bytes.copy_within(from..from + len, to);
     }
 }
