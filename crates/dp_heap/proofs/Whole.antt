@@ -1,24 +1,17 @@
 -- A heap with no block out is one free element.
-use Rattle.std.proofs.Common.{◌≡◌, ℕ, ◌+◌, ◌<◌, Bool, true, false, cond, ◌&&◌, List, [], ◌∷◌, length, IsTrue, sym, ap, refl, arith}
+use Rattle.std.proofs.Common.{◌≡◌, ℕ, ◌+◌, ◌<◌, Bool, true, false, cond, ◌&&◌, List, [], ◌∷◌, ◌∙◌, length, IsTrue, sym, ap, refl, arith}
 use Rattle.std.specs.Prelude.{not}
 use Rattle.std.proofs.lemmas.Bool.{true≢false}
 use Rattle.dp_heap.specs.declared.elements.Element.{Element}
-use Rattle.dp_heap.specs.declared.elements.State.{State}
-use Rattle.dp_heap.specs.declared.elements.State.TheVariants.{Free, Busy}
+use Rattle.dp_heap.specs.declared.elements.State.TheVariants.{Free}
 use Rattle.dp_heap.specs.Elements.{is_free, is_busy, count_of}
 use Rattle.dp_heap.specs.Laid.{Laid, Kept, apart}
 use Rattle.dp_heap.proofs.Laid.{first_place}
+use Rattle.dp_heap.proofs.Undo.{is_open, open_same}
 
 none_busy : (b : Bool) (n : ℕ) → cond (not b) 1 0 + n ≡ 0 → (b ≡ true) × (n ≡ 0)
 none_busy true n none = (refl, let same : 0 + n ≡ 0 = none in omega arith)
 none_busy false n none = absurd (let same : 1 + n ≡ 0 = none in omega arith)
-
-state_free : (s : State) → elim s [ Free ↦ true | Busy ↦ false ] ≡ true → s ≡ Free
-state_free Free is = refl
-state_free Busy is = absurd (true≢false (sym is))
-
-same_element : (e : Element) (place size : ℕ) → e.place ≡ place → e.size ≡ size → e.state ≡ Free → e.pad ≡ 0 → e ≡ record { place = place; size = size; state = Free; pad = 0 }
-same_element e place size p n s d i = record { place = p i; size = n i; state = s i; pad = d i }
 
 -- two free elements would be neighbours
 not_two : (a b : Bool) (rest : Bool) → a ≡ true → b ≡ true → (not (a && b) && rest) ≡ true → ⊥
@@ -31,7 +24,8 @@ module _ (xs : List ℕ) (some : 0 < length xs) where
   whole [] laid kept off none = absurd (let empty : 0 ≡ length xs = laid in omega arith)
   whole (e ∷ []) laid kept off none =
       let free = (none_busy (is_free e) 0 none).0 in let place = first_place xs e 0 laid.0 in
-      ap (λ (x : Element). x ∷ []) (same_element e 0 (length xs) place (let end : e.place + e.size ≡ length xs = laid.2 in omega arith) (state_free e.state free) (kept.1.4 free))
+      let size : e.size ≡ length xs = (let end : e.place + e.size ≡ length xs = laid.2 in omega arith) in
+      ap (λ (x : Element). x ∷ []) (is_open e free (kept.1.4 free) ∙ open_same e.place e.size 0 (length xs) place size)
   whole (e ∷ x ∷ es) laid kept off none =
       let first = none_busy (is_free e) (count_of is_busy (x ∷ es)) none in let second = none_busy (is_free x) (count_of is_busy es) first.1 in
       absurd (not_two (is_free e) (is_free x) (apart (x ∷ es)) first.0 second.0 off)
