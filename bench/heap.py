@@ -3,11 +3,12 @@
 
 Usage: bench/heap.py [PROGRAM]   (the program dpv; by default ./dpv at the top of the repository)
 Prints one table: per script its commands, the time of one command (the best of three runs, less that of a script with no
-command), the machine instructions of one where perf can count them, and the same of rte_malloc with the ratio. The
-figures of dpv include reading the script and printing its answers.
+command), the machine instructions of one where perf or valgrind can count them, and the time of rte_malloc with the ratio.
+The figures of dpv include reading the script and printing its answers.
 """
 import pathlib
 import random
+import re
 import shutil
 import subprocess
 import sys
@@ -89,12 +90,17 @@ def timed(command: list[str]) -> float:
 
 
 def instructions(command: list[str]) -> int | None:
-    """How many machine instructions a run takes, where perf can say so."""
-    if not shutil.which("perf"):
-        return None
-    run = subprocess.run(["perf", "stat", "-x,", "-e", "instructions:u", *command], stdout=subprocess.DEVNULL, stderr=subprocess.PIPE, text=True)
-    count = run.stderr.strip().split(",")[0]
-    return int(count) if count.isdigit() else None
+    """How many machine instructions a run takes, where perf or valgrind can say so."""
+    tools = {
+        "perf": (["perf", "stat", "-x,", "-e", "instructions:u"], r"^(\d+),"),
+        "valgrind": (["valgrind", "--tool=callgrind", "--callgrind-out-file=/dev/null"], r"Collected : (\d+)"),
+    }
+    for tool, (words, pattern) in tools.items():
+        if shutil.which(tool):
+            run = subprocess.run([*words, *command], stdout=subprocess.DEVNULL, stderr=subprocess.PIPE, text=True)
+            if found := re.search(pattern, run.stderr, re.M):
+                return int(found.group(1))
+    return None
 
 
 def rte(folder: pathlib.Path) -> str | None:

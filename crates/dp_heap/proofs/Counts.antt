@@ -1,10 +1,11 @@
 -- How many elements are busy, after a block is taken and after one is freed.
-use Rattle.std.proofs.Common.{◌≡◌, ℕ, ◌+◌, ◌-◌, Bool, true, false, cond, ltb, ◌&&◌, List, [], ◌∷◌, ◌++◌, refl, sym, ap, ◌∙◌, arith}
+use Rattle.std.proofs.Common.{◌≡◌, ℕ, ◌+◌, ◌-◌, Bool, true, cond, ltb, ◌&&◌, List, [], ◌∷◌, ◌++◌, refl, ap, arith}
 use Rattle.std.specs.Prelude.{not, ◌==◌}
 use Rattle.std.proofs.lemmas.Bool.{cond_both, and_parts}
 use Rattle.dp_heap.specs.declared.elements.Element.{Element}
-use Rattle.dp_heap.specs.declared.elements.State.TheVariants.{Free, Busy}
-use Rattle.dp_heap.specs.Elements.{is_free, is_busy, end_of, data_of, spare, busy, pieces, both, freed, joined, onto, count_of, has_block}
+use Rattle.dp_heap.specs.declared.elements.State.TheVariants.{Free}
+use Rattle.dp_heap.specs.Elements.{is_free, is_busy, end_of, data_of, spare, busy, pieces, both, freed, joined, count_of}
+use Rattle.dp_heap.specs.Edits.{onto, has_block}
 
 abbrev out : List Element → ℕ
 out = count_of is_busy

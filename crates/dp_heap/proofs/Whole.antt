@@ -5,7 +5,8 @@ use Rattle.std.proofs.lemmas.Bool.{true≢false}
 use Rattle.dp_heap.specs.declared.elements.Element.{Element}
 use Rattle.dp_heap.specs.declared.elements.State.TheVariants.{Free}
 use Rattle.dp_heap.specs.Elements.{is_free, is_busy, count_of}
-use Rattle.dp_heap.specs.Laid.{Laid, Kept, apart}
+use Rattle.dp_heap.specs.Laid.{Laid, Kept}
+use Rattle.dp_heap.specs.Elements.{apart}
 use Rattle.dp_heap.proofs.Laid.{first_place}
 use Rattle.dp_heap.proofs.Undo.{is_open, open_same}
 

@@ -1,6 +1,7 @@
 //! Edits of the elements that lie in a region. Each is stated for the list of elements, wherever in it they stand.
 ghost use Rattle.std.specs.Prelude.{◌≡◌, ◌+◌, ◌-◌, ◌%◌, ◌<◌, ◌≤◌, List, [], ◌∷◌, ◌++◌, length};
-ghost use Rattle.dp_heap.specs.Elements.{joined, onto, Emptied, end_of, lower, upper, marked, both, below, above, spare, pieces, IsIn, Replaces};
+ghost use Rattle.dp_heap.specs.Elements.{joined, end_of, both, spare, pieces};
+ghost use Rattle.dp_heap.specs.Edits.{onto, Emptied, lower, upper, marked, below, above, IsIn, Replaces};
 ghost use Rattle.dp_heap.specs.Laid.{elements_in, IsLaid, IsHeap};
 ghost use Rattle.dp_heap.specs.declared.elements.Element.{Element as Item};
 
