@@ -1,6 +1,6 @@
 //! The region, as its owner has it.
 ghost use Rattle.std.specs.Prelude.{◌≡◌, ℕ, ◌+◌, ◌<◌, ◌≤◌, true, [], length, replicate, IfOk};
-ghost use Rattle.dp_region.specs.Spans.{Span, listed, IsUnlent, with_span, without_span, bytes_in, with_bytes};
+ghost use Rattle.dp_region.specs.Spans.{Span, listed, IsUnlent, with_span, without_span, Spaced, bytes_in, with_bytes};
 ghost use Rattle.dp_region.specs.Ownership.{Home, place_in};
 ghost use Rattle.dp_region.specs.Region.{IsRegionSize, IsFree, number_at, with_number, span_of};
 
@@ -73,6 +73,7 @@ impl Region {
         ensures block { result ≡ record { home = self.old.home; place = place; bytes = bytes_in self.old.bytes place len } }
         ensures long { length result.bytes ≡ len }
         ensures lent { self.new ≡ record self.old { lent = with_span (place, len) self.old.lent } }
+        ensures apart { Spaced 0 (length self.new.bytes) self.new.lent }
     {
         let (run, ticket) = replace_with(&mut self.cells, (place as usize, len as usize), take);
         let ptr = unsafe { self.ptr.byte_add(place as usize) };

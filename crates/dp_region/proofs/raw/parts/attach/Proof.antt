@@ -32,7 +32,7 @@ attach_spec 𝓤 𝓛 𝓜 𝓡 wired =
     regoal ! (λ vs. prop (WpFn 𝓤 𝓛.H 𝓣.C 𝓣.Λ code.function (ss ++ (vs ++ [])) (W.post y))) none refl $
     regoal ! (λ vs. prop (WpFn 𝓤 𝓛.H 𝓣.C 𝓣.Λ code.function (vs ++ (bare ∷ [])) (W.post y))) is refl $
     enter ! _ _ _ _ _ $ alloc_all ! (λ l. pass_all ! refl (as_fields (layout Owner ∷ []) (u ∷ []) (fits, tt), ((tt, tt), tt)) $
-    sets ! (of_opd ! (get_in ! (fld ! {τ = layout Owner} refl (stop !)) (sub ! 0 {τ = layout Owner} refl (whole !)))) refl fits $ sets ! (of_opd ! (get ! refl)) refl fits $
+    sets ! (of_opd ! (get_in ! (fld ! {τ = layout Owner} {d = 0} refl (stop !)) (sub ! 0 {τ = layout Owner} refl (whole !)))) refl fits $ sets ! (of_opd ! (get ! refl)) refl fits $
     returns ! (look_at ! 0 refl) $ free_all ! refl $
     suffices ! _ (ends_at 𝓛 f.ended stayed c y u v (tt, (tt, tt)) (tt, (tt, tt))) $ says ! items $
     nothing ! $ nothing ! $ join ! $ nothing ! $ join ! $ nothing ! $ group ! 3 $ done !))))

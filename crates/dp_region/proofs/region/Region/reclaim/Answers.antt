@@ -1,4 +1,4 @@
-use Rattle.std.proofs.Common.{◌≡◌, ℕ, ◌+◌, ◌≤◌, true, List, length, refl, sym, ap, ◌∙◌, arith}
+use Rattle.std.proofs.Common.{◌≡◌, ℕ, true, List, length, sym, ap, ◌∙◌, arith}
 use Rattle.dp_region.specs.Spans.{Span, listed, Spaced, with_bytes}
 use Rattle.dp_region.specs.Ownership.{place_in}
 use Rattle.dp_region.proofs.Spans.{listed_bounds}
