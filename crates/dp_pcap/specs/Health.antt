@@ -11,10 +11,10 @@ pub record State : Type 0 where
 abbrev pub fresh : State
 fresh = record { is_broken = false; calls = 0; failures = 0 }
 
--- behind one call more that was answered
-abbrev pub after_answer : State → State
-after_answer s = record s { calls = s.calls + 1 }
+-- behind one call more
+abbrev pub called : State → State
+called s = record s { calls = s.calls + 1 }
 
--- behind one call more that failed
-abbrev pub after_failure : State → State
-after_failure s = record { is_broken = true; calls = s.calls + 1; failures = s.failures + 1 }
+-- where that call failed
+abbrev pub failed : State → State
+failed s = record s { is_broken = true; failures = s.failures + 1 }

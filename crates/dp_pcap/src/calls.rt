@@ -20,7 +20,7 @@ impl Calls {
     pub fn new() -> Calls
         ensures { result.count ≡ 0 }
     {
-        Calls {}
+        Self {}
     }
 
     /// One call more.

@@ -1,6 +1,6 @@
 //! Whether a device is sound, and how often it was called.
 ghost use Rattle.std.specs.Prelude.{◌≡◌, true, false};
-ghost use Rattle.dp_pcap.specs.Health.{fresh, after_answer, after_failure};
+ghost use Rattle.dp_pcap.specs.Health.{fresh, called, failed};
 
 use crate::{Calls, Failed};
 use std::marker::Model;
@@ -41,18 +41,17 @@ impl Health {
         self.is_broken
     }
 
-    /// Counts a call that is answered.
-    pub fn answer(&mut self)
-        ensures { self.new ≡ after_answer self.old }
+    /// Counts a call.
+    pub fn call(&mut self)
+        ensures { self.new ≡ called self.old }
     {
         self.calls = self.calls.one_more();
     }
 
-    /// Counts a call that fails, and gives its answer. The device is broken from now on.
+    /// Counts the call as failed, and gives its answer. The device is broken from now on.
     pub fn fail(&mut self) -> Failed
-        ensures { self.new ≡ after_failure self.old }
+        ensures { self.new ≡ failed self.old }
     {
-        self.calls = self.calls.one_more();
         self.failures = self.failures.one_more();
         self.is_broken = true;
         Failed

@@ -1,0 +1,93 @@
+//! A sink that fails after a while, for tests.
+ghost use Rattle.std.specs.Prelude.{◌≡◌, ◌<◌};
+
+use crate::{Failed, Health, Sink};
+
+/// Passes a few bytes a call on to another [`Sink`], and fails behind a number of them.
+#[derive(Drop)]
+pub struct FailingSink<S> {
+    inner: S,
+    // The most bytes that a call passes on.
+    most: usize,
+    // How many bytes may still pass.
+    left: usize,
+    health: Health,
+    ghost some: { 0 < most },
+}
+
+impl<S: Sink> FailingSink<S> {
+    ghost use Rattle.dp_pcap.specs.Health.{fresh};
+    ghost use Rattle.dp_pcap.specs.Failing.{sink_inside, bytes_a_call, bytes_to_take, sink_health};
+
+    /// Passes at most `most` bytes a call on to `inner`, and fails behind `left` bytes.
+    pub fn new(inner: S, most: usize, left: usize) -> FailingSink<S>
+        requires { 0 < most }
+        ensures inner { sink_inside result ≡ inner }
+        ensures most { bytes_a_call result ≡ most }
+        ensures left { bytes_to_take result ≡ left }
+        ensures health { sink_health result ≡ fresh }
+    {
+        FailingSink {
+            inner,
+            most,
+            left,
+            health: Health::new(),
+        }
+    }
+
+    /// Gives the sink inside back.
+    pub fn into_inner(self) -> S
+        ensures { result ≡ sink_inside self }
+    {
+        let FailingSink {
+            inner,
+            most: _,
+            left: _,
+            health: _,
+        } = self;
+        inner
+    }
+}
+
+impl<S: Sink> Sink for FailingSink<S> {
+    ghost use Rattle.std.specs.Prelude.{◌≡◌, ◌+◌, ◌<◌, ◌≤◌, ◌↔◌, ◌⊎◌, length, IfOk, IsErr, IsTrue, OnErr, MatchResult};
+    ghost use Rattle.std.specs.Io.KnownBytes.{WriteAppends};
+    ghost use Rattle.dp_pcap.specs.Failing.{sink_inside, bytes_a_call, bytes_to_take, sink_health};
+
+    ghost is_broken = { λ d. d.health.is_broken };
+
+    ghost calls = { λ d. d.health.calls };
+
+    ghost failures = { λ d. d.health.failures };
+
+    ghost contents = { λ d. S.contents d.inner };
+
+    /// Fails only where it was broken, where no byte may pass any more, or where the sink inside failed.
+    fn push(&mut self, bytes: &[u8]) -> Result<usize, Failed>
+        ensures bound { IfOk result (λ n. n ≤ length bytes.now) }
+        ensures some { IfOk result (λ n. 0 < length bytes.now → 0 < n) }
+        ensures bytes { WriteAppends (S.contents (sink_inside self.old)) (S.contents (sink_inside self.new)) result bytes.now }
+        ensures failed { IsErr result ↔ IsTrue (sink_health self.new).is_broken }
+        ensures stays { IsTrue (sink_health self.old).is_broken → IsTrue (sink_health self.new).is_broken }
+        ensures counted { (sink_health self.new).calls ≡ (sink_health self.old).calls + 1 }
+        ensures failures { MatchResult result (λ _. (sink_health self.new).failures ≡ (sink_health self.old).failures)
+            (λ _. (sink_health self.new).failures ≡ (sink_health self.old).failures + 1) }
+        ensures most { IfOk result (λ n. n ≤ bytes_a_call self.old) }
+        ensures same { bytes_a_call self.new ≡ bytes_a_call self.old }
+        ensures left { IfOk result (λ n. bytes_to_take self.new + n ≡ bytes_to_take self.old) }
+        ensures cause { OnErr result (IsTrue (sink_health self.old).is_broken ⊎ (bytes_to_take self.old ≡ 0) ⊎ IsTrue (S.is_broken (sink_inside self.new))) }
+    {
+        self.health.call();
+        if self.health.is_broken() || self.left == 0 {
+            return Err(self.health.fail());
+        }
+        let most = bytes.len().min(self.left).min(self.most);
+        match self.inner.push(&bytes[..most]) {
+            Ok(n) => {
+                self.left -= n;
+                Ok(n)
+            }
+            Err(_) => Err(self.health.fail()),
+        }
+    }
+}

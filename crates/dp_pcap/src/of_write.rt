@@ -1,0 +1,58 @@
+//! A sink made of a writer of std.
+ghost use Rattle.std.specs.Prelude.{◌≡◌};
+
+use crate::{Failed, Health, Sink};
+use std::io::Write;
+
+/// A writer as a [`Sink`]. Its first error breaks it, and so does a write that takes nothing of bytes
+/// that are not empty. It is not asked again.
+#[derive(Drop)]
+pub struct OfWrite<W> {
+    inner: W,
+    health: Health,
+}
+
+impl<W: Write> OfWrite<W> {
+    ghost use Rattle.dp_pcap.specs.Health.{fresh};
+    ghost use Rattle.dp_pcap.specs.OfStd.{writer_inside, sink_health};
+
+    /// Takes a writer.
+    pub fn new(inner: W) -> OfWrite<W>
+        ensures inner { writer_inside result ≡ inner }
+        ensures health { sink_health result ≡ fresh }
+    {
+        OfWrite {
+            inner,
+            health: Health::new(),
+        }
+    }
+
+    /// Gives the writer back. It is not flushed.
+    pub fn into_inner(self) -> W
+        ensures { result ≡ writer_inside self }
+    {
+        let OfWrite { inner, health: _ } = self;
+        inner
+    }
+}
+
+impl<W: Write> Sink for OfWrite<W> {
+    ghost is_broken = { λ d. d.health.is_broken };
+
+    ghost calls = { λ d. d.health.calls };
+
+    ghost failures = { λ d. d.health.failures };
+
+    ghost contents = { λ d. W.contents d.inner };
+
+    fn push(&mut self, bytes: &[u8]) -> Result<usize, Failed> {
+        self.health.call();
+        if self.health.is_broken() {
+            return Err(self.health.fail());
+        }
+        match self.inner.write(bytes) {
+            Ok(n) if n > 0 || bytes.is_empty() => Ok(n),
+            _ => Err(self.health.fail()),
+        }
+    }
+}
