@@ -1,1 +1,11 @@
+pub mod Arguments
+pub mod Causes
+pub mod Forms
+pub mod LabelMaps
+pub mod Lines
+pub mod Printing
 pub mod Programs
+pub mod Reading
+pub mod Sources
+pub mod Spelling
+pub mod Views

@@ -1,0 +1,5 @@
+use Rattle.dp_lang.proofs.Labelled.{AreNamed}
+use Rattle.dp_lang.proofs.printer.named_labels.Given as goal
+
+abbrev pub invariant-loop-instr : goal.invariant-loop-instr
+invariant-loop-instr l = AreNamed l.instrs l.instr-index l.named.items

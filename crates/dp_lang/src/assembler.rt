@@ -1,0 +1,56 @@
+// From a text to its program.
+
+ghost use Rattle.std.specs.Prelude.{map, IfErr, IfOk};
+ghost use Rattle.dp_lang.specs.Reading.{Fails, Reads, lines_of, nothing};
+ghost use Rattle.dp_lang.specs.Sources as view;
+ghost use Rattle.dp_lang.specs.Views.{Gives};
+
+use crate::cause::{AsmError, Cause, Fault};
+use crate::cut;
+use crate::labels::Labels;
+use crate::program::Program;
+use crate::reader::add_line;
+use crate::resolve::instrs_of;
+use crate::source::Source;
+use std::alloc::Global;
+
+/// What the lines give, or the first line with a fault.
+fn read_lines<'a>(alloc: Global, lines: &[&'a [u8]]) -> Result<Source<'a>, AsmError>
+    ensures { Gives view.source result (lines_of 1 nothing (map (λ line. line.now) lines.now)) }
+{
+    let mut source = Source {
+        labels: Labels::new(alloc),
+        statements: Vec::new(alloc),
+    };
+    for (i, text) in lines.iter().enumerate() {
+        let line = i + 1;
+        match add_line(alloc, &mut source, line, text)? {
+            Ok(()) => {}
+            Err(cause) => return Err(AsmError::Fault(Fault { line, cause })),
+        }
+    }
+    Ok(source)
+}
+
+/// The program that a text reads as, or the line and the cause of the first fault. What a text reads as stands in
+/// docs/language.md.
+///
+/// # Errors
+///
+/// `AsmError::Fault` exactly where the text is no program, and `AsmError::Memory` where a growth was refused.
+#[tactic(auto, unfolding(crate::specs::Reading::program_of))]
+pub fn assemble(alloc: Global, text: &[u8]) -> Result<Program, AsmError>
+    ensures program { IfOk result (Reads text.now) }
+    ensures fault { IfErr result (Fails text.now) }
+{
+    let lines = cut::split(alloc, text, b'\n')?;
+    let source = read_lines(alloc, &lines)?;
+    let instrs = instrs_of(alloc, &source)?;
+    if instrs.is_empty() {
+        return Err(AsmError::Fault(Fault {
+            line: 0,
+            cause: Cause::Size,
+        }));
+    }
+    Ok(Program::of(instrs))
+}

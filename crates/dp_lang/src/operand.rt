@@ -1,0 +1,120 @@
+// What an operand of a kind is.
+
+ghost use Rattle.std.specs.Prelude.{◌≡◌, ◌<◌, ℕ, IfSome, Some, MatchOption};
+ghost use Rattle.std.specs.List.{list_all};
+ghost use Rattle.dp_lang.specs.Arguments.{constant};
+ghost use Rattle.dp_lang.specs.Forms as spec;
+ghost use Rattle.dp_lang.specs.Views.{argument, Shows};
+
+use crate::argument::Named;
+use crate::cause::Cause;
+use crate::form::Kind;
+
+/// The number of a register: its letter, and a digit from 0 to 7.
+#[tactic(auto, unfolding(crate::specs::Forms::register_in))]
+fn register_in(letter: u8, part: &[u8]) -> Option<u8>
+    ensures value { result ≡ spec.register_in letter part.now }
+    ensures range { IfSome result (λ index. index < 8) }
+{
+    match part {
+        [first, digit @ b'0'..=b'7'] if *first == letter => Some(*digit - b'0'),
+        _ => None,
+    }
+}
+
+/// The number that digits stand for, if it has at most 64 bits.
+fn numeral(radix: u8, digits: &[u8]) -> Option<u64>
+    requires above { 1 < radix }
+    requires below { radix < 37 }
+    ensures { MatchOption result ((n : ℕ) → spec.numeral radix digits.now ≡ Some n → 18446744073709551615 < n) (λ n. spec.numeral radix digits.now ≡ Some n) }
+{
+    if digits.is_empty() {
+        return None;
+    }
+    let mut value = 0u64;
+    for digit in digits {
+        let digit = char::from(*digit).to_digit(u32::from(radix))?;
+        value = value
+            .checked_mul(u64::from(radix))?
+            .checked_add(u64::from(digit))?;
+    }
+    Some(value)
+}
+
+#[tactic(auto, unfolding(crate::specs::Forms::number_in))]
+fn number_in(part: &[u8]) -> Option<u64>
+    ensures { MatchOption result ((n : ℕ) → spec.number_in part.now ≡ Some n → 18446744073709551615 < n) (λ n. spec.number_in part.now ≡ Some n) }
+{
+    match part {
+        [b'0', b'x', digits @ ..] => numeral(16, digits),
+        _ => numeral(10, part),
+    }
+}
+
+fn is_letter(b: u8) -> bool
+    ensures { result ≡ spec.is_letter b }
+{
+    b.is_ascii_alphabetic() || b == b'_'
+}
+
+fn are_letters_or_digits(bytes: &[u8]) -> bool
+    ensures { result ≡ list_all spec.is_letter_or_digit bytes.now }
+{
+    bytes
+        .iter()
+        .all(|b| b.is_ascii_alphanumeric() || *b == b'_')
+}
+
+pub fn is_name(part: &[u8]) -> bool
+    ensures { result ≡ spec.is_name part.now }
+{
+    match part {
+        [] => false,
+        [first, rest @ ..] => {
+            is_letter(*first) && are_letters_or_digits(rest) && part.len() <= 31
+        }
+    }
+}
+
+fn number_within(least: u64, most: u64, part: &[u8]) -> Result<u64, Cause>
+    ensures { Shows (λ n. constant n) result (spec.number_where (spec.is_within least most) (spec.number_in part.now)) }
+{
+    match number_in(part) {
+        Some(n) if least <= n && n <= most => Ok(n),
+        _ => Err(Cause::BadNumber),
+    }
+}
+
+fn width(part: &[u8]) -> Result<u64, Cause>
+    ensures { Shows (λ n. constant n) result (spec.number_where spec.is_width (spec.number_in part.now)) }
+{
+    match number_in(part) {
+        Some(n @ (1 | 2 | 4 | 8)) => Ok(n),
+        _ => Err(Cause::BadNumber),
+    }
+}
+
+/// What a part of a text is as an operand of a kind.
+#[tactic(auto, unfolding(crate::specs::Forms::argument_of))]
+pub fn argument_of<'a>(kind: Kind, part: &'a [u8]) -> Result<Named<'a>, Cause>
+    ensures { Shows argument result (spec.argument_of kind part.now) }
+{
+    match kind {
+        Kind::Packet => match register_in(b'p', part) {
+            Some(index) => Ok(Named::Packet(index)),
+            None => Err(Cause::BadRegister),
+        },
+        Kind::Register => match register_in(b'r', part) {
+            Some(index) => Ok(Named::Register(index)),
+            None => Err(Cause::BadRegister),
+        },
+        Kind::Number { least, most } => Ok(Named::Constant(number_within(least, most, part)?)),
+        Kind::Width => Ok(Named::Constant(width(part)?)),
+        Kind::RegisterOrConstant => match register_in(b'r', part) {
+            Some(index) => Ok(Named::Register(index)),
+            None => Ok(Named::Constant(number_within(0, u64::MAX, part)?)),
+        },
+        Kind::Label if is_name(part) => Ok(Named::Name(part)),
+        Kind::Label => Err(Cause::BadLabel),
+    }
+}

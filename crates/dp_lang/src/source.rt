@@ -1,0 +1,14 @@
+// What the lines of a text give.
+
+ghost use Rattle.std.specs.Prelude.{◌≤◌, vec_len};
+
+use crate::labels::Labels;
+use crate::statement::Statement;
+
+/// The labels and the instructions of the lines so far.
+#[derive(Drop)]
+pub struct Source<'a> {
+    pub labels: Labels<'a>,
+    pub statements: Vec<Statement<'a>>,
+    ghost few: { vec_len statements ≤ 1024 },
+}

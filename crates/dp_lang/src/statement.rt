@@ -1,0 +1,17 @@
+// Statements: instructions as their text gives them.
+
+ghost use Rattle.std.specs.Prelude.{◌≡◌, true, map};
+ghost use Rattle.dp_lang.specs.Forms.{all_of, kinds_of};
+ghost use Rattle.dp_lang.specs.Views.{argument};
+
+use crate::argument::Named;
+use crate::form::Form;
+
+/// An instruction, as the text gives it in a line.
+#[derive(Drop)]
+pub struct Statement<'a> {
+    pub line: usize,
+    pub form: Form,
+    pub arguments: Vec<Named<'a>>,
+    ghost fits: { all_of (kinds_of form) (map argument arguments.items) ≡ true },
+}
