@@ -117,6 +117,15 @@ fn first_fault(program: &[Instr], rows: &[Row], env: &Env, entry: Entry) -> Opti
     None
 }
 
+/// Why a program would be refused: the least failing label and its first failing rule, or nothing where it would be
+/// accepted. This is what `check` finds, for one who only wants to know.
+pub fn fault_of(program: &Program, cert: &Cert, env: &Env, entry: Entry) -> Option<(u16, Rule)>
+    ensures none { IfNone result (IsAccepted (question program.now cert.now env.now entry)) }
+    ensures some { IfSome result (λ f. IsRefused (question program.now cert.now env.now entry) f.0 f.1) }
+{
+    first_fault(program.instrs(), cert.rows(), env, entry)
+}
+
 /// Whether a program may be run in an environment at an entry, as its certificate shows. Each instruction is looked
 /// at once, and nothing is allocated.
 ///

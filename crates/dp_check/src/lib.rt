@@ -5,4 +5,4 @@
 mod checked;
 mod rules;
 
-pub use checked::{Checked, Refused, check};
+pub use checked::{Checked, Refused, check, fault_of};

@@ -1,0 +1,134 @@
+//! Programs, environments and certificates that the tests share.
+
+use dp_cert::{Cert, CertError, decode};
+use dp_check::check;
+use dp_infer::{InferError, infer};
+use dp_lang::{Program, assemble};
+use dp_model::{Entry, Env, Fact, PoolSpec, PortSpec, RingSpec};
+use std::test::Fail;
+
+pub const STRIP: &str = "iflen p0,14,L4\nadj p0,14\ntx p0,r0,L4\nexit\nL4:\nfree p0\nexit\n";
+
+pub const FORWARD: &str = "tx p0,r0,d\nexit\nd: free p0\nexit\n";
+
+pub const LOOP: &str = "enq p0,0,d\nexit\nd: free p0\nexit\n";
+
+pub const MULTICAST: &str =
+    "alloc p1,0,a\nappend p1,4\nset r1,0x0a0b0c0d\nstore p1,0,4,r1\nclone p2,p0,1,b\nclone p3,p0,1,c\nfree p0\nchain p1,p2\nset r2,1\ntx p1,r2,d\ntx p3,r0,e\nexit\nd: free p1\ne: free p3\nexit\nc: free p2\nb: free p1\na: free p0\nexit\n";
+
+/// Each of the 32 forms at least once.
+pub const ALL_FORMS: &str =
+    "ifhead p0,64,out\niftail p0,4,out\niflen p0,14,out\niflast p0,14,out\nload r1,p0,12,2\nand r1,7\nloadx r2,p0,r1,2,4\nstore p0,0,4,r2\nstorex p0,r1,2,4,r2\nset r3,5\nmov r4,r3\nadd r4,r3\nsub r4,1\nor r3,2\nxor r3,r3\nshl r3,1\nshr r3,1\njeq r3,7,out\njlt r3,2,out\nlookup r5,0,r2,out\nprepend p0,4\nadj p0,4\nappend p0,2\ntrim p0,2\nclone p1,p0,0,out\nfree p1\nalloc p1,0,out\nchain p1,p0\nenq p1,0,drop\nexit\ndrop: free p1\nexit\nout: jmp end\nend: tx p0,r0,left\nexit\nleft: free p0\nexit\n";
+
+/// The digits of the rows of strip's certificate, without the zeros behind them.
+const STRIP_ROWS: [&str; 6] = [
+    "010102008000000000000001",
+    "01010200800000000e000001",
+    "010102008e00000000000001",
+    "01",
+    "010102008000000000000001",
+    "01",
+];
+
+/// A fact that promises nothing but a packet.
+const ANY_PACKET: Fact = Fact::Held {
+    share: 0,
+    head: 0,
+    tail: 0,
+    first: 0,
+    last: 0,
+    segs: 64,
+};
+
+/// One pool, one table, one ring and one port that takes packets of so many segments.
+pub fn environment(segs: u32) -> Result<Env, Fail> {
+    Ok(Env::new(
+        &[PoolSpec {
+            count: 64,
+            cache: 0,
+            room: 2176,
+        }],
+        1,
+        &[RingSpec {
+            count: 4,
+            fact: ANY_PACKET,
+        }],
+        &[PortSpec {
+            pool: 0,
+            segs,
+            queue: 32,
+        }],
+    )?)
+}
+
+/// Two pools, of which the second has buffers without room, and two ports.
+pub fn two_ports() -> Result<Env, Fail> {
+    let pools = [
+        PoolSpec {
+            count: 4,
+            cache: 0,
+            room: 2176,
+        },
+        PoolSpec {
+            count: 4,
+            cache: 0,
+            room: 0,
+        },
+    ];
+    let port = PortSpec {
+        pool: 0,
+        segs: 1,
+        queue: 4,
+    };
+    Ok(Env::new(&pools, 0, &[], &[port, port])?)
+}
+
+/// The program of a text.
+pub fn program(rt: &HostRuntime, text: &str) -> Result<Program, Fail> {
+    Ok(assemble(rt.alloc(), text.as_bytes())?)
+}
+
+/// The certificate of a text, at port 0.
+pub fn inferred(rt: &HostRuntime, text: &str, env: &Env) -> Result<Cert, Fail> {
+    Ok(infer(rt.alloc(), &program(rt, text)?, env, Entry::Port(0))?)
+}
+
+/// The rule for which there is no certificate at port 0, or 0.
+pub fn missing(rt: &HostRuntime, text: &str, env: &Env) -> Result<u8, Fail> {
+    match infer(rt.alloc(), &program(rt, text)?, env, Entry::Port(0)) {
+        Ok(_) => Ok(0),
+        Err(InferError::NoCert { rule, .. }) => Ok(rule),
+        Err(InferError::Memory) => Ok(99),
+    }
+}
+
+/// The label and the rule that refuse the program at an entry, or nothing.
+pub fn refusal(program: Program, cert: Cert, env: &Env, entry: Entry) -> Option<(u16, u8)> {
+    match check(program, cert, env, entry) {
+        Ok(_) => None,
+        Err(refused) => Some((refused.label, refused.rule)),
+    }
+}
+
+/// Strip's certificate, where one row may have other digits.
+pub fn strip_text(rt: &HostRuntime, label: usize, digits: &str) -> Result<String, Fail> {
+    let mut text = String::from_str(rt.alloc(), "dpv-cert 1\n")?;
+    for (k, row) in STRIP_ROWS.iter().enumerate() {
+        let row = if k == label { digits } else { *row };
+        text.push_str(row)?;
+        for _ in row.len()..306 {
+            text.push('0')?;
+        }
+        text.push('\n')?;
+    }
+    Ok(text)
+}
+
+/// The line and the cause for which a text of n rows is no certificate, or nothing.
+pub fn fault(rt: &HostRuntime, text: &[u8], n: usize) -> Option<(usize, u8)> {
+    match decode(rt.alloc(), text, n) {
+        Ok(_) => None,
+        Err(CertError::Fault(fault)) => Some((fault.line, fault.cause.number())),
+        Err(CertError::Memory) => Some((0, 0)),
+    }
+}

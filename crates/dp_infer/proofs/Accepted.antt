@@ -1,0 +1,49 @@
+-- What accepted means, rule by rule.
+use Rattle.std.proofs.Common.{◌≡◌, ℕ, zero, suc, Bool, true, false, not, cond, List, [], ◌∷◌, Some, None, refl}
+use Rattle.std.specs.List.{find, list_all, AllByRecursion}
+use Rattle.std.proofs.lemmas.Bool.{and_parts}
+use Rattle.dp_model.specs.declared.rule.Rule.{Rule}
+use Rattle.dp_model.specs.declared.rule.Rule.TheVariants.{J1, J2}
+use Rattle.dp_model.specs.Rules.{Question, holds, later_rules, IsAccepted}
+use Rattle.dp_infer.proofs.Stronger.{both_are}
+
+found_holds : (b : Bool) (test : Rule → Bool) (rule : Rule) (rules : List Rule) → test rule ≡ b → cond (not b) (Some rule) (find (λ r. not (test r)) rules) ≡ None
+    → (find (λ r. not (test r)) rules ≡ None → list_all test rules ≡ true) → list_all test (rule ∷ rules) ≡ true
+found_holds true test rule rules is e more = both_are is (more e)
+found_holds false test rule rules is e more = absurd cc
+
+find_holds : (test : Rule → Bool) (rules : List Rule) → find (λ rule. not (test rule)) rules ≡ None → list_all test rules ≡ true
+find_holds test [] e = refl
+find_holds test (rule ∷ rules) e = found_holds (test rule) test rule rules refl e (find_holds test rules)
+
+find_none : (test : Rule → Bool) (rules : List Rule) → list_all test rules ≡ true → find (λ rule. not (test rule)) rules ≡ None
+find_none test [] e = refl
+find_none test (rule ∷ rules) e =
+    let (here, rest) = and_parts (test rule) (list_all test rules) e in
+    rw here (find_none test rules rest)
+
+-- an accepted question passes the first two rules, and the others at each label
+pub first_rule : (q : Question) → IsAccepted q → holds q 0 J1 ≡ true
+first_rule q accepted = (and_parts (holds q 0 J1) (list_all (holds q 0) (J2 ∷ later_rules)) (find_holds (holds q 0) (J1 ∷ J2 ∷ later_rules) (accepted 0))).0
+
+pub second_rule : (q : Question) → IsAccepted q → holds q 0 J2 ≡ true
+second_rule q accepted =
+    let all = find_holds (holds q 0) (J1 ∷ J2 ∷ later_rules) (accepted 0) in
+    let later = (and_parts (holds q 0 J1) (list_all (holds q 0) (J2 ∷ later_rules)) all).1 in
+    (and_parts (holds q 0 J2) (list_all (holds q 0) later_rules) later).0
+
+pub each_rule : (q : Question) (label : ℕ) → IsAccepted q → list_all (holds q label) later_rules ≡ true
+each_rule q zero accepted =
+    let all = find_holds (holds q 0) (J1 ∷ J2 ∷ later_rules) (accepted 0) in
+    let later = (and_parts (holds q 0 J1) (list_all (holds q 0) (J2 ∷ later_rules)) all).1 in
+    (and_parts (holds q 0 J2) (list_all (holds q 0) later_rules) later).1
+each_rule q (suc label) accepted = find_holds (holds q (suc label)) later_rules (accepted (suc label))
+
+-- and is accepted where it does
+pub is_accepted : (q : Question) → holds q 0 J1 ≡ true → holds q 0 J2 ≡ true → ((label : ℕ) → list_all (holds q label) later_rules ≡ true) → IsAccepted q
+is_accepted q one two later zero = find_none (holds q 0) (J1 ∷ J2 ∷ later_rules) (both_are one (both_are two (later 0)))
+is_accepted q one two later (suc label) = find_none (holds q (suc label)) later_rules (later (suc label))
+
+pub all_from : {A : Type 0} (test : A → Bool) (xs : List A) → list_all test xs ≡ true → AllByRecursion (λ x. test x ≡ true) xs
+all_from test [] e = tt
+all_from test (x ∷ xs) e = let (here, rest) = and_parts (test x) (list_all test xs) e in (here, all_from test xs rest)

@@ -1,0 +1,12 @@
+pub mod Stronger
+pub mod Pairs
+pub mod Numbers
+pub mod RowsAfter
+pub mod RulesKeep
+pub mod JoinLaws
+pub mod Reach
+pub mod Accepted
+pub mod Spread
+pub mod Infers
+pub mod Passing
+pub mod LawAnswers

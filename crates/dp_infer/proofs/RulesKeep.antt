@@ -1,0 +1,162 @@
+-- A rule that holds of a row holds of every row that says all that it does.
+use Rattle.std.proofs.Common.{◌≡◌, ℕ, zero, suc, ◌+◌, ◌≤◌, Bool, true, false, ◌&&◌, ◌||◌, ◌==◌, List, [], ◌∷◌, length, Option, Some, None, refl, ap, ◌∙◌, arith}
+use Rattle.std.specs.Prelude.{nat_le, is_some, slice_get}
+use Rattle.std.specs.List.{AllZip, list_all}
+use Rattle.std.specs.Option.{option_map_or}
+use Rattle.std.proofs.Math.Bool.{or-true}
+use Rattle.std.proofs.lemmas.Bool.{leb-true, le-leb, and_parts, eq-eqb}
+use Rattle.std.proofs.lemmas.Bool.Decides.{Decides-eqb}
+use Rattle.dp_model.specs.declared.row.Fact.{Fact}
+use Rattle.dp_model.specs.declared.row.Fact.TheVariants.{Empty, Held}
+use Rattle.dp_model.specs.declared.row.Row.{Row}
+use Rattle.dp_model.specs.declared.after.Lead.{Lead}
+use Rattle.dp_model.specs.declared.registers.Operand.TheVariants.{Register}
+use Rattle.dp_model.specs.declared.instr.Instr.{Instr}
+use Rattle.dp_model.specs.declared.instr.Instr.TheVariants.{Alloc, Clone, Prepend, Adj, Append, Trim, Chain, Load, Store, LoadX, StoreX, Tx, Enq, Exit}
+use Rattle.dp_model.specs.Arithmetic.{bytes_in}
+use Rattle.dp_model.specs.Environments.{Environment}
+use Rattle.dp_model.specs.Rows.{Holding, holding, held_at, bound, entails_option, fact_of_ring, is_empty}
+use Rattle.dp_model.specs.Rules.{holds_with, is_held, is_empty_at, targets_fit, bytes_fit, share_fits, segments_fit, may_leave, may_end}
+use Rattle.dp_infer.proofs.Stronger.{StrongerHolding, StrongerOption, StrongerFact, Stronger, both_are, stronger_option, option_test, option_further, bound_at, held_both}
+use Rattle.dp_infer.proofs.RowsAfter.{AreWellFormed, StrongerLead, facts_segs}
+
+-- ---- tests of a packet
+
+holds_go : (test test' : Holding → Bool) (x y : Option Holding) → StrongerOption x y
+    → ((h k : Holding) → x ≡ Some h → StrongerHolding h k → test' k ≡ true → test h ≡ true)
+    → option_map_or test' y false ≡ true → option_map_or test x false ≡ true
+holds_go test test' None None o each e = e
+holds_go test test' (Some x) (Some y) o each e = each x y refl o e
+holds_go test test' None (Some y) o each e = absurd o
+holds_go test test' (Some x) None o each e = absurd o
+
+holds_keeps : (a b : Row) (p : ℕ) (test test' : Holding → Bool) → Stronger a b → AreWellFormed a
+    → ((h k : Holding) → 1 ≤ h.segs → StrongerHolding h k → test' k ≡ true → test h ≡ true)
+    → holds_with b p test' ≡ true → holds_with a p test ≡ true
+holds_keeps a b p test test' s fits each e =
+    holds_go test test' (held_at a p) (held_at b p) (held_both a b p s) (λ h k is. each h k (facts_segs a.facts p h fits is)) e
+
+-- at most a number that is at least as great
+le_keeps : (m n n' : ℕ) → n' ≤ n → nat_le m n' ≡ true → nat_le m n ≡ true
+le_keeps m n n' le e = le-leb m n (omega (arith, leb-true m n' e))
+
+below_keeps : (m m' n : ℕ) → m ≤ m' → nat_le m' n ≡ true → nat_le m n ≡ true
+below_keeps m m' n le e = le-leb m n (omega (arith, leb-true m' n e))
+
+-- ---- held and empty registers
+
+some_keeps : (x y : Option Holding) → StrongerOption x y → is_some y ≡ true → is_some x ≡ true
+some_keeps None None o e = e
+some_keeps (Some x) y o e = refl
+some_keeps None (Some y) o e = absurd o
+
+held_keeps : (a b : Row) (p : ℕ) → Stronger a b → is_held b p ≡ true → is_held a p ≡ true
+held_keeps a b p s e = some_keeps (held_at a p) (held_at b p) (held_both a b p s) e
+
+pub all_held_keeps : (a b : Row) (ps : List ℕ) → Stronger a b → list_all (is_held b) ps ≡ true → list_all (is_held a) ps ≡ true
+all_held_keeps a b [] s e = refl
+all_held_keeps a b (p ∷ ps) s e =
+    let (here, rest) = and_parts (is_held b p) (list_all (is_held b) ps) e in
+    both_are (held_keeps a b p s here) (all_held_keeps a b ps s rest)
+
+empty_keeps : (f g : Fact) → StrongerFact f g → is_empty g ≡ true → is_empty f ≡ true
+empty_keeps Empty g o e = refl
+empty_keeps (Held share head tail first last segs) Empty o e = absurd o
+empty_keeps (Held share head tail first last segs) (Held s h t f l n) o e = absurd cc
+
+empty_at_go : (fs gs : List Fact) (p : ℕ) → AllZip StrongerFact fs gs → option_map_or is_empty (slice_get gs p) false ≡ true → option_map_or is_empty (slice_get fs p) false ≡ true
+empty_at_go [] [] p o e = e
+empty_at_go (f ∷ fs) (g ∷ gs) zero o e = empty_keeps f g o.0 e
+empty_at_go (f ∷ fs) (g ∷ gs) (suc p) o e = empty_at_go fs gs p o.1 e
+empty_at_go [] (g ∷ gs) p o e = absurd o
+empty_at_go (f ∷ fs) [] p o e = absurd o
+
+empty_at_keeps : (a b : Row) (p : ℕ) → Stronger a b → is_empty_at b p ≡ true → is_empty_at a p ≡ true
+empty_at_keeps a b p s e = empty_at_go a.facts b.facts p s.facts e
+
+all_empty_keeps : (fs gs : List Fact) → AllZip StrongerFact fs gs → list_all is_empty gs ≡ true → list_all is_empty fs ≡ true
+all_empty_keeps [] [] o e = refl
+all_empty_keeps (f ∷ fs) (g ∷ gs) o e =
+    let (here, rest) = and_parts (is_empty g) (list_all is_empty gs) e in
+    both_are (empty_keeps f g o.0 here) (all_empty_keeps fs gs o.1 rest)
+all_empty_keeps [] (g ∷ gs) o e = absurd o
+all_empty_keeps (f ∷ fs) [] o e = absurd o
+
+-- ---- the rules
+
+pub targets_keep : (a b : Row) (i : Instr) → Stronger a b → targets_fit b i ≡ true → targets_fit a i ≡ true
+targets_keep a b (Alloc p pool l) s e = empty_at_keeps a b p s e
+targets_keep a b (Clone p q pool l) s e = empty_at_keeps a b p s e
+targets_keep a b (Chain p q) s e = e
+targets_keep a b _ s e = refl
+
+-- at a place that is added to the offset
+from_keeps : (a b : Row) (p x off n : ℕ) → Stronger a b → AreWellFormed a
+    → holds_with b p (λ h. nat_le (bound b (Register x) + off + n) h.first) ≡ true → holds_with a p (λ h. nat_le (bound a (Register x) + off + n) h.first) ≡ true
+from_keeps a b p x off n s fits e =
+    holds_keeps a b p (λ h. nat_le (bound a (Register x) + off + n) h.first) (λ h. nat_le (bound b (Register x) + off + n) h.first) s fits
+    (λ h k some m t. le-leb (bound a (Register x) + off + n) h.first (omega (arith, bound_at a b (Register x) s, m.first, leb-true (bound b (Register x) + off + n) k.first t))) e
+
+pub bytes_keep : (a b : Row) (i : Instr) → Stronger a b → AreWellFormed a → bytes_fit b i ≡ true → bytes_fit a i ≡ true
+bytes_keep a b (Prepend p n) s fits e = holds_keeps a b p (λ h. nat_le n h.head) (λ h. nat_le n h.head) s fits (λ h k some m t. le_keeps n h.head k.head m.head t) e
+bytes_keep a b (Adj p n) s fits e = holds_keeps a b p (λ h. nat_le n h.first) (λ h. nat_le n h.first) s fits (λ h k some m t. le_keeps n h.first k.first m.first t) e
+bytes_keep a b (Append p n) s fits e = holds_keeps a b p (λ h. nat_le n h.tail) (λ h. nat_le n h.tail) s fits (λ h k some m t. le_keeps n h.tail k.tail m.tail t) e
+bytes_keep a b (Trim p n) s fits e = holds_keeps a b p (λ h. nat_le n h.last) (λ h. nat_le n h.last) s fits (λ h k some m t. le_keeps n h.last k.last m.last t) e
+bytes_keep a b (Load r p off w) s fits e =
+    holds_keeps a b p (λ h. nat_le (off + bytes_in w) h.first) (λ h. nat_le (off + bytes_in w) h.first) s fits (λ h k some m t. le_keeps (off + bytes_in w) h.first k.first m.first t) e
+bytes_keep a b (Store p off w r) s fits e =
+    holds_keeps a b p (λ h. nat_le (off + bytes_in w) h.first) (λ h. nat_le (off + bytes_in w) h.first) s fits (λ h k some m t. le_keeps (off + bytes_in w) h.first k.first m.first t) e
+bytes_keep a b (LoadX r p x off w) s fits e = from_keeps a b p x off (bytes_in w) s fits e
+bytes_keep a b (StoreX p x off w r) s fits e = from_keeps a b p x off (bytes_in w) s fits e
+bytes_keep a b _ s fits e = refl
+
+append_test : (h k : Holding) → 1 ≤ h.segs → StrongerHolding h k → (nat_le 2 k.share || (nat_le 1 k.share && (k.segs == 1))) ≡ true → (nat_le 2 h.share || (nat_le 1 h.share && (h.segs == 1))) ≡ true
+append_test h k some m e = go (nat_le 2 k.share) refl e
+  where
+    go : (t : Bool) → nat_le 2 k.share ≡ t → (t || (nat_le 1 k.share && (k.segs == 1))) ≡ true → (nat_le 2 h.share || (nat_le 1 h.share && (h.segs == 1))) ≡ true
+    go true is e = rw (le_keeps 2 h.share k.share m.share is) refl
+    go false is e =
+        let (one, single) = and_parts (nat_le 1 k.share) (k.segs == 1) e in
+        let segs : k.segs ≡ 1 = (Decides-eqb k.segs 1).0 single in
+        let same : h.segs ≡ 1 = omega (arith, m.segs) in
+        rw (le_keeps 1 h.share k.share m.share one, eq-eqb h.segs 1 same) (or-true (nat_le 2 h.share))
+
+pub share_keeps : (a b : Row) (i : Instr) → Stronger a b → AreWellFormed a → share_fits b i ≡ true → share_fits a i ≡ true
+share_keeps a b (Prepend p n) s fits e = holds_keeps a b p (λ h. nat_le 1 h.share) (λ h. nat_le 1 h.share) s fits (λ h k some m t. le_keeps 1 h.share k.share m.share t) e
+share_keeps a b (Store p off w r) s fits e = holds_keeps a b p (λ h. nat_le 1 h.share) (λ h. nat_le 1 h.share) s fits (λ h k some m t. le_keeps 1 h.share k.share m.share t) e
+share_keeps a b (StoreX p x off w r) s fits e = holds_keeps a b p (λ h. nat_le 1 h.share) (λ h. nat_le 1 h.share) s fits (λ h k some m t. le_keeps 1 h.share k.share m.share t) e
+share_keeps a b (Append p n) s fits e =
+    holds_keeps a b p (λ h. nat_le 2 h.share || (nat_le 1 h.share && (h.segs == 1))) (λ h. nat_le 2 h.share || (nat_le 1 h.share && (h.segs == 1))) s fits append_test e
+share_keeps a b _ s fits e = refl
+
+pub segments_keep : (a b : Row) (i : Instr) → Stronger a b → AreWellFormed a → segments_fit b i ≡ true → segments_fit a i ≡ true
+segments_keep a b (Chain p q) s fits e =
+    holds_keeps a b p (λ h. holds_with a q (λ t. nat_le (h.segs + t.segs) 64)) (λ h. holds_with b q (λ t. nat_le (h.segs + t.segs) 64)) s fits
+    (λ h k some m t. holds_keeps a b q (λ u. nat_le (h.segs + u.segs) 64) (λ u. nat_le (k.segs + u.segs) 64) s fits
+    (λ u v more o r. below_keeps (h.segs + u.segs) (k.segs + v.segs) 64 (omega (arith, m.segs, o.segs)) r) t) e
+segments_keep a b _ s fits e = refl
+
+ring_keeps : (a b : Row) (p : ℕ) (declared : Option Fact) → Stronger a b
+    → option_map_or (λ fact. entails_option (held_at b p) (holding fact)) declared false ≡ true → option_map_or (λ fact. entails_option (held_at a p) (holding fact)) declared false ≡ true
+ring_keeps a b p None s e = e
+ring_keeps a b p (Some fact) s e =
+    option_test (held_at a p) (holding fact) (option_further (held_at a p) (held_at b p) (holding fact) (held_both a b p s) (stronger_option (held_at b p) (holding fact) e))
+
+pub leave_keeps : (env : Environment) (a b : Row) (i : Instr) → Stronger a b → may_leave env b i ≡ true → may_leave env a i ≡ true
+leave_keeps env a b (Tx p r l) s e =
+    below_keeps (suc (bound a (Register r))) (suc (bound b (Register r))) (length env.ports) (omega (arith, bound_at a b (Register r) s)) e
+leave_keeps env a b (Enq p ring l) s e = ring_keeps a b p (fact_of_ring env.rings ring) s e
+leave_keeps env a b _ s e = refl
+
+pub end_keeps : (a b : Row) (i : Instr) → Stronger a b → may_end b i ≡ true → may_end a i ≡ true
+end_keeps a b Exit s e = all_empty_keeps a.facts b.facts s.facts e
+end_keeps a b _ s e = refl
+
+-- the labels to which an instruction leads are the same
+pub labels_keep : (test : ℕ → Bool) (xs ys : List Lead) → AllZip StrongerLead xs ys → list_all (λ to. test to.to) ys ≡ true → list_all (λ to. test to.to) xs ≡ true
+labels_keep test [] [] z e = refl
+labels_keep test (x ∷ xs) (y ∷ ys) z e =
+    let (here, rest) = and_parts (test y.to) (list_all (λ to. test to.to) ys) e in
+    both_are (ap test z.0.0 ∙ here) (labels_keep test xs ys z.1 rest)
+labels_keep test [] (y ∷ ys) z e = absurd z
+labels_keep test (x ∷ xs) [] z e = absurd z

@@ -1,0 +1,190 @@
+-- Entailment, as a relation: one row says all that another does.
+use Rattle.std.proofs.Common.{◌≡◌, ℕ, zero, suc, ◌≤◌, Bool, true, ◌&&◌, List, [], ◌∷◌, Option, Some, None, refl, arith, get_or, set}
+use Rattle.std.specs.Prelude.{nat_le, slice_get, option_and_then}
+use Rattle.std.specs.List.{AllZip}
+use Rattle.std.proofs.lemmas.Bool.{leb-true, le-leb, and_parts}
+use Rattle.dp_model.specs.declared.row.Fact.{Fact}
+use Rattle.dp_model.specs.declared.row.Row.{Row}
+use Rattle.dp_model.specs.declared.registers.Operand.{Operand}
+use Rattle.dp_model.specs.declared.registers.Operand.TheVariants.{Register, Constant}
+use Rattle.dp_model.specs.Rows.{Holding, holding, held_at, entails_holding, entails_option, entails_fact, at_each_place, entails, bound, with_bound, with_fact}
+
+-- the first promises at least what the second does
+pub record StrongerHolding (a b : Holding) : Type 0 where
+  pub share : b.share ≤ a.share
+  pub head : b.head ≤ a.head
+  pub tail : b.tail ≤ a.tail
+  pub first : b.first ≤ a.first
+  pub last : b.last ≤ a.last
+  pub segs : a.segs ≤ b.segs
+
+abbrev pub StrongerOption : Option Holding → Option Holding → Type 0
+StrongerOption None None = Unit {0}
+StrongerOption (Some a) (Some b) = StrongerHolding a b
+StrongerOption None (Some b) = ⊥
+StrongerOption (Some a) None = ⊥
+
+abbrev pub StrongerFact : Fact → Fact → Type 0
+StrongerFact a b = StrongerOption (holding a) (holding b)
+
+abbrev pub AtMost : ℕ → ℕ → Type 0
+AtMost m n = m ≤ n
+
+pub record Stronger (a b : Row) : Type 0 where
+  pub live : a.live ≡ true
+  pub other_live : b.live ≡ true
+  pub facts : AllZip StrongerFact a.facts b.facts
+  pub bounds : AllZip AtMost a.bounds b.bounds
+
+-- ---- from the tests and back
+
+pub both_are : {a b : Bool} → a ≡ true → b ≡ true → (a && b) ≡ true
+both_are p q = rw (p, q) refl
+
+pub stronger_holding : (a b : Holding) → entails_holding a b ≡ true → StrongerHolding a b
+stronger_holding a b e =
+    let (e1, segs) = and_parts (nat_le b.share a.share && nat_le b.head a.head && nat_le b.tail a.tail && nat_le b.first a.first && nat_le b.last a.last) (nat_le a.segs b.segs) e in
+    let (e2, last) = and_parts (nat_le b.share a.share && nat_le b.head a.head && nat_le b.tail a.tail && nat_le b.first a.first) (nat_le b.last a.last) e1 in
+    let (e3, first) = and_parts (nat_le b.share a.share && nat_le b.head a.head && nat_le b.tail a.tail) (nat_le b.first a.first) e2 in
+    let (e4, tail) = and_parts (nat_le b.share a.share && nat_le b.head a.head) (nat_le b.tail a.tail) e3 in
+    let (share, head) = and_parts (nat_le b.share a.share) (nat_le b.head a.head) e4 in
+    record {
+      share = leb-true b.share a.share share;
+      head = leb-true b.head a.head head;
+      tail = leb-true b.tail a.tail tail;
+      first = leb-true b.first a.first first;
+      last = leb-true b.last a.last last;
+      segs = leb-true a.segs b.segs segs;
+    }
+
+pub holding_test : (a b : Holding) → StrongerHolding a b → entails_holding a b ≡ true
+holding_test a b h = rw (le-leb b.share a.share h.share, le-leb b.head a.head h.head, le-leb b.tail a.tail h.tail, le-leb b.first a.first h.first, le-leb b.last a.last h.last, le-leb a.segs b.segs h.segs) refl
+
+pub stronger_option : (a b : Option Holding) → entails_option a b ≡ true → StrongerOption a b
+stronger_option None None e = tt
+stronger_option (Some a) (Some b) e = stronger_holding a b e
+stronger_option None (Some b) e = absurd cc
+stronger_option (Some a) None e = absurd cc
+
+pub option_test : (a b : Option Holding) → StrongerOption a b → entails_option a b ≡ true
+option_test None None h = refl
+option_test (Some a) (Some b) h = holding_test a b h
+option_test None (Some b) h = absurd h
+option_test (Some a) None h = absurd h
+
+zip_from : {A B : Type 0} (test : A → B → Bool) (R : A → B → Type 0) → ((x : A) (y : B) → test x y ≡ true → R x y) → (xs : List A) (ys : List B) → at_each_place test xs ys ≡ true → AllZip R xs ys
+zip_from test R each [] [] e = tt
+zip_from test R each (x ∷ xs) (y ∷ ys) e = let (here, rest) = and_parts (test x y) (at_each_place test xs ys) e in (each x y here, zip_from test R each xs ys rest)
+zip_from test R each [] (y ∷ ys) e = absurd cc
+zip_from test R each (x ∷ xs) [] e = absurd cc
+
+zip_test : {A B : Type 0} (test : A → B → Bool) (R : A → B → Type 0) → ((x : A) (y : B) → R x y → test x y ≡ true) → (xs : List A) (ys : List B) → AllZip R xs ys → at_each_place test xs ys ≡ true
+zip_test test R each [] [] h = refl
+zip_test test R each (x ∷ xs) (y ∷ ys) h = both_are (each x y h.0) (zip_test test R each xs ys h.1)
+zip_test test R each [] (y ∷ ys) h = absurd h
+zip_test test R each (x ∷ xs) [] h = absurd h
+
+pub stronger : (a b : Row) → entails a b ≡ true → Stronger a b
+stronger a b e =
+    let (e1, bounds) = and_parts (a.live && b.live && at_each_place entails_fact a.facts b.facts) (at_each_place nat_le a.bounds b.bounds) e in
+    let (e2, facts) = and_parts (a.live && b.live) (at_each_place entails_fact a.facts b.facts) e1 in
+    let (live, other_live) = and_parts a.live b.live e2 in
+    record {
+      live = live;
+      other_live = other_live;
+      facts = zip_from entails_fact StrongerFact (λ x y h. stronger_option (holding x) (holding y) h) a.facts b.facts facts;
+      bounds = zip_from nat_le AtMost leb-true a.bounds b.bounds bounds;
+    }
+
+pub row_test : (a b : Row) → Stronger a b → entails a b ≡ true
+row_test a b h = rw (h.live, h.other_live, zip_test entails_fact StrongerFact (λ x y k. option_test (holding x) (holding y) k) a.facts b.facts h.facts, zip_test nat_le AtMost le-leb a.bounds b.bounds h.bounds) refl
+
+-- ---- each says what it says, and what follows from what follows
+
+pub holding_same : (a : Option Holding) → StrongerOption a a
+holding_same None = tt
+holding_same (Some a) = record { share = omega arith; head = omega arith; tail = omega arith; first = omega arith; last = omega arith; segs = omega arith }
+
+pub option_further : (a b c : Option Holding) → StrongerOption a b → StrongerOption b c → StrongerOption a c
+option_further None None None h k = tt
+option_further (Some a) (Some b) (Some c) h k = record { share = omega arith; head = omega arith; tail = omega arith; first = omega arith; last = omega arith; segs = omega arith }
+option_further None None (Some c) h k = absurd k
+option_further None (Some b) c h k = absurd h
+option_further (Some a) None c h k = absurd h
+option_further (Some a) (Some b) None h k = absurd k
+
+pub zip_same : {A : Type 0} (R : A → A → Type 0) → ((x : A) → R x x) → (xs : List A) → AllZip R xs xs
+zip_same R each [] = tt
+zip_same R each (x ∷ xs) = (each x, zip_same R each xs)
+
+zip_further : {A : Type 0} (R : A → A → Type 0) → ((x y z : A) → R x y → R y z → R x z) → (xs ys zs : List A) → AllZip R xs ys → AllZip R ys zs → AllZip R xs zs
+zip_further R each [] [] [] h k = tt
+zip_further R each (x ∷ xs) (y ∷ ys) (z ∷ zs) h k = (each x y z h.0 k.0, zip_further R each xs ys zs h.1 k.1)
+zip_further R each [] [] (z ∷ zs) h k = absurd k
+zip_further R each [] (y ∷ ys) zs h k = absurd h
+zip_further R each (x ∷ xs) [] zs h k = absurd h
+zip_further R each (x ∷ xs) (y ∷ ys) [] h k = absurd k
+
+pub same_row : (a : Row) → a.live ≡ true → Stronger a a
+same_row a live = record {
+  live = live;
+  other_live = live;
+  facts = zip_same StrongerFact (λ x. holding_same (holding x)) a.facts;
+  bounds = zip_same AtMost (λ n. omega arith) a.bounds;
+}
+
+pub further : (a b c : Row) → Stronger a b → Stronger b c → Stronger a c
+further a b c h k = record {
+  live = h.live;
+  other_live = k.other_live;
+  facts = zip_further StrongerFact (λ x y z. option_further (holding x) (holding y) (holding z)) a.facts b.facts c.facts h.facts k.facts;
+  bounds = zip_further AtMost (λ m n o p q. omega arith) a.bounds b.bounds c.bounds h.bounds k.bounds;
+}
+
+-- ---- single registers
+
+pub zip_set : {A B : Type 0} (R : A → B → Type 0) (xs : List A) (ys : List B) (i : ℕ) (x : A) (y : B) → AllZip R xs ys → R x y → AllZip R (set xs i x) (set ys i y)
+zip_set R [] [] i x y h r = tt
+zip_set R (a ∷ xs) (b ∷ ys) zero x y h r = (r, h.1)
+zip_set R (a ∷ xs) (b ∷ ys) (suc i) x y h r = (h.0, zip_set R xs ys i x y h.1 r)
+zip_set R [] (b ∷ ys) i x y h r = absurd h
+zip_set R (a ∷ xs) [] i x y h r = absurd h
+
+bounds_at : (ms ns : List ℕ) (i : ℕ) → AllZip AtMost ms ns → get_or ms i 0 ≤ get_or ns i 0
+bounds_at [] [] i h = omega arith
+bounds_at (m ∷ ms) (n ∷ ns) zero h = h.0
+bounds_at (m ∷ ms) (n ∷ ns) (suc i) h = bounds_at ms ns i h.1
+bounds_at [] (n ∷ ns) i h = absurd h
+bounds_at (m ∷ ms) [] i h = absurd h
+
+-- the value of an operand is bounded as well
+pub bound_at : (a b : Row) (x : Operand) → Stronger a b → bound a x ≤ bound b x
+bound_at a b (Register r) h = bounds_at a.bounds b.bounds r h.bounds
+bound_at a b (Constant c) h = omega arith
+
+pub bound_set : (a b : Row) (r m n : ℕ) → Stronger a b → m ≤ n → Stronger (with_bound a r m) (with_bound b r n)
+bound_set a b r m n h le = record {
+  live = h.live;
+  other_live = h.other_live;
+  facts = h.facts;
+  bounds = zip_set AtMost a.bounds b.bounds r m n h.bounds le;
+}
+
+pub fact_set : (a b : Row) (p : ℕ) (f g : Fact) → Stronger a b → StrongerFact f g → Stronger (with_fact a p f) (with_fact b p g)
+fact_set a b p f g h s = record {
+  live = h.live;
+  other_live = h.other_live;
+  facts = zip_set StrongerFact a.facts b.facts p f g h.facts s;
+  bounds = h.bounds;
+}
+
+facts_at : (fs gs : List Fact) (p : ℕ) → AllZip StrongerFact fs gs → StrongerOption (option_and_then holding (slice_get fs p)) (option_and_then holding (slice_get gs p))
+facts_at [] [] p h = tt
+facts_at (f ∷ fs) (g ∷ gs) zero h = h.0
+facts_at (f ∷ fs) (g ∷ gs) (suc p) h = facts_at fs gs p h.1
+facts_at [] (g ∷ gs) p h = absurd h
+facts_at (f ∷ fs) [] p h = absurd h
+
+-- what is known of a packet
+pub held_both : (a b : Row) (p : ℕ) → Stronger a b → StrongerOption (held_at a p) (held_at b p)
+held_both a b p h = facts_at a.facts b.facts p h.facts

@@ -1,0 +1,17 @@
+-- One label more.
+use Rattle.std.proofs.Common.{◌≡◌, length, Some, refl, arith}
+use Rattle.std.specs.Prelude.{slice_get}
+use Rattle.std.proofs.lemmas.Option.{slice_get_read}
+use Rattle.dp_infer.proofs.Passing.{spread_more, spread_done}
+use Rattle.dp_infer.proofs.inferring.spread.Goals as goal
+
+pub loop-label-preserved : goal.loop-label-preserved
+loop-label-preserved c =
+    let at_i : slice_get c.args.program.now c.loop-label.label ≡ Some c.index-program-label.result = slice_get_read c.args.program.now (length c.args.program.now) c.loop-label.label c.index-program-label.result refl (omega arith) c.index-program-label.is in
+    record {
+      told = rw c.pass_from.ensures.told (spread_more c.args.env.now c.args.program.now c.loop-label.label c.index-program-label.result c.loop-label.rows _ at_i c.loop-label.invariant.told);
+      well_formed = c.pass_from.ensures.well_formed;
+    }
+
+pub returns-clause-told : goal.returns-clause-told
+returns-clause-told c = spread_done c.args.env.now c.args.program.now c.loop-label.label c.loop-label.rows _ (omega arith) c.loop-label.invariant.told

@@ -1,0 +1,67 @@
+-- What is known at a label where control comes from several places.
+use Rattle.std.specs.Prelude.{ℕ, ◌+◌, min, max, true, false, nat_lt, if◌then◌else◌, List, [], ◌∷◌, length, replicate, Option, slice_get, slice_set}
+use Rattle.std.specs.Option.{option_map_or}
+use Rattle.dp_model.specs.declared.row.Fact.{Fact}
+use Rattle.dp_model.specs.declared.row.Fact.TheVariants.{Empty, Held}
+use Rattle.dp_model.specs.declared.row.Row.{Row}
+use Rattle.dp_model.specs.declared.after.Lead.{Lead}
+use Rattle.dp_model.specs.declared.instr.Instr.{Instr}
+use Rattle.dp_model.specs.Environments.{Environment}
+use Rattle.dp_model.specs.declared.env.Entry.{Entry}
+use Rattle.dp_model.specs.Rows.{entry_row, leads}
+
+-- What two facts have in common: the lesser promise of each, the greater number of segments, in the ranges of facts. Where
+-- one is empty and the other is not, they have nothing in common, and the answer is of no use.
+abbrev pub joined_fact : Fact → Fact → Fact
+joined_fact Empty other = Empty
+joined_fact (Held share head tail first last segs) Empty = Empty
+joined_fact (Held share head tail first last segs) (Held s h t f l n) =
+    Held (min 2 (min share s)) (min head h) (min tail t) (min first f) (min last l) (min 64 (max 1 (max segs n)))
+
+-- the elements of two lists, place by place
+abbrev pub paired : {A : Type 0} → (A → A → A) → List A → List A → List A
+paired f [] ys = []
+paired f (x ∷ xs) [] = []
+paired f (x ∷ xs) (y ∷ ys) = f x y ∷ paired f xs ys
+
+-- what two rows have in common
+abbrev pub joined : Row → Row → Row
+joined row other = record { live = true; facts = paired joined_fact row.facts other.facts; bounds = paired max row.bounds other.bounds }
+
+-- what is known where control comes with the second row, and may have come with the first
+abbrev pub met : Row → Row → Row
+met there row = if there.live then joined there row else joined row row
+
+-- the rows, where control goes from a label to a later one
+abbrev pub reached : ℕ → List Row → Lead → List Row
+reached label rows lead =
+    if nat_lt label lead.to
+    then option_map_or (λ there. slice_set rows lead.to (met there lead.row)) (slice_get rows lead.to) rows
+    else rows
+
+-- the rows, where control goes from a label to others
+abbrev pub passed_on : ℕ → List Row → List Lead → List Row
+passed_on label rows [] = rows
+passed_on label rows (lead ∷ leads) = passed_on label (reached label rows lead) leads
+
+-- a row that control never comes to
+abbrev pub dead_row : Row
+dead_row = record { live = false; facts = replicate 8 Empty; bounds = replicate 8 0 }
+
+-- the rows of so many labels at the start: what is known at the entry, if there is one, and nothing else
+abbrev pub begun : Option Row → ℕ → List Row
+begun entry n = option_map_or (λ row. slice_set (replicate n dead_row) 0 (joined row row)) entry (replicate n dead_row)
+
+-- the rows, after control passed on from a label with its instruction
+abbrev pub passed_from : Environment → ℕ → Instr → List Row → List Row
+passed_from env label i rows =
+    option_map_or (λ row. if row.live then passed_on label rows (leads env label row i) else rows) (slice_get rows label) rows
+
+-- the rows, after control passed through these instructions, the first of which has this label
+unfoldable pub spread : Environment → List Instr → ℕ → List Row → List Row
+spread env [] label rows = rows
+spread env (i ∷ program) label rows = spread env program (label + 1) (passed_from env label i rows)
+
+-- the rows that say most
+abbrev pub found_rows : List Instr → Environment → Entry → List Row
+found_rows program env entry = spread env program 0 (begun (entry_row env entry) (length program))

@@ -1,0 +1,131 @@
+//! Certificates inferred from programs.
+
+ghost use Rattle.std.specs.Prelude.{◌≡◌, ◌<◌, ◌≤◌, length, IsTrue, IfOk, IfErr};
+ghost use Rattle.std.specs.List.{list_all};
+ghost use Rattle.dp_model.specs.Rows.{is_well_formed_row};
+ghost use Rattle.dp_infer.specs.Joins as spec;
+ghost use Rattle.dp_infer.specs.Inference.{Certifies, SaysMost, IsWithout};
+
+use crate::join::{joined, pass_on};
+use dp_cert::Cert;
+use dp_check::fault_of;
+use dp_lang::Program;
+use dp_model::{Entry, Env, Fact, Instr, Row};
+use std::alloc::{AllocError, Global};
+use thiserror::Error;
+
+/// Why there is no certificate.
+#[derive(Debug, Drop, Error)]
+pub enum InferError {
+    /// The memory for the rows was refused.
+    #[error("out of memory")]
+    Memory,
+    /// The program is accepted with no certificate: at this label, from 0, this rule fails for the best rows.
+    #[error("not inferred at {label} by J{rule}")]
+    NoCert { label: u16, rule: u8 },
+}
+
+impl From<AllocError> for InferError {
+    ghost use Rattle.dp_infer.specs.declared.inferring.InferError.TheVariants.{Memory};
+
+    ghost from_gives = { λ _ e. e ≡ Memory };
+
+    fn from(_e: AllocError) -> InferError {
+        InferError::Memory
+    }
+}
+
+/// A row of a label that control never comes to.
+fn dead_row() -> Row
+    ensures { result ≡ spec.dead_row }
+{
+    Row {
+        live: false,
+        facts: [Fact::Empty; 8],
+        bounds: [0; 8],
+    }
+}
+
+/// So many rows, of which only the first says anything: what is known at the entry.
+fn begun(alloc: Global, entry: Option<Row>, n: usize) -> Result<Vec<Row>, AllocError>
+    requires { 0 < n }
+    ensures { IfOk result (λ v. v.items ≡ spec.begun entry n) }
+{
+    let mut rows = vec![in alloc; dead_row(); n]?;
+    if let Some(row) = entry {
+        rows[0] = joined(&row, &row);
+    }
+    Ok(rows)
+}
+
+/// Passes control on from a label.
+#[tactic(auto, using(crate::proofs::Passing::not_passed, crate::proofs::Passing::stays_well_formed))]
+fn pass_from(rows: &mut [Row], env: &Env, label: u16, instr: &Instr)
+    requires in_range { label < length rows.old }
+    requires at_most { length rows.old ≤ 1024 }
+    requires well_formed { IsTrue (list_all is_well_formed_row rows.old) }
+    ensures told { rows.new ≡ spec.passed_from env.now label instr.now rows.old }
+    ensures well_formed { IsTrue (list_all is_well_formed_row rows.new) }
+{
+    let row = rows[label as usize];
+    if row.live {
+        let leads = (*instr).leads(env, label, &row);
+        pass_on(rows, label, &leads);
+    }
+}
+
+/// Passes control on from each label in order.
+fn spread(program: &[Instr], env: &Env, rows: &mut [Row])
+    requires same_length { length rows.old ≡ length program.now }
+    requires at_most { length program.now ≤ 1024 }
+    requires well_formed { IsTrue (list_all is_well_formed_row rows.old) }
+    ensures told { rows.new ≡ spec.spread env.now program.now 0 rows.old }
+    ensures well_formed { IsTrue (list_all is_well_formed_row rows.new) }
+{
+    for label in 0..program.len() as u16 {
+        pass_from(rows, env, label, &program[label as usize]);
+    }
+}
+
+/// The rows that say most.
+#[tactic(auto, using(crate::proofs::Infers::begun_well_formed))]
+fn found_rows(
+    alloc: Global,
+    program: &[Instr],
+    env: &Env,
+    entry: Entry,
+) -> Result<Vec<Row>, AllocError>
+    requires some { 1 ≤ length program.now }
+    requires at_most { length program.now ≤ 1024 }
+    ensures well_formed { IfOk result (λ v. IsTrue (list_all is_well_formed_row v.items)) }
+    ensures told { IfOk result (λ v. v.items ≡ spec.found_rows program.now env.now entry) }
+{
+    let mut rows = begun(alloc, env.entry_row(entry), program.len())?;
+    spread(program, env, &mut rows);
+    Ok(rows)
+}
+
+/// The certificate of a program for an environment and an entry. Each row is as strong as can be, and each instruction
+/// is looked at once; the rows are the one allocation.
+///
+/// # Errors
+/// `InferError::Memory` where the memory for the rows is refused, else `InferError::NoCert` where the program is
+/// accepted with no certificate. So it is, too, where the environment does not have the entry, and for every program
+/// that can come to a jump to its own or an earlier label.
+pub fn infer(alloc: Global, program: &Program, env: &Env, entry: Entry) -> Result<Cert, InferError>
+    // The program is accepted with it.
+    ensures accepted { IfOk result (λ cert. Certifies program.now env.now entry cert) }
+    // No certificate says more.
+    ensures most { IfOk result (λ cert. SaysMost program.now env.now entry cert) }
+    // There is none where none is answered, unless memory ran out.
+    ensures none { IfErr result (λ e. IsWithout program.now env.now entry e) }
+{
+    let cert = Cert::new(found_rows(alloc, program.instrs(), env, entry)?);
+    match fault_of(program, &cert, env, entry) {
+        Some((label, rule)) => Err(InferError::NoCert {
+            label,
+            rule: rule.number(),
+        }),
+        None => Ok(cert),
+    }
+}

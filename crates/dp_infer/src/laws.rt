@@ -1,0 +1,27 @@
+//! The laws of rows that inference rests on, as contracts of functions that do nothing.
+
+ghost use Rattle.std.specs.Prelude.{ℕ, IsTrue};
+ghost use Rattle.dp_model.specs.declared.row.Row.{Row};
+ghost use Rattle.dp_model.specs.declared.instr.Instr.{Instr};
+ghost use Rattle.dp_model.specs.Environments.{Environment};
+ghost use Rattle.dp_model.specs.Rows.{entails, leads, is_well_formed_row};
+ghost use Rattle.dp_model.specs.declared.rule.Rule.{Rule};
+ghost use Rattle.dp_model.specs.Rules.{Question, holds_at};
+ghost use Rattle.dp_infer.specs.Laws.{LeadsEntail, HaveLeastRow};
+
+/// Two rows that entail a third have a least row that both entail.
+pub fn rows_have_a_least_common_row()
+    ensures { (a b upper : Row) → IsTrue (is_well_formed_row upper) → IsTrue (entails a upper) → IsTrue (entails b upper) → HaveLeastRow a b upper }
+{}
+
+/// What an instruction leaves of a row entails what it leaves of a row that is entailed.
+pub fn rows_after_keep_entailment()
+    ensures { (env : Environment) (label : ℕ) (i : Instr) (a b : Row) → IsTrue (is_well_formed_row a) → IsTrue (entails a b)
+        → LeadsEntail (leads env label a i) (leads env label b i) }
+{}
+
+/// A rule that holds of a row holds of every row that entails it.
+pub fn rules_hold_of_entailing_rows()
+    ensures { (q : Question) (label : ℕ) (i : Instr) (a b : Row) (rule : Rule) → IsTrue (is_well_formed_row a) → IsTrue (entails a b)
+        → IsTrue (holds_at q label i b rule) → IsTrue (holds_at q label i a rule) }
+{}
