@@ -3,6 +3,7 @@ pub mod Buffers
 pub mod Copies
 pub mod CopyMachine
 pub mod Environments
+pub mod Equality
 pub mod Facts
 pub mod Laws
 pub mod Machine
@@ -12,5 +13,6 @@ pub mod Prefixes
 pub mod Rows
 pub mod Rules
 pub mod Runs
+pub mod Safety
 pub mod Starts
 pub mod Stores

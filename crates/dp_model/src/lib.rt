@@ -10,12 +10,16 @@ mod layer;
 mod registers;
 mod row;
 mod rule;
+mod words;
 
 pub use after::{Lead, Leads};
 pub use env::{Entry, Env, EnvError, PoolSpec, PortSpec, RingSpec};
 pub use instr::Instr;
-pub use laws::{accepted_programs_are_sound, turns_stay_ready};
+pub use laws::{accepted_programs_are_safe, accepted_programs_are_sound, turns_stay_ready};
 pub use layer::{Packet, PacketLayer};
 pub use registers::{NumberRegister, Operand, PacketRegister, Width};
 pub use row::{Fact, Row};
 pub use rule::Rule;
+pub use words::{
+    layers_stay_well_formed, longest_prefixes_agree, numbers_are_as_called, worlds_stay_well_formed,
+};

@@ -1,0 +1,169 @@
+-- Counts of segments that pass a test, when packets come, go and move. References are such counts, and so is how
+-- many live segments have a number as their mbuf.
+use Rattle.std.proofs.Common.{◌≡◌, ◌≢◌, ℕ, zero, suc, ◌+◌, ◌≤◌, Bool, true, false, cond, List, [], ◌∷◌, ◌++◌, Option, Some, None, refl, sym, ◌∙◌, ap, arith}
+use Rattle.std.specs.Prelude.{slice_get, slice_set, flat_map, count_by}
+use Rattle.std.specs.List.{AllByRecursion}
+use Rattle.std.proofs.lemmas.List.Sums.{sum_by-append, sum_by-cons}
+use Rattle.std.proofs.lemmas.Option.{same_Some}
+use Rattle.dp_model.specs.Packets.{Segment, Packet, at_front, at_end}
+use Rattle.dp_model.specs.Machine.{State, World, live, segments_held, segments_listed, with_ring, with_outbox, without_packet}
+use Rattle.dp_model.specs.Runs.{first_state, between}
+use Rattle.dp_model.proofs.Refs.{one_if, get_set_other}
+
+-- how many segments pass a test
+abbrev pub tally : (Segment → Bool) → List Segment → ℕ
+tally test xs = count_by test xs
+
+pub tally-cons : (test : Segment → Bool) (s : Segment) (rest : List Segment) → tally test (s ∷ rest) ≡ one_if (test s) + tally test rest
+tally-cons test s rest = sum_by-cons (λ x. cond (test x) 1 0) s rest
+
+pub tally-append : (test : Segment → Bool) (xs ys : List Segment) → tally test (xs ++ ys) ≡ tally test xs + tally test ys
+tally-append test xs ys = sum_by-append (λ x. cond (test x) 1 0) xs ys
+
+-- the count of what a register holds
+abbrev pub tally_of : (Segment → Bool) → Option Packet → ℕ
+tally_of test None = 0
+tally_of test (Some k) = tally test k
+
+-- a register set
+pub tally_set : (test : Segment → Bool) (packets : List (Option Packet)) (p : ℕ) (o o' : Option Packet) → slice_get packets p ≡ Some o → tally test (segments_held (slice_set packets p o')) + tally_of test o ≡ tally test (segments_held packets) + tally_of test o'
+tally_set test [] p o o' h = cc
+tally_set test (None ∷ packets) zero None None h = refl
+tally_set test (None ∷ packets) zero None (Some k) h = omega (arith, tally-append test k (segments_held packets))
+tally_set test (None ∷ packets) zero (Some k) o' h = cc
+tally_set test (Some k ∷ packets) zero None o' h = cc
+tally_set test (Some k ∷ packets) zero (Some k') None h =
+    let e : tally test k ≡ tally test k' = ap (λ o. tally_of test o) (same_Some (Some k) (Some k') h) in
+    omega (arith, e, tally-append test k (segments_held packets))
+tally_set test (Some k ∷ packets) zero (Some k') (Some l) h =
+    let e : tally test k ≡ tally test k' = ap (λ o. tally_of test o) (same_Some (Some k) (Some k') h) in
+    omega (arith, e, tally-append test k (segments_held packets), tally-append test l (segments_held packets))
+tally_set test (None ∷ packets) (suc p) o o' h = tally_set test packets p o o' h
+tally_set test (Some k ∷ packets) (suc p) o o' h =
+    omega (arith, tally_set test packets p o o' h, tally-append test k (segments_held packets), tally-append test k (segments_held (slice_set packets p o')))
+
+-- what a register holds is part of what is held
+pub tally_held : (test : Segment → Bool) (packets : List (Option Packet)) (i : ℕ) (o : Option Packet) → slice_get packets i ≡ Some o → tally_of test o ≤ tally test (segments_held packets)
+tally_held test packets i o h = omega (arith, tally_set test packets i o None h)
+
+-- ---- lists of packets
+
+abbrev pub tally_list : (Segment → Bool) → List Packet → ℕ
+tally_list test packets = tally test (flat_map (λ k. k) packets)
+
+-- a ring or a transmit list set
+pub tally_listed_set : (test : Segment → Bool) (lists : List (List Packet)) (i : ℕ) (old new : List Packet) → slice_get lists i ≡ Some old → tally test (segments_listed (slice_set lists i new)) + tally_list test old ≡ tally test (segments_listed lists) + tally_list test new
+tally_listed_set test [] i old new h = cc
+tally_listed_set test (l ∷ lists) zero old new h =
+    let e : tally_list test l ≡ tally_list test old = ap (λ ks. tally_list test ks) (same_Some l old h) in
+    omega (arith, e, tally-append test (flat_map (λ k. k) l) (segments_listed lists), tally-append test (flat_map (λ k. k) new) (segments_listed lists))
+tally_listed_set test (l ∷ lists) (suc i) old new h =
+    omega (arith, tally_listed_set test lists i old new h, tally-append test (flat_map (λ k. k) l) (segments_listed lists), tally-append test (flat_map (λ k. k) l) (segments_listed (slice_set lists i new)))
+
+-- one more packet at the end of a list
+pub tally_push : (test : Segment → Bool) (packets : List Packet) (k : Packet) → tally_list test (packets ++ k ∷ []) ≡ tally_list test packets + tally test k
+tally_push test [] k = omega (arith, tally-append test k [])
+tally_push test (j ∷ packets) k =
+    omega (arith, tally_push test packets k, tally-append test j (flat_map (λ k. k) (packets ++ k ∷ [])), tally-append test j (flat_map (λ k. k) packets))
+
+-- ---- states
+
+-- the live segments of a state are those of registers, of rings and of transmit lists
+pub tally_live : (test : Segment → Bool) (s : State) → tally test (live s) ≡ tally test (segments_held s.packets) + (tally test (segments_listed s.world.rings) + tally test (segments_listed s.world.outboxes))
+tally_live test s =
+    omega (arith, tally-append test (segments_held s.packets) (segments_listed s.world.rings ++ segments_listed s.world.outboxes), tally-append test (segments_listed s.world.rings) (segments_listed s.world.outboxes))
+
+-- a register of a state set
+pub tally_live_set : (test : Segment → Bool) (s : State) (p : ℕ) (o o' : Option Packet) → slice_get s.packets p ≡ Some o → tally test (live (record s { packets = slice_set s.packets p o' })) + tally_of test o ≡ tally test (live s) + tally_of test o'
+tally_live_set test s p o o' h =
+    omega (arith, tally_set test s.packets p o o' h, tally_live test s, tally_live test (record s { packets = slice_set s.packets p o' }))
+
+-- a packet that leaves a register for a ring
+pub tally_to_ring : (test : Segment → Bool) (s : State) (p ring : ℕ) (k : Packet) (packets : List Packet) → slice_get s.packets p ≡ Some (Some k) → slice_get s.world.rings ring ≡ Some packets → tally test (live (with_ring ring (packets ++ k ∷ []) (without_packet p s))) ≡ tally test (live s)
+tally_to_ring test s p ring k packets holds there =
+    omega (arith, tally_live test s, tally_live test (with_ring ring (packets ++ k ∷ []) (without_packet p s)), tally_set test s.packets p (Some k) None holds, tally_listed_set test s.world.rings ring packets (packets ++ k ∷ []) there, tally_push test packets k)
+
+-- a packet that leaves a register for a transmit list
+pub tally_to_outbox : (test : Segment → Bool) (s : State) (p port : ℕ) (k : Packet) (packets : List Packet) → slice_get s.packets p ≡ Some (Some k) → slice_get s.world.outboxes port ≡ Some packets → tally test (live (with_outbox port (packets ++ k ∷ []) (without_packet p s))) ≡ tally test (live s)
+tally_to_outbox test s p port k packets holds there =
+    omega (arith, tally_live test s, tally_live test (with_outbox port (packets ++ k ∷ []) (without_packet p s)), tally_set test s.packets p (Some k) None holds, tally_listed_set test s.world.outboxes port packets (packets ++ k ∷ []) there, tally_push test packets k)
+
+-- one packet goes behind another
+pub tally_chain : (test : Segment → Bool) (packets : List (Option Packet)) (p q : ℕ) (k t : Packet) → p ≢ q → slice_get packets p ≡ Some (Some k) → slice_get packets q ≡ Some (Some t) → tally test (segments_held (slice_set (slice_set packets p (Some (k ++ t))) q None)) ≡ tally test (segments_held packets)
+tally_chain test packets p q k t apart hp hq =
+    let there : slice_get (slice_set packets p (Some (k ++ t))) q ≡ Some (Some t) = get_set_other packets p q (Some (k ++ t)) (λ e. apart (sym e)) ∙ hq in
+    omega (arith, tally_set test packets p (Some k) (Some (k ++ t)) hp, tally_set test (slice_set packets p (Some (k ++ t))) q (Some t) None there, tally-append test k t)
+
+-- a node run begins with one packet more
+pub tally_first : (test : Segment → Bool) (k : Packet) (number : ℕ) (w : World) → tally test (live (first_state k number w)) ≡ tally test k + tally test (live (between w))
+tally_first test k number w =
+    omega (arith, tally_live test (first_state k number w), tally_live test (between w), tally-append test k [])
+
+-- ---- the first or the last segment changes
+
+-- a change that the test does not see, in front
+pub tally_front : (test : Segment → Bool) (f : Segment → Segment) (k : Packet) → ((s : Segment) → test (f s) ≡ test s) → tally test (at_front f k) ≡ tally test k
+tally_front test f [] same = refl
+tally_front test f (s ∷ rest) same =
+    let e : one_if (test (f s)) ≡ one_if (test s) = ap one_if (same s) in
+    omega (arith, e, tally-cons test (f s) rest, tally-cons test s rest)
+
+-- and at the end
+pub tally_end : (test : Segment → Bool) (f : Segment → Segment) (k : Packet) → ((s : Segment) → test (f s) ≡ test s) → tally test (at_end f k) ≡ tally test k
+tally_end test f [] same = refl
+tally_end test f (s ∷ []) same =
+    let e : one_if (test (f s)) ≡ one_if (test s) = ap one_if (same s) in
+    omega (arith, e, tally-cons test (f s) [], tally-cons test s [])
+tally_end test f (s ∷ t ∷ rest) same =
+    omega (arith, tally_end test f (t ∷ rest) same, tally-cons test s (at_end f (t ∷ rest)), tally-cons test s (t ∷ rest))
+
+-- ---- what a count says of the segments
+
+-- a count above 0 has a segment that passes, of which all that holds of each holds
+pub tally_found : (test : Segment → Bool) (P : Segment → Type 0) (xs : List Segment) → AllByRecursion P xs → 1 ≤ tally test xs → (s : Segment) × (test s ≡ true) × P s
+tally_found test P [] all one = absurd (omega arith)
+tally_found test P (s ∷ rest) all one = go (test s) refl (tally_found test P rest all.1)
+  where
+    go : (b : Bool) → test s ≡ b → (1 ≤ tally test rest → (t : Segment) × (test t ≡ true) × P t) → (t : Segment) × (test t ≡ true) × P t
+    go true e later = (s, e, all.0)
+    go false e later = let none : one_if (test s) ≡ 0 = ap one_if e in later (omega (arith, one, none, tally-cons test s rest))
+
+-- none passes where each fails
+pub tally_none : (test : Segment → Bool) (xs : List Segment) → AllByRecursion (λ s. test s ≡ false) xs → tally test xs ≡ 0
+tally_none test [] all = refl
+tally_none test (s ∷ rest) all = let none : one_if (test s) ≡ 0 = ap one_if all.0 in omega (arith, none, tally-cons test s rest, tally_none test rest all.1)
+
+-- what passes is counted: so a segment is known to be among others
+abbrev pub IsAmong : Segment → List Segment → Type 0
+IsAmong s xs = (test : Segment → Bool) → test s ≡ true → 1 ≤ tally test xs
+
+-- what holds of each segment that is among them holds of all
+pub all_among : (P : Segment → Type 0) (xs : List Segment) → ((s : Segment) → IsAmong s xs → P s) → AllByRecursion P xs
+all_among P [] each = tt
+all_among P (s ∷ rest) each = (
+  each s (λ test yes. let one : one_if (test s) ≡ 1 = ap one_if yes in omega (arith, one, tally-cons test s rest)),
+  all_among P rest (λ t among. each t (λ test yes. omega (arith, among test yes, tally-cons test s rest))),
+)
+
+-- where the first test passes the second does
+pub tally_le : (test more : Segment → Bool) (xs : List Segment) → ((s : Segment) → test s ≡ true → more s ≡ true) → tally test xs ≤ tally more xs
+tally_le test more [] implies = omega arith
+tally_le test more (s ∷ rest) implies = go (test s) refl (tally_le test more rest implies)
+  where
+    go : (b : Bool) → test s ≡ b → tally test rest ≤ tally more rest → tally test (s ∷ rest) ≤ tally more (s ∷ rest)
+    go true e later =
+        let one : one_if (more s) ≡ 1 = ap one_if (implies s e) in
+        let is : one_if (test s) ≡ 1 = ap one_if e in
+        omega (arith, one, is, later, tally-cons test s rest, tally-cons more s rest)
+    go false e later =
+        let none : one_if (test s) ≡ 0 = ap one_if e in
+        omega (arith, none, later, tally-cons test s rest, tally-cons more s rest)
+
+-- none of them passes
+pub tally_zero : (test : Segment → Bool) (xs : List Segment) → tally test xs ≡ 0 → AllByRecursion (λ s. test s ≡ false) xs
+tally_zero test [] none = tt
+tally_zero test (s ∷ rest) none = (go (test s) refl, tally_zero test rest (omega (arith, none, tally-cons test s rest)))
+  where
+    go : (b : Bool) → test s ≡ b → test s ≡ false
+    go false e = e
+    go true e = let one : one_if (test s) ≡ 1 = ap one_if e in absurd (omega (arith, one, none, tally-cons test s rest))

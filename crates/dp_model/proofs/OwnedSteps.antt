@@ -1,0 +1,151 @@
+-- Each step leaves each mbuf with one owner.
+use Rattle.std.proofs.Common.{◌≡◌, ◌≢◌, ℕ, ◌+◌, ◌≤◌, Bool, true, false, cond, List, [], ◌∷◌, ◌++◌, length, Some, None, refl, sym, ap, subst, arith}
+use Rattle.std.specs.Prelude.{slice_get, slice_index, nat_lt}
+use Rattle.dp_model.specs.declared.instr.Instr.{Instr}
+use Rattle.dp_model.specs.declared.instr.Instr.TheVariants.{Alloc, Free, Clone, Prepend, Adj, Append, Trim, Chain, IfHead, IfTail, IfLen, IfLast, Load, Store, LoadX, StoreX, Set, Mov, Add, Sub, And, Or, Xor, Shl, Shr, Jmp, Jeq, Jlt, Lookup, Tx, Enq, Exit}
+use Rattle.dp_model.specs.Buffers.{Number, same_number}
+use Rattle.dp_model.specs.Packets.{Segment, Packet, headroom, tailroom, first_len, last_len, AreFresh, AreOwned, allocated, cloned, at_front, at_end, more_before, less_before, more_behind, less_behind}
+use Rattle.dp_model.specs.Machine.{Setting, State, live, Move, Acts, Holds, IsEmpty, goes_on, moves_to, is_denied, with_packet, without_packet, with_ring, with_outbox}
+use Rattle.dp_model.proofs.Refs.{refs_held}
+use Rattle.dp_model.proofs.Kept.{live_parts}
+use Rattle.dp_model.proofs.Counts.{tally, tally_live, tally_live_set, tally_to_ring, tally_to_outbox, tally_chain, tally_front, tally_end}
+use Rattle.dp_model.proofs.Owned.{has_mbuf, is_indirect_at, AreFewer, fewer_owned, AreMore, more_owned, allocated_direct, direct_comes, clone_comes}
+use Rattle.dp_model.proofs.Sound.{matched}
+use Rattle.dp_model.proofs.SoundClone.{refs_cloned}
+
+abbrev pub HasOwners : Setting → State → Type 0
+HasOwners c s = AreOwned c.env.pools (live s)
+
+-- ---- kinds of change
+
+-- no count grows
+pub fewer_by : (live live' : List Segment) → ((test : Segment → Bool) → tally test live' ≤ tally test live) → AreFewer live live'
+fewer_by live live' le = record {
+  mbufs = λ n. le (has_mbuf n);
+  buffers = λ n. le (λ s. same_number s.buffer n);
+  indirects = λ n. le (is_indirect_at n);
+}
+
+-- every count grows by the packet's
+pub more_by : (live live' : List Segment) (k : Packet) → ((test : Segment → Bool) → tally test live' ≡ tally test live + tally test k) → AreMore live live' k
+more_by live live' k is = record {
+  mbufs = λ n. is (has_mbuf n);
+  buffers = λ n. is (λ s. same_number s.buffer n);
+  indirects = λ n. is (is_indirect_at n);
+}
+
+-- the change of a segment leaves its mbuf and its buffer
+abbrev pub KeepsBuffer : (Segment → Segment) → Type 0
+KeepsBuffer f = (s : Segment) → ((f s).mbuf ≡ s.mbuf) × ((f s).buffer ≡ s.buffer)
+
+see_mbuf : (f : Segment → Segment) (n : Number) → KeepsBuffer f → (s : Segment) → has_mbuf n (f s) ≡ has_mbuf n s
+see_mbuf f n keeps s = ap (λ m. same_number m n) (keeps s).0
+
+see_buffer : (f : Segment → Segment) (n : Number) → KeepsBuffer f → (s : Segment) → same_number (f s).buffer n ≡ same_number s.buffer n
+see_buffer f n keeps s = ap (λ m. same_number m n) (keeps s).1
+
+see_indirect : (f : Segment → Segment) (n : Number) → KeepsBuffer f → (s : Segment) → is_indirect_at n (f s) ≡ is_indirect_at n s
+see_indirect f n keeps s = let e = see_mbuf f n keeps s in let g = see_buffer f n keeps s in cc
+
+-- the packet of a register is changed in front, or at the end
+pub front_fewer : (s : State) (p : ℕ) (f : Segment → Segment) (k : Packet) → KeepsBuffer f → Holds s p k → AreFewer (live s) (live (with_packet p (at_front f k) s))
+front_fewer s p f k keeps holds = record {
+  mbufs = λ n. omega (arith, tally_live_set (has_mbuf n) s p (Some k) (Some (at_front f k)) holds, tally_front (has_mbuf n) f k (see_mbuf f n keeps));
+  buffers = λ n. omega (arith, tally_live_set (λ x. same_number x.buffer n) s p (Some k) (Some (at_front f k)) holds, tally_front (λ x. same_number x.buffer n) f k (see_buffer f n keeps));
+  indirects = λ n. omega (arith, tally_live_set (is_indirect_at n) s p (Some k) (Some (at_front f k)) holds, tally_front (is_indirect_at n) f k (see_indirect f n keeps));
+}
+
+pub end_fewer : (s : State) (p : ℕ) (f : Segment → Segment) (k : Packet) → KeepsBuffer f → Holds s p k → AreFewer (live s) (live (with_packet p (at_end f k) s))
+end_fewer s p f k keeps holds = record {
+  mbufs = λ n. omega (arith, tally_live_set (has_mbuf n) s p (Some k) (Some (at_end f k)) holds, tally_end (has_mbuf n) f k (see_mbuf f n keeps));
+  buffers = λ n. omega (arith, tally_live_set (λ x. same_number x.buffer n) s p (Some k) (Some (at_end f k)) holds, tally_end (λ x. same_number x.buffer n) f k (see_buffer f n keeps));
+  indirects = λ n. omega (arith, tally_live_set (is_indirect_at n) s p (Some k) (Some (at_end f k)) holds, tally_end (is_indirect_at n) f k (see_indirect f n keeps));
+}
+
+-- a packet comes into an empty register
+pub packet_more : (s : State) (p : ℕ) (k : Packet) → IsEmpty s p → AreMore (live s) (live (with_packet p k s)) k
+packet_more s p k empty = more_by (live s) (live (with_packet p k s)) k (λ test. omega (arith, tally_live_set test s p None (Some k) empty))
+
+pub packet_fewer : (s : State) (p : ℕ) (k : Packet) → Holds s p k → AreFewer (live s) (live (without_packet p s))
+packet_fewer s p k holds = fewer_by (live s) (live (without_packet p s)) (λ test. omega (arith, tally_live_set test s p (Some k) None holds))
+
+chain_fewer : (s : State) (p q : ℕ) (k t : Packet) → p ≢ q → Holds s p k → Holds s q t → AreFewer (live s) (live (without_packet q (with_packet p (k ++ t) s)))
+chain_fewer s p q k t apart hp hq =
+    fewer_by (live s) (live (without_packet q (with_packet p (k ++ t) s)))
+    (λ test. omega (arith, tally_live test s, tally_live test (without_packet q (with_packet p (k ++ t) s)), tally_chain test s.packets p q k t apart hp hq))
+
+-- ---- a step
+
+by : (c : Setting) (m m' : Move) → m ≡ m' → HasOwners c m'.state → HasOwners c m.state
+by c m m' is h = subst (λ m. HasOwners c m.state) (sym is) h
+
+if_owned : (c : Setting) (b : Bool) (x y : Move) → HasOwners c x.state → HasOwners c y.state → HasOwners c (cond b x y).state
+if_owned c true x y hx hy = hx
+if_owned c false x y hx hy = hy
+
+ring_owned : (c : Setting) (s : State) (p ring : ℕ) (k : Packet) (packets : List Packet) → HasOwners c s → Holds s p k → slice_get s.world.rings ring ≡ Some packets → HasOwners c (with_ring ring (packets ++ k ∷ []) (without_packet p s))
+ring_owned c s p ring k packets owned holds there =
+    fewer_owned c.env.pools (live s) (live (with_ring ring (packets ++ k ∷ []) (without_packet p s)))
+    (fewer_by (live s) (live (with_ring ring (packets ++ k ∷ []) (without_packet p s))) (λ test. omega (arith, tally_to_ring test s p ring k packets holds there))) owned
+
+outbox_owned : (c : Setting) (s : State) (p port : ℕ) (k : Packet) (packets : List Packet) → HasOwners c s → Holds s p k → slice_get s.world.outboxes port ≡ Some packets → HasOwners c (with_outbox port (packets ++ k ∷ []) (without_packet p s))
+outbox_owned c s p port k packets owned holds there =
+    fewer_owned c.env.pools (live s) (live (with_outbox port (packets ++ k ∷ []) (without_packet p s)))
+    (fewer_by (live s) (live (with_outbox port (packets ++ k ∷ []) (without_packet p s))) (λ test. omega (arith, tally_to_outbox test s p port k packets holds there))) owned
+
+alloc_owned : (c : Setting) (s : State) (p pool : ℕ) (ns : List Number) → HasOwners c s → IsEmpty s p → AreFresh c.env.pools (live s) pool 1 ns → HasOwners c (with_packet p (allocated c.env.pools ns) s)
+alloc_owned c s p pool ns owned empty fresh =
+    let k = allocated c.env.pools ns in
+    more_owned c.env.pools (live s) (live (with_packet p k s)) k (packet_more s p k empty)
+    (direct_comes c.env.pools (live s) pool 1 k ns (allocated_direct c.env.pools ns) fresh) owned
+
+clone_owned : (c : Setting) (s : State) (p q pool : ℕ) (k : Packet) (ns : List Number) → HasOwners c s → IsEmpty s p → Holds s q k → AreFresh c.env.pools (live s) pool (length k) ns → HasOwners c (with_packet p (cloned ns k) s)
+clone_owned c s p q pool k ns owned empty holds fresh =
+    more_owned c.env.pools (live s) (live (with_packet p (cloned ns k) s)) (cloned ns k) (packet_more s p (cloned ns k) empty)
+    (clone_comes c.env.pools (live s) pool ns k (λ n. omega (arith, refs_cloned ns k n fresh.count, refs_held s.packets q (Some k) n holds, live_parts s n)) fresh) owned
+
+pub acts_owned : (c : Setting) (label : ℕ) (s : State) (i : Instr) (m : Move) → HasOwners c s → Acts c label s i m → HasOwners c m.state
+acts_owned c label s (Alloc p pool l) m owned (empty, there, call) = matched (is_denied c s pool 1) _ _ call
+    (λ is. by c m _ is owned)
+    (λ (ns, buffers, fresh, changes, is). by c m _ is (alloc_owned c s p pool ns owned empty fresh))
+acts_owned c label s (Clone p q pool l) m owned (k, holds, empty, there, call) = matched (is_denied c s pool (length k)) _ _ call
+    (λ is. by c m _ is owned)
+    (λ (ns, fresh, is). by c m _ is (clone_owned c s p q pool k ns owned empty holds fresh))
+acts_owned c label s (Free p) m owned (k, holds, is) =
+    by c m _ is (fewer_owned c.env.pools (live s) (live (without_packet p s)) (packet_fewer s p k holds) owned)
+acts_owned c label s (Prepend p n) m owned (k, holds, le, sole, is) =
+    by c m _ is (fewer_owned c.env.pools (live s) (live (with_packet p (at_front (more_before n) k) s)) (front_fewer s p (more_before n) k (λ s. (refl, refl)) holds) owned)
+acts_owned c label s (Append p n) m owned (k, holds, le, sole, is) =
+    by c m _ is (fewer_owned c.env.pools (live s) (live (with_packet p (at_end (more_behind n) k) s)) (end_fewer s p (more_behind n) k (λ s. (refl, refl)) holds) owned)
+acts_owned c label s (Adj p n) m owned (k, holds, le, is) =
+    by c m _ is (fewer_owned c.env.pools (live s) (live (with_packet p (at_front (less_before n) k) s)) (front_fewer s p (less_before n) k (λ s. (refl, refl)) holds) owned)
+acts_owned c label s (Trim p n) m owned (k, holds, le, is) =
+    by c m _ is (fewer_owned c.env.pools (live s) (live (with_packet p (at_end (less_behind n) k) s)) (end_fewer s p (less_behind n) k (λ s. (refl, refl)) holds) owned)
+acts_owned c label s (Chain p q) m owned (k, t, hk, ht, apart, few, is) =
+    by c m _ is (fewer_owned c.env.pools (live s) (live (without_packet q (with_packet p (k ++ t) s))) (chain_fewer s p q k t apart hk ht) owned)
+acts_owned c label s (IfHead p n l) m owned (k, holds, is) = by c m _ is (if_owned c (nat_lt (headroom k) n) (moves_to l s) (goes_on label s) owned owned)
+acts_owned c label s (IfTail p n l) m owned (k, holds, is) = by c m _ is (if_owned c (nat_lt (tailroom c.env.pools k) n) (moves_to l s) (goes_on label s) owned owned)
+acts_owned c label s (IfLen p n l) m owned (k, holds, is) = by c m _ is (if_owned c (nat_lt (first_len k) n) (moves_to l s) (goes_on label s) owned owned)
+acts_owned c label s (IfLast p n l) m owned (k, holds, is) = by c m _ is (if_owned c (nat_lt (last_len k) n) (moves_to l s) (goes_on label s) owned owned)
+acts_owned c label s (Load r p off w) m owned (k, holds, le, is) = by c m _ is owned
+acts_owned c label s (LoadX r p x off w) m owned (k, holds, le, is) = by c m _ is owned
+acts_owned c label s (Store p off w r) m owned (k, holds, le, sole, is) = by c m _ is owned
+acts_owned c label s (StoreX p x off w r) m owned (k, holds, le, sole, is) = by c m _ is owned
+acts_owned c label s (Tx p r l) m owned (k, port, packets, holds, is_port, there, is) =
+    by c m _ is (if_owned c (nat_lt (length packets + 1) port.queue) (goes_on label (with_outbox (slice_index s.numbers r) (packets ++ k ∷ []) (without_packet p s))) (moves_to l s) (outbox_owned c s p (slice_index s.numbers r) k packets owned holds there) owned)
+acts_owned c label s (Enq p ring l) m owned (k, spec, packets, holds, is_ring, there, is) =
+    by c m _ is (if_owned c (nat_lt (length packets + 1) spec.count) (goes_on label (with_ring ring (packets ++ k ∷ []) (without_packet p s))) (moves_to l s) (ring_owned c s p ring k packets owned holds there) owned)
+acts_owned c label s Exit m owned (gone, is) = by c m _ is owned
+acts_owned c label s (Set r n) m owned (after, e, is) = by c m _ is owned
+acts_owned c label s (Mov r x) m owned (after, e, is) = by c m _ is owned
+acts_owned c label s (Add r x) m owned (after, e, is) = by c m _ is owned
+acts_owned c label s (Sub r x) m owned (after, e, is) = by c m _ is owned
+acts_owned c label s (And r x) m owned (after, e, is) = by c m _ is owned
+acts_owned c label s (Or r x) m owned (after, e, is) = by c m _ is owned
+acts_owned c label s (Xor r x) m owned (after, e, is) = by c m _ is owned
+acts_owned c label s (Shl r n) m owned (after, e, is) = by c m _ is owned
+acts_owned c label s (Shr r n) m owned (after, e, is) = by c m _ is owned
+acts_owned c label s (Jmp l) m owned (after, e, is) = by c m _ is owned
+acts_owned c label s (Jeq r x l) m owned (after, e, is) = by c m _ is owned
+acts_owned c label s (Jlt r n l) m owned (after, e, is) = by c m _ is owned
+acts_owned c label s (Lookup r table x l) m owned (after, e, is) = by c m _ is owned

@@ -1,0 +1,82 @@
+-- Whole runs of a pipeline: every node run is safe, and there is a run for each list of records.
+use Rattle.std.proofs.Common.{◌≡◌, ℕ, Bool, List, [], ◌∷◌, ◌++◌, length, replicate, map, refl, sym, ◌∙◌, ap, subst, arith}
+use Rattle.std.specs.List.{AllByRecursion}
+use Rattle.dp_model.specs.Packets.{AreOwned}
+use Rattle.dp_model.specs.Machine.{Setting, World, live, segments_listed}
+use Rattle.dp_model.specs.Meaning.{TablesFit}
+use Rattle.dp_model.specs.Runs.{between, Outcome, Nodes, Arrival, Run, records_at, with_empty_outboxes, joined}
+use Rattle.dp_model.specs.Starts.{IsStart}
+use Rattle.dp_model.specs.Safety.{IsPacket, ArePackets, IsAtRest, Beginning, IsSafeBeginning, IsPipeline, CanArrive, IsOfRun, AreSafe}
+use Rattle.dp_model.proofs.Kept.{get_within}
+use Rattle.dp_model.proofs.Counts.{tally, tally_live}
+use Rattle.dp_model.proofs.Owned.{fewer_owned}
+use Rattle.dp_model.proofs.OwnedSteps.{fewer_by}
+use Rattle.dp_model.proofs.WholeRuns.{nothing_listed, drained_ready}
+use Rattle.dp_model.proofs.RunSteps.{start_ready}
+use Rattle.dp_model.proofs.SafeTurns.{safe_never_stuck, turn_rest, turn_exists, turn_runs_safe}
+
+-- ---- between turns
+
+nothing_mapped : {Z : Type 0} (zs : List Z) → segments_listed (map (λ _. []) zs) ≡ []
+nothing_mapped [] = refl
+nothing_mapped (z ∷ zs) = nothing_mapped zs
+
+no_lists : {Z : Type 0} (zs : List Z) → AllByRecursion (AllByRecursion IsPacket) (map (λ _. []) zs)
+no_lists [] = tt
+no_lists (z ∷ zs) = (tt, no_lists zs)
+
+-- before the first record
+pub start_rest : (c : Setting) (w : World) → TablesFit c → IsStart c.env w → IsAtRest c w
+start_rest c w tables start = record { ready = start_ready c w tables start; owned = subst (AreOwned c.env.pools) (sym none) nobody; packets = no_packets }
+  where
+    none : live (between w) ≡ []
+    none = ap (λ rings. segments_listed rings ++ segments_listed w.outboxes) start.rings
+        ∙ (ap (λ boxes. segments_listed (map (λ _. []) c.env.rings) ++ segments_listed boxes) start.outboxes
+        ∙ (ap (λ xs. xs ++ segments_listed (map (λ _. []) c.env.ports)) (nothing_mapped c.env.rings) ∙ nothing_mapped c.env.ports))
+
+    no_packets : ArePackets (between w)
+    no_packets = record { held = tt; rings = subst (AllByRecursion (AllByRecursion IsPacket)) (sym start.rings) (no_lists c.env.rings); outboxes = subst (AllByRecursion (AllByRecursion IsPacket)) (sym start.outboxes) (no_lists c.env.ports) }
+
+    nobody : AreOwned c.env.pools []
+    nobody = record { mbufs = tt; once = tt; direct = tt }
+
+-- after the drains
+pub drained_rest : (c : Setting) (w : World) → IsAtRest c w → IsAtRest c (with_empty_outboxes w)
+drained_rest c w rest = record {
+  ready = drained_ready c w rest.ready;
+  owned = fewer_owned c.env.pools (live (between w)) (live (between (with_empty_outboxes w)))
+      (fewer_by (live (between w)) (live (between (with_empty_outboxes w)))
+      (λ test. let e : tally test (segments_listed (with_empty_outboxes w).outboxes) ≡ 0 = ap (tally test) (nothing_listed w.outboxes) in omega (arith, e, tally_live test (between w), tally_live test (between (with_empty_outboxes w)))))
+      rest.owned;
+  packets = record { held = tt; rings = rest.packets.rings; outboxes = no_lists w.outboxes };
+}
+
+-- ---- runs
+
+pub run_rest : {T : Type 0} (c : Setting) (nodes : Nodes) (arrivals : List (Arrival T)) (w w' : World) (told : List Bool) (outcomes : List Outcome) (captures : List (List (T × List ℕ))) → IsPipeline c nodes → IsAtRest c w → Run c nodes arrivals w told outcomes captures w' → IsAtRest c w'
+run_rest c nodes [] w w' told outcomes captures checked rest (_, _, _, is) = subst (IsAtRest c) (sym is) rest
+run_rest c nodes (a ∷ arrivals) w w' told outcomes captures checked rest (outcome, others, now, later, runs, mid, more, turn, run, _, _, _) =
+    run_rest c nodes arrivals (with_empty_outboxes mid) w' later others more checked
+    (drained_rest c mid (turn_rest c nodes a.port a.bytes w mid outcome runs now checked rest turn)) run
+
+pub run_exists : {T : Type 0} (c : Setting) (nodes : Nodes) (arrivals : List (Arrival T)) (w : World) → IsPipeline c nodes → IsAtRest c w → AllByRecursion (CanArrive c) arrivals → (told : List Bool) × (outcomes : List Outcome) × (captures : List (List (T × List ℕ))) × (w' : World) × Run c nodes arrivals w told outcomes captures w'
+run_exists c nodes [] w pipeline rest can = ([], [], replicate (length c.env.ports) [], w, (refl, refl, refl, refl))
+run_exists {T} c nodes (a ∷ arrivals) w pipeline rest can =
+    let (spec, is_spec) = get_within c.env.ports a.port can.0.port in
+    let (outcome, runs, now, mid, turn) = turn_exists c nodes a.port spec a.bytes w pipeline is_spec rest can.0.bytes in
+    let after = drained_rest c mid (turn_rest c nodes a.port a.bytes w mid outcome runs now pipeline rest turn) in
+    let (later, outcomes, more, w', run) = run_exists {T = T} c nodes arrivals (with_empty_outboxes mid) pipeline after can.1 in
+    (now ++ later, outcome ∷ outcomes, joined (records_at a.time mid) more, w', (outcome, outcomes, now, later, runs, mid, more, turn, run, refl, refl, refl))
+
+-- every node run of a run is safe
+pub run_runs_safe : {T : Type 0} (c : Setting) (nodes : Nodes) (arrivals : List (Arrival T)) (w : World) (b : Beginning) → IsPipeline c nodes → IsAtRest c w → IsOfRun c nodes arrivals w b → IsSafeBeginning c b
+run_runs_safe c nodes arrivals w b checked rest r =
+    turn_runs_safe c nodes r.arrival.port r.arrival.bytes r.last b checked (run_rest c nodes r.before w r.last r.told r.outcomes r.captures checked rest r.run) r.of_turn
+
+pub run_safe : {T : Type 0} (c : Setting) (nodes : Nodes) (arrivals : List (Arrival T)) (w : World) → IsPipeline c nodes → IsAtRest c w → AllByRecursion (CanArrive c) arrivals → AreSafe c nodes arrivals w
+run_safe c nodes arrivals w pipeline rest can = record {
+  never_stuck = λ b of. safe_never_stuck c b (run_runs_safe c nodes arrivals w b pipeline rest of);
+  runs = λ b of. run_runs_safe c nodes arrivals w b pipeline rest of;
+  exists = run_exists c nodes arrivals w pipeline rest can;
+  rests = λ told outcomes captures w' run. run_rest c nodes arrivals w w' told outcomes captures pipeline rest run;
+}

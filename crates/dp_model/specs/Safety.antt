@@ -1,0 +1,191 @@
+-- What is promised of the node runs, the turns and the whole runs of checked nodes.
+use Rattle.std.specs.Prelude.{◌≡◌, ◌⊎◌, ℕ, zero, suc, ◌+◌, ◌<◌, ◌≤◌, Bool, false, nat_lt, if◌then◌else◌, List, ◌∷◌, ◌++◌, length, Option, Some, None, slice_get}
+use Rattle.std.specs.List.{AllByRecursion, AllZip}
+use Rattle.dp_model.specs.declared.env.Entry.{Entry}
+use Rattle.dp_model.specs.declared.env.Entry.TheVariants.{Port, Ring}
+use Rattle.dp_model.specs.declared.env.PortSpec.{PortSpec}
+use Rattle.dp_model.specs.declared.instr.Instr.{Instr}
+use Rattle.dp_model.specs.declared.row.Row.{Row}
+use Rattle.dp_model.specs.Environments.{room_at, fault_of}
+use Rattle.dp_model.specs.Buffers.{Number, Buffers}
+use Rattle.dp_model.specs.Packets.{Packet, needed, received, Filled, AreFresh, AreOwned, IsWellFormed}
+use Rattle.dp_model.specs.Rows.{entry_row}
+use Rattle.dp_model.specs.Rules.{Question, IsAccepted}
+use Rattle.dp_model.specs.Machine.{Setting, World, State, live, Next, At, Move, Step, is_denied}
+use Rattle.dp_model.specs.Meaning.{RowHolds, RingHolds}
+use Rattle.dp_model.specs.Runs.{Goes, first_state, NodeRun, NeverStuck, between, Outcome, Got, NoBuffer, Oversize, Arrives, Waiting, first_waiting, Nodes, Turn, Arrival, Run}
+use Rattle.dp_model.specs.Laws.{RowHoldsAt, Ready, Begins, AreChecked}
+
+-- ---- packets
+
+-- a packet has 1 to 64 segments
+abbrev pub IsPacket : Packet → Type 0
+IsPacket k = (1 ≤ length k) × (length k ≤ 64)
+
+-- what a register holds is one, if it holds anything
+abbrev pub IsPacketOrNone : Option Packet → Type 0
+IsPacketOrNone None = Unit {0}
+IsPacketOrNone (Some k) = IsPacket k
+
+-- all that registers, rings and transmit lists hold are packets
+pub record ArePackets (s : State) : Type 0 where
+  pub held : AllByRecursion IsPacketOrNone s.packets
+  pub rings : AllByRecursion (AllByRecursion IsPacket) s.world.rings
+  pub outboxes : AllByRecursion (AllByRecursion IsPacket) s.world.outboxes
+
+-- ---- node runs
+
+-- what holds between node runs: what the next one finds, each mbuf has one owner, and packets are packets
+pub record IsAtRest (c : Setting) (w : World) : Type 0 where
+  pub ready : Ready c w
+  pub owned : AreOwned c.env.pools (live (between w))
+  pub packets : ArePackets (between w)
+
+-- a node run begins as its entry says, in a world that is well formed
+pub record BeginsWell (c : Setting) (q : Question) (k : Packet) (number : ℕ) (w : World) : Type 0 where
+  pub begins : Begins c q k number w
+  pub owned : AreOwned c.env.pools (live (first_state k number w))
+  pub packets : ArePackets (first_state k number w)
+
+-- before each instruction: the row of its label holds, each packet in a ring meets what the ring declares, the world is
+-- well formed, and there is a step
+pub record IsSafeAt (c : Setting) (q : Question) (label : ℕ) (s : State) : Type 0 where
+  pub row : RowHoldsAt c q.rows label s
+  pub rings : AllZip (RingHolds c.env.pools (live s)) c.env.rings s.world.rings
+  pub well_formed : IsWellFormed c.env.pools s.world.buffers (live s)
+  pub packets : ArePackets s
+  pub has_step : (m : Move) × Step c q.program label s m
+
+-- a node run that begins with this packet, this number and this world
+pub record IsSafeRun (c : Setting) (q : Question) (k : Packet) (number : ℕ) (w : World) : Type 0 where
+  -- it begins in the row of its entry
+  pub begins : (row : Row) × (entry_row q.env q.entry ≡ Some row) × RowHolds c.env row (first_state k number w)
+  -- wherever it comes, all is safe, so it is never stuck
+  pub stays : (n label : ℕ) (told : List Bool) (s : State) → Goes c q.program n 0 (first_state k number w) told (At label) s → IsSafeAt c q label s
+  -- it takes at most as many steps as the program has instructions
+  pub short : (n : ℕ) (told : List Bool) (next : Next) (s : State) → Goes c q.program n 0 (first_state k number w) told next s → n ≤ length q.program
+  -- it can end
+  pub ends : (told : List Bool) × (w' : World) × NodeRun c q.program k number w told w'
+  -- and where it ends the next one can begin
+  pub rests : (told : List Bool) (w' : World) → NodeRun c q.program k number w told w' → IsAtRest c w'
+
+-- ---- the node runs of a turn
+
+-- how a node run begins: with which program, packet and number, and in which world
+pub record Beginning : Type 0 where
+  pub entry : Entry
+  pub program : List Instr
+  pub packet : Packet
+  pub number : ℕ
+  pub world : World
+
+-- a node run of this turn begins so: the record is small enough, the call is not refused, and the packet has its bytes
+pub record IsOfRecord (c : Setting) (nodes : Nodes) (port : ℕ) (bytes : List ℕ) (w : World) (b : Beginning) : Type 0 where
+  pub spec : PortSpec
+  pub spec_is : slice_get c.env.ports port ≡ Some spec
+  pub program : List Instr
+  pub program_is : slice_get nodes.ports port ≡ Some program
+  pub fits : needed c.env.pools spec.pool (length bytes) ≤ spec.segs
+  pub given : is_denied c (between w) spec.pool (needed c.env.pools spec.pool (length bytes)) ≡ false
+  pub numbers : List Number
+  pub buffers : Buffers
+  pub fresh : AreFresh c.env.pools (live (between w)) spec.pool (needed c.env.pools spec.pool (length bytes)) numbers
+  pub filled : Filled numbers (received (room_at c.env.pools spec.pool) numbers (length bytes)) bytes w.buffers buffers
+  pub is : b ≡ record { entry = Port port; program = program; packet = received (room_at c.env.pools spec.pool) numbers (length bytes); number = port; world = record w { buffers = buffers; calls = w.calls + 1 } }
+
+-- so many whole node runs on packets that wait in rings, one after the other
+abbrev pub HasServed : Setting → List (List Instr) → ℕ → World → World → Type 0
+HasServed c programs zero w w' = w' ≡ w
+HasServed c programs (suc n) w w' =
+    (next : Waiting) × (program : List Instr) × (told : List Bool) × (mid : World)
+    × (first_waiting w.rings ≡ Some next) × (slice_get programs next.ring ≡ Some program)
+    × NodeRun c program next.packet next.ring (record w { rings = next.rings }) told mid × HasServed c programs n mid w'
+
+-- a node run of this turn begins so: on the front packet of the first ring that has one, after fewer than 32 others
+pub record IsOfRing (c : Setting) (nodes : Nodes) (port : ℕ) (bytes : List ℕ) (w : World) (b : Beginning) : Type 0 where
+  pub spec : PortSpec
+  pub spec_is : slice_get c.env.ports port ≡ Some spec
+  pub own : List Instr
+  pub own_is : slice_get nodes.ports port ≡ Some own
+  pub outcome : Outcome
+  pub told : List Bool
+  pub mid : World
+  pub arrives : Arrives c own port spec bytes w outcome told mid
+  pub served : ℕ
+  pub few : served < 32
+  pub last : World
+  pub has_served : HasServed c nodes.rings served mid last
+  pub next : Waiting
+  pub waits : first_waiting last.rings ≡ Some next
+  pub program : List Instr
+  pub program_is : slice_get nodes.rings next.ring ≡ Some program
+  pub is : b ≡ record { entry = Ring next.ring; program = program; packet = next.packet; number = next.ring; world = record last { rings = next.rings } }
+
+-- a node run of this turn begins so
+abbrev pub IsOfTurn : Setting → Nodes → ℕ → List ℕ → World → Beginning → Type 0
+IsOfTurn c nodes port bytes w b = IsOfRecord c nodes port bytes w b ⊎ IsOfRing c nodes port bytes w b
+
+-- a certificate is accepted with the program and the entry, and the node run is safe
+pub record IsSafeBeginning (c : Setting) (b : Beginning) : Type 0 where
+  pub question : Question
+  pub accepted : IsAccepted question
+  pub env_is : question.env ≡ c.env
+  pub program_is : question.program ≡ b.program
+  pub entry_is : question.entry ≡ b.entry
+  pub safe : IsSafeRun c question b.packet b.number b.world
+
+-- ---- turns
+
+-- what becomes of a record: the pattern and the free buffers decide
+abbrev pub outcome_for : Setting → PortSpec → List ℕ → World → Outcome
+outcome_for c spec bytes w =
+    if nat_lt spec.segs (needed c.env.pools spec.pool (length bytes)) then Oversize else
+    if is_denied c (between w) spec.pool (needed c.env.pools spec.pool (length bytes)) then NoBuffer else Got
+
+pub record IsSafeTurn (c : Setting) (nodes : Nodes) (port : ℕ) (spec : PortSpec) (bytes : List ℕ) (w : World) : Type 0 where
+  -- no node run of the turn is ever stuck
+  pub never_stuck : (b : Beginning) → IsOfTurn c nodes port bytes w b → NeverStuck c b.program b.packet b.number b.world
+  -- they are all safe
+  pub runs : (b : Beginning) → IsOfTurn c nodes port bytes w b → IsSafeBeginning c b
+  -- there is such a turn
+  pub exists : (outcome : Outcome) × (runs : ℕ) × (told : List Bool) × (w' : World) × Turn c nodes port bytes w outcome runs told w'
+  -- each has the outcome that the pattern and the free buffers decide, and where it ends the next one can begin
+  pub outcome : (outcome : Outcome) (runs : ℕ) (told : List Bool) (w' : World) → Turn c nodes port bytes w outcome runs told w' → outcome ≡ outcome_for c spec bytes w
+  pub rests : (outcome : Outcome) (runs : ℕ) (told : List Bool) (w' : World) → Turn c nodes port bytes w outcome runs told w' → IsAtRest c w'
+
+-- ---- whole runs
+
+-- a pipeline: an environment within the limits, and a node for each port and each ring, accepted with its entry
+pub record IsPipeline (c : Setting) (nodes : Nodes) : Type 0 where
+  pub limits : fault_of c.env ≡ None
+  pub checked : AreChecked c nodes
+  pub ports : length nodes.ports ≡ length c.env.ports
+  pub rings : length nodes.rings ≡ length c.env.rings
+
+-- a record can come: its port is there, and it has bytes
+pub record CanArrive {T : Type 0} (c : Setting) (a : Arrival T) : Type 0 where
+  pub port : a.port < length c.env.ports
+  pub bytes : AllByRecursion (λ x. x < 256) a.bytes
+
+-- a node run of this run begins so: in the turn of a record, after a run on those before it
+pub record IsOfRun {T : Type 0} (c : Setting) (nodes : Nodes) (arrivals : List (Arrival T)) (w : World) (b : Beginning) : Type 0 where
+  pub before : List (Arrival T)
+  pub arrival : Arrival T
+  pub after : List (Arrival T)
+  pub arrivals_are : arrivals ≡ before ++ (arrival ∷ after)
+  pub told : List Bool
+  pub outcomes : List Outcome
+  pub captures : List (List (T × List ℕ))
+  pub last : World
+  pub run : Run c nodes before w told outcomes captures last
+  pub of_turn : IsOfTurn c nodes arrival.port arrival.bytes last b
+
+pub record AreSafe {T : Type 0} (c : Setting) (nodes : Nodes) (arrivals : List (Arrival T)) (w : World) : Type 0 where
+  -- no node run is ever stuck
+  pub never_stuck : (b : Beginning) → IsOfRun c nodes arrivals w b → NeverStuck c b.program b.packet b.number b.world
+  -- they are all safe
+  pub runs : (b : Beginning) → IsOfRun c nodes arrivals w b → IsSafeBeginning c b
+  -- there is such a run
+  pub exists : (told : List Bool) × (outcomes : List Outcome) × (captures : List (List (T × List ℕ))) × (w' : World) × Run c nodes arrivals w told outcomes captures w'
+  -- and where it ends the next record can come
+  pub rests : (told : List Bool) (outcomes : List Outcome) (captures : List (List (T × List ℕ))) (w' : World) → Run c nodes arrivals w told outcomes captures w' → IsAtRest c w'

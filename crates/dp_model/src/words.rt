@@ -1,0 +1,69 @@
+// What is proved of the definitions themselves, as contracts of functions that do nothing.
+
+ghost use Rattle.std.specs.Prelude.{◌≡◌, ◌≢◌, ◌↔◌, ℕ, ◌+◌, ◌-◌, ◌%◌, ◌^◌, ◌<◌, ◌≤◌, List, ◌∷◌, length, Option, Some, None};
+ghost use Rattle.dp_model.specs.Arithmetic.{all_ones, big_endian, spelled};
+ghost use Rattle.dp_model.specs.Buffers.{Number, Buffers, bytes_of};
+ghost use Rattle.dp_model.specs.Environments.{Environment, room_at, fault_of};
+ghost use Rattle.dp_model.specs.Machine.{Setting, State, World, Move, Step, live};
+ghost use Rattle.dp_model.specs.Meaning.{TablesFit};
+ghost use Rattle.dp_model.specs.Packets.{Segment, Packet, refs, headroom, tailroom, first_len, last_len, IsHeadSole, IsTailSole, AreOwned, IsWellFormed, at_front, at_end, more_before, less_before, more_behind, less_behind, zeroed_before, zeroed_behind, stored, loaded};
+ghost use Rattle.dp_model.specs.Prefixes.{Route, IsTable, LooksUp, hop_for};
+ghost use Rattle.dp_model.specs.Runs.{with_empty_outboxes};
+ghost use Rattle.dp_model.specs.Safety.{ArePackets, IsAtRest};
+ghost use Rattle.dp_model.specs.Starts.{IsStart};
+ghost use Rattle.dp_model.specs.Stores.{Store, segments_of, Has, with_slot, Becomes, unwritten, Allocates, ReceivesInto, Clones, Chains, IsWellFormedStore};
+ghost use Rattle.dp_model.specs.declared.instr.Instr.{Instr};
+
+/// Worlds stay well formed: at each step of any program, accepted or not, and at the drains; so is the start. Packets
+/// stay packets of 1 to 64 segments. There are never more references to a buffer than 16 bits can count.
+pub fn worlds_stay_well_formed()
+    ensures steps { (c : Setting) (program : List Instr) (label : ℕ) (s : State) (m : Move) →
+        IsWellFormed c.env.pools s.world.buffers (live s) → Step c program label s m →
+        IsWellFormed c.env.pools m.state.world.buffers (live m.state) }
+    ensures packets { (c : Setting) (program : List Instr) (label : ℕ) (s : State) (m : Move) →
+        ArePackets s → Step c program label s m → ArePackets m.state }
+    ensures drains { (c : Setting) (w : World) → IsAtRest c w → IsAtRest c (with_empty_outboxes w) }
+    ensures starts { (c : Setting) (w : World) → TablesFit c → IsStart c.env w → IsAtRest c w }
+    ensures few { (env : Environment) (segments : List Segment) (b : Number) →
+        fault_of env ≡ None → AreOwned env.pools segments → refs segments b ≤ 65535 }
+{}
+
+/// Packet layers stay well formed at each call that takes packets or changes one.
+pub fn layers_stay_well_formed()
+    ensures alloc { (s s' : Store) (pool h : ℕ) → IsWellFormedStore s → Allocates s pool s' (Some h) → IsWellFormedStore s' }
+    ensures receive { (s s' : Store) (pool h : ℕ) (bytes : List ℕ) → 129 ≤ room_at s.pools pool → IsWellFormedStore s →
+        ReceivesInto s pool bytes s' (Some h) → IsWellFormedStore s' }
+    ensures clone_of { (s s' : Store) (source pool h : ℕ) (k : Packet) → IsWellFormedStore s → Has s source k →
+        Clones s source pool s' (Some h) → IsWellFormedStore s' }
+    ensures free { (s : Store) (h : ℕ) (k : Packet) → IsWellFormedStore s → Has s h k → IsWellFormedStore (with_slot h None s) }
+    ensures prepend { (s s' : Store) (h n : ℕ) (k : Packet) → IsWellFormedStore s → Has s h k → n ≤ headroom k → IsHeadSole (segments_of s) k →
+        Becomes s s' h (at_front (more_before n)) (zeroed_before n) → IsWellFormedStore s' }
+    ensures adj { (s s' : Store) (h n : ℕ) (k : Packet) → IsWellFormedStore s → Has s h k → n ≤ first_len k →
+        Becomes s s' h (at_front (less_before n)) unwritten → IsWellFormedStore s' }
+    ensures append { (s s' : Store) (h n : ℕ) (k : Packet) → IsWellFormedStore s → Has s h k → n ≤ tailroom s.pools k → IsTailSole (segments_of s) k →
+        Becomes s s' h (at_end (more_behind n)) (zeroed_behind n) → IsWellFormedStore s' }
+    ensures trim { (s s' : Store) (h n : ℕ) (k : Packet) → IsWellFormedStore s → Has s h k → n ≤ last_len k →
+        Becomes s s' h (at_end (less_behind n)) unwritten → IsWellFormedStore s' }
+    ensures chain { (s s' : Store) (h t : ℕ) (k tail : Packet) → IsWellFormedStore s → h ≢ t → Has s h k → Has s t tail → length k + length tail ≤ 64 →
+        Chains s h t s' → IsWellFormedStore s' }
+    ensures store { (s s' : Store) (h place w n : ℕ) (k : Packet) → IsWellFormedStore s → Has s h k → place + w ≤ first_len k →
+        Becomes s s' h (λ k. k) (stored place w n) → IsWellFormedStore s' }
+{}
+
+/// The two readings of the longest prefix agree: what the deepest route that matches gives is what the search depth
+/// by depth finds.
+pub fn longest_prefixes_agree()
+    ensures { (routes : List Route) (ip : ℕ) (answer : Option ℕ) → IsTable routes →
+        (LooksUp routes ip answer) ↔ (answer ≡ hop_for routes ip) }
+{}
+
+/// Numbers are what they are called: `all_ones` is the least 2^k - 1 that is at least a number, the bytes of a number
+/// spell its low part, and what is stored is loaded.
+pub fn numbers_are_as_called()
+    ensures ones { (n : ℕ) → (k : ℕ) × (all_ones n + 1 ≡ 2 ^ k) }
+    ensures enough { (n : ℕ) → n ≤ all_ones n }
+    ensures least { (n j : ℕ) → n + 1 ≤ 2 ^ j → all_ones n + 1 ≤ 2 ^ j }
+    ensures spelling { (w n : ℕ) → spelled (big_endian w n) ≡ n % 256 ^ w }
+    ensures stores { (place w n : ℕ) (s : Segment) (rest : Packet) (buffers : Buffers) → 1 ≤ w → place + w ≤ s.len →
+        s.offset + s.len ≤ length (bytes_of buffers s.buffer) → loaded place w (s ∷ rest) (stored place w n (s ∷ rest) buffers) ≡ n % 256 ^ w }
+{}
