@@ -1,1 +1,2 @@
-pub use Rattle.dp_model.specs.CopyMachine
+pub mod Seen
+pub mod TwoClones

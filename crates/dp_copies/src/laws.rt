@@ -1,25 +1,52 @@
-// Clones are copies, as contracts of functions that do nothing.
+// Clones are copies, as contracts of functions that do nothing. Another crate's proof calls one, or cites its lemma.
 
-ghost use Rattle.std.specs.Prelude.{◌≡◌, ℕ, List, Bool};
-ghost use Rattle.dp_model.specs.Starts.{HaveRoom, IsStart};
+ghost use Rattle.std.specs.Prelude.{◌≡◌, ℕ, List, Bool, None};
+ghost use Rattle.dp_model.specs.declared.env.PortSpec.{PortSpec};
+ghost use Rattle.dp_model.specs.declared.instr.Instr.{Instr};
+ghost use Rattle.dp_model.specs.Environments.{Environment, fault_of};
+ghost use Rattle.dp_model.specs.Prefixes.{Route};
+ghost use Rattle.dp_model.specs.Packets.{Packet};
+ghost use Rattle.dp_model.specs.Machine.{Setting, World, State, Move, Step};
+ghost use Rattle.dp_model.specs.Runs.{Nodes, Outcome, Arrival, Receives, Run};
+ghost use Rattle.dp_model.specs.Starts.{IsStart};
+ghost use Rattle.dp_model.specs.Copies.{copy_of};
 ghost use Rattle.dp_model.specs.CopyMachine.{Captures};
-ghost use Rattle.dp_model.specs.Machine.{Setting, World};
-ghost use Rattle.dp_model.specs.Runs.{Nodes, Outcome, Arrival, Run};
+ghost use Rattle.dp_copies.specs.Seen.{IsQueued, IsBeside};
 
 /// Clones are copies: a whole run over shared buffers, in which no node run is stuck, has the captures of the
 /// machine in which each packet has bytes of its own, where the allocation calls are told the same. No row, rule or
-/// certificate occurs. A `T` is the time of a record.
+/// certificate occurs. The environment is one that `Env::new` accepts. A `T` is the time of a record.
 pub fn clones_are_copies<T>()
     ensures { (c : Setting) (nodes : Nodes) (arrivals : List (Arrival T)) (w w' : World) (told : List Bool) (outcomes : List Outcome) (captures : List (List (T × List ℕ))) →
-        HaveRoom c.env → IsStart c.env w → Run c nodes arrivals w told outcomes captures w' →
+        fault_of c.env ≡ None → IsStart c.env w → Run c nodes arrivals w told outcomes captures w' →
         Captures c.env c.tables nodes arrivals told captures }
+{}
+
+/// The machine of copies is deterministic: on the same records, with the same told to its allocation calls, it has
+/// one list of captures.
+pub fn copies_are_deterministic<T>()
+    ensures { (env : Environment) (tables : List (List Route)) (nodes : Nodes) (arrivals : List (Arrival T)) (told : List Bool) (captures captures' : List (List (T × List ℕ))) →
+        Captures env tables nodes arrivals told captures → Captures env tables nodes arrivals told captures' →
+        captures ≡ captures' }
 {}
 
 /// Two runs on the same records, whose allocation calls are told the same, have the same captures, whatever
 /// buffers were taken and whatever they held.
 pub fn buffers_are_not_seen<T>()
     ensures { (c d : Setting) (nodes : Nodes) (arrivals : List (Arrival T)) (w w' v v' : World) (told : List Bool) (outcomes outcomes' : List Outcome) (captures captures' : List (List (T × List ℕ))) →
-        c.env ≡ d.env → c.tables ≡ d.tables → HaveRoom c.env → IsStart c.env w → IsStart c.env v →
+        c.env ≡ d.env → c.tables ≡ d.tables → fault_of c.env ≡ None → IsStart c.env w → IsStart c.env v →
         Run c nodes arrivals w told outcomes captures w' → Run d nodes arrivals v told outcomes' captures' v' →
         captures ≡ captures' }
+{}
+
+/// No store, prepend or append is seen through another packet, nor is a buffer that was used before: a packet in a
+/// ring, in a transmit list, or in a register other than the one that an instruction writes has the same bytes and
+/// rooms before and after each step, and before and after a record is received.
+pub fn writes_are_not_seen()
+    ensures steps { (c : Setting) (program : List Instr) (label : ℕ) (s : State) (m : Move) (step : Step c program label s m) (k : Packet) →
+        IsBeside step.instr s k →
+        copy_of c.env.pools m.state.world.buffers k ≡ copy_of c.env.pools s.world.buffers k }
+    ensures receives { (c : Setting) (program : List Instr) (port : ℕ) (spec : PortSpec) (bytes : List ℕ) (w w' : World) (told : List Bool) (received : Receives c program port spec bytes w told w') (k : Packet) →
+        IsQueued w k →
+        copy_of c.env.pools received.buffers k ≡ copy_of c.env.pools w.buffers k }
 {}

@@ -1,0 +1,12 @@
+-- A step acts on the state with one step more, in which the same packets stand.
+use Rattle.dp_model.specs.Machine.{with_step}
+use Rattle.dp_copies.proofs.NotSeen.{beside_stays, queued_stays}
+use Rattle.dp_copies.proofs.laws.writes_are_not_seen.Goals as goal
+
+pub returns-clause-steps : goal.returns-clause-steps
+returns-clause-steps c setting program label s m step k beside =
+    beside_stays setting label (with_step s) step.instr m k step.acts beside
+
+pub returns-clause-receives : goal.returns-clause-receives
+returns-clause-receives c setting program port spec bytes w w' told received k =
+    queued_stays setting program port spec bytes w w' told k received
