@@ -1,7 +1,7 @@
 //! Headers of elements, in the region. `specs/Laid.antt` says which word lies where.
 ghost use Rattle.std.specs.Prelude.{◌≡◌, ◌+◌, ◌-◌, ◌<◌, ◌≤◌, length};
 ghost use Rattle.dp_region.specs.Region.{IsFree, number_at};
-ghost use Rattle.dp_heap.specs.Laid.{element_at, with_header, with_back, with_pad};
+ghost use Rattle.dp_heap.specs.Laid.{word_of, element_at, with_header, with_back, with_pad};
 
 use crate::elements::{Element, State};
 use dp_region::Region;
@@ -25,12 +25,16 @@ pub(crate) fn read_header(region: &Region, place: u32) -> Element
 }
 
 // A header at `place`, but for the word on the element below.
-pub(crate) fn write_header(region: &mut Region, place: u32, size: u32, state: u32, pad: u32)
+pub(crate) fn write_header(region: &mut Region, place: u32, size: u32, state: State, pad: u32)
     requires { IsFree region.old place 12 × (length region.old.bytes ≤ 1073741824) }
-    ensures { region.new ≡ record region.old { bytes = with_header region.old.bytes place size state pad } }
+    ensures { region.new ≡ record region.old { bytes = with_header region.old.bytes place size (word_of state) pad } }
 {
+    let word = match state {
+        State::Free => 0,
+        State::Busy => 1,
+    };
     region.store_u32(place, size);
-    region.store_u32(place + 4, state);
+    region.store_u32(place + 4, word);
     region.store_u32(place + 8, pad);
 }
 

@@ -19,9 +19,9 @@ fn cut(region: &mut Region, e: &Element, mid: u32)
     ensures pieces { Replaces e.now (lower e.now mid ∷ upper e.now mid ∷ []) (elements_in region.old.bytes) (elements_in region.new.bytes) }
 {
     let end = e.place + e.size;
-    write_header(region, mid, end - mid, 0, 0);
+    write_header(region, mid, end - mid, State::Free, 0);
     write_back(region, mid, mid - e.place);
-    write_header(region, e.place, mid - e.place, 0, 0);
+    write_header(region, e.place, mid - e.place, State::Free, 0);
     write_back(region, end, end - mid);
 }
 
@@ -36,7 +36,7 @@ fn mark(region: &mut Region, e: &Element, at: u32, len: u32) -> Block
     ensures pieces { Replaces e.now (marked e.now at ∷ []) (elements_in region.old.bytes) (elements_in region.new.bytes) }
 {
     let pad = at - 64 - e.place;
-    write_header(region, e.place, e.size, 1, pad);
+    write_header(region, e.place, e.size, State::Busy, pad);
     write_pad(region, at, pad);
     region.lend(at, len)
 }
@@ -112,7 +112,7 @@ pub(crate) fn unmark(region: &mut Region, block: Block) -> Element
     region.reclaim(block);
     let pad = read_pad(region, at);
     let e = read_header(region, at - 64 - pad);
-    write_header(region, e.place, e.size, 0, 0);
+    write_header(region, e.place, e.size, State::Free, 0);
     Element {
         state: State::Free,
         pad: 0,
@@ -131,7 +131,7 @@ fn join(region: &mut Region, x: Element, y: Element) -> Element
     ensures pieces { (before after : List Item) → elements_in region.old.bytes ≡ before ++ x ∷ y ∷ after → elements_in region.new.bytes ≡ before ++ both x y ∷ after }
 {
     let size = x.size + y.size;
-    write_header(region, x.place, size, 0, 0);
+    write_header(region, x.place, size, State::Free, 0);
     write_back(region, x.place + size, size);
     Element { size, pad: 0, ..x }
 }

@@ -77,3 +77,12 @@ fn bytes_stay_as_the_holder_left_them(rt: HostRuntime) -> Result<(), Fail> {
     assert_eq!(rt; text.as_str(), "out of memory");
     Ok(())
 }
+
+// With the first allocation refused, `Memory` is told.
+#[test]
+fn want_of_memory_is_told(rt: HostRuntime) {
+    match Region::new(rt.alloc(), 4096) {
+        Ok(region) => region.close(),
+        Err(error) => assert_eq!(rt; error, Memory),
+    }
+}
