@@ -1,0 +1,70 @@
+-- Entries that become another one, place by place.
+use Rattle.std.proofs.Common.{◌≡◌, ◌≢◌, ℕ, ◌+◌, ◌/◌, ◌%◌, ◌<◌, ◌≤◌, Bool, true, false, List, length, refl, sym, ◌∙◌, ap, subst, arith, ⊎_elim}
+use Rattle.std.specs.Prelude.{◌==◌, slice_set, slice_index_or, if◌then◌else◌}
+use Rattle.std.proofs.lemmas.Bool.{eqb-true, le-leb, lt-leb, cases_eq}
+use Rattle.std.proofs.lemmas.List.{get_or-set_same, get_or-set_other}
+use Rattle.dp_lpm.specs.declared.cell.Cell.{Cell}
+use Rattle.dp_lpm.specs.declared.cell.Entry.{Entry}
+use Rattle.dp_lpm.specs.declared.cell.Entry.TheVariants.{Empty, Hop, Group}
+use Rattle.dp_lpm.specs.Cells.{at, settled, depth_of, entry_in}
+
+-- those from one place up to k are settled, and the others stay
+pub record SettledUpTo (from k depth : ℕ) (to : Entry) (old new : List Cell) : Type 0 where
+  pub inside : (i : ℕ) → from ≤ i → i < k → at new i ≡ settled depth to (at old i)
+  pub below : (i : ℕ) → i < from → at new i ≡ at old i
+  pub above : (i : ℕ) → k ≤ i → at new i ≡ at old i
+
+-- the highest byte is the depth
+pub depth_in : (c : Cell) → depth_of (entry_in c) ≡ c.bits / 16777216
+depth_in c = kinds (c.bits / 16777216 == 0) (c.bits / 16777216 == 255) refl refl
+  where
+    kinds : (none group : Bool) → (c.bits / 16777216 == 0) ≡ none → (c.bits / 16777216 == 255) ≡ group → depth_of (if none then Empty else if group then Group (c.bits % 256) else Hop (c.bits % 16777216) (c.bits / 16777216)) ≡ c.bits / 16777216
+    kinds true group is _ = sym (eqb-true (c.bits / 16777216) 0 is)
+    kinds false true _ is = sym (eqb-true (c.bits / 16777216) 255 is)
+    kinds false false _ _ = refl
+
+-- an entry that is set, and the others
+pub at-set_same : (cells : List Cell) (k : ℕ) (c : Cell) → k < length cells → at (slice_set cells k c) k ≡ entry_in c
+at-set_same cells k c there = ap entry_in (get_or-set_same cells k c (record { bits = 0 }) there)
+
+pub at-set_other : (cells : List Cell) (k i : ℕ) (c : Cell) → i ≢ k → at (slice_set cells k c) i ≡ at cells i
+at-set_other cells k i c other = ap entry_in (get_or-set_other cells k i c (record { bits = 0 }) other)
+
+settled_yes : (depth : ℕ) (to e : Entry) → depth_of e ≤ depth → settled depth to e ≡ to
+settled_yes depth to e le = ap (λ b. if b then to else e) (le-leb (depth_of e) depth le)
+
+settled_no : (depth : ℕ) (to e : Entry) → depth < depth_of e → settled depth to e ≡ e
+settled_no depth to e lt = ap (λ b. if b then to else e) (lt-leb (depth_of e) depth lt)
+
+-- one more: it is shallow enough, and set
+pub settle_set : (from k depth : ℕ) (to : Cell) (old cells : List Cell) → SettledUpTo from k depth (entry_in to) old cells → from ≤ k → k < length cells → (slice_index_or cells k (record { bits = 0 })).bits / 16777216 ≤ depth → SettledUpTo from (k + 1) depth (entry_in to) old (slice_set cells k to)
+settle_set from k depth to old cells so after there shallow = record {
+  inside = λ i le lt. ⊎_elim (here i) (λ other. at-set_other cells k i to other ∙ so.inside i le (omega (arith, lt, other))) (cases_eq i k);
+  below = λ i lt. at-set_other cells k i to (λ e. absurd (omega (arith, e, lt, after))) ∙ so.below i lt;
+  above = λ i le. at-set_other cells k i to (λ e. absurd (omega (arith, e, le))) ∙ so.above i (omega (arith, le));
+}
+  where
+    here : (i : ℕ) → i ≡ k → at (slice_set cells k to) i ≡ settled depth (entry_in to) (at old i)
+    here i is =
+        let was : at cells i ≡ at old i = so.above i (omega (arith, is)) in
+        let deep : depth_of (at old i) ≡ (slice_index_or cells k (record { bits = 0 })).bits / 16777216 = ap depth_of (sym was ∙ ap (at cells) is) ∙ depth_in (slice_index_or cells k (record { bits = 0 })) in
+        ap (at (slice_set cells k to)) is ∙ (at-set_same cells k to there ∙ sym (settled_yes depth (entry_in to) (at old i) (omega (arith, deep, shallow))))
+
+-- one more: it is deeper, and stays
+pub settle_keep : (from k depth : ℕ) (to : Entry) (old cells : List Cell) → SettledUpTo from k depth to old cells → depth < (slice_index_or cells k (record { bits = 0 })).bits / 16777216 → SettledUpTo from (k + 1) depth to old cells
+settle_keep from k depth to old cells so deeper = record {
+  inside = λ i le lt. ⊎_elim (here i) (λ other. so.inside i le (omega (arith, lt, other))) (cases_eq i k);
+  below = so.below;
+  above = λ i le. so.above i (omega (arith, le));
+}
+  where
+    here : (i : ℕ) → i ≡ k → at cells i ≡ settled depth to (at old i)
+    here i is =
+        let was : at cells i ≡ at old i = so.above i (omega (arith, is)) in
+        let deep : depth_of (at old i) ≡ (slice_index_or cells k (record { bits = 0 })).bits / 16777216 = ap depth_of (sym was ∙ ap (at cells) is) ∙ depth_in (slice_index_or cells k (record { bits = 0 })) in
+        was ∙ sym (settled_no depth to (at old i) (omega (arith, deep, deeper)))
+
+-- the same of lists that are those
+pub settled_between : (from k depth : ℕ) (to : Entry) (old old' new new' : List Cell) → old ≡ old' → new ≡ new' → SettledUpTo from k depth to old new → SettledUpTo from k depth to old' new'
+settled_between from k depth to old old' new new' e f so =
+    subst (λ xs. SettledUpTo from k depth to old' xs) f (subst (λ xs. SettledUpTo from k depth to xs new) e so)

@@ -1,0 +1,53 @@
+-- The deepest route that is at most so deep, step by step.
+use Rattle.std.proofs.Common.{◌≡◌, ℕ, zero, suc, ◌-◌, ◌<◌, cond, ◌&&◌, List, [], ◌∷◌, take, drop, Some, None, refl, sym, ◌∙◌, ap, arith}
+use Rattle.std.specs.Prelude.{◌==◌}
+use Rattle.std.specs.Option.{option_or}
+use Rattle.dp_model.specs.Prefixes.{Route}
+use Rattle.dp_lpm.specs.declared.cell.Entry.TheVariants.{Hop}
+use Rattle.dp_lpm.specs.declared.rule.Rule.{Rule}
+use Rattle.dp_lpm.specs.Routes.{prefix_of, route_at, deepest_within}
+use Rattle.dp_lpm.specs.Rules.{rank, rule_at, route_of, routes_of, entry_of, IsFound, IsMissing}
+use Rattle.std.proofs.lemmas.Bool.{eq-eqb}
+use Rattle.std.proofs.lemmas.List.{take-append-drop}
+use Rattle.dp_lpm.proofs.Splices.{here_at, all_below, all_above, at_place}
+
+pub within_zero : (routes : List Route) (ip : ℕ) → deepest_within 0 routes ip ≡ None
+unfolding deepest_within
+within_zero routes ip = refl
+
+pub within_suc : (depth : ℕ) (routes : List Route) (ip : ℕ) → deepest_within (suc depth) routes ip ≡ option_or (route_at routes (prefix_of ip (suc depth)) (suc depth)) (deepest_within depth routes ip)
+unfolding deepest_within
+within_suc depth routes ip = refl
+
+-- a rule that is found is the route of its place
+pub found_at : (rules : List Rule) (depth prefix place : ℕ) → IsFound rules depth prefix place → route_at (routes_of rules) prefix depth ≡ Some (route_of (rule_at rules place))
+found_at rules depth prefix place found =
+    let r = rule_at rules place in
+    let front = all_below (take place rules) (rank depth prefix) found.parts.lower in
+    let behind = all_above (drop (suc place) rules) (rank depth prefix) found.parts.upper in
+    ap (λ rs. route_at (routes_of rs) prefix depth) (at_place rules place found.there)
+    ∙ (here_at (take place rules) (r ∷ []) (drop (suc place) rules) prefix depth front behind
+    ∙ (ap (λ b. cond (b && (r.prefix == prefix)) (Some (route_of r)) None) (eq-eqb r.depth depth found.depth_is)
+    ∙ ap (λ b. cond b (Some (route_of r)) None) (eq-eqb r.prefix prefix found.prefix_is)))
+
+pub missing_at : (rules : List Rule) (depth prefix place : ℕ) → IsMissing rules depth prefix place → route_at (routes_of rules) prefix depth ≡ None
+missing_at rules depth prefix place missing =
+    ap (λ rs. route_at (routes_of rs) prefix depth) (sym (take-append-drop place rules))
+    ∙ here_at (take place rules) [] (drop place rules) prefix depth
+    (all_below (take place rules) (rank depth prefix) missing.parts.lower)
+    (all_above (drop place rules) (rank depth prefix) missing.parts.upper)
+
+-- the entry where a rule of the depth is found, and where it is not
+pub entry_found : (rules : List Rule) (ip depth place : ℕ) → 0 < depth → IsFound rules depth (prefix_of ip depth) place → Hop (rule_at rules place).hop depth ≡ entry_of (deepest_within depth (routes_of rules) ip)
+entry_found rules ip zero place some found = absurd (omega (arith, some))
+entry_found rules ip (suc depth) place some found =
+    ap (Hop (rule_at rules place).hop) (sym found.depth_is)
+    ∙ ap entry_of (sym (within_suc depth (routes_of rules) ip ∙ ap (λ o. option_or o (deepest_within depth (routes_of rules) ip)) (found_at rules (suc depth) (prefix_of ip (suc depth)) place found)))
+
+pub entry_missing : (rules : List Rule) (ip depth place : ℕ) → 0 < depth → IsMissing rules depth (prefix_of ip depth) place → deepest_within depth (routes_of rules) ip ≡ deepest_within (depth - 1) (routes_of rules) ip
+entry_missing rules ip zero place some missing = absurd (omega (arith, some))
+entry_missing rules ip (suc depth) place some missing =
+    let e : suc depth - 1 ≡ depth = omega arith in
+    within_suc depth (routes_of rules) ip
+    ∙ (ap (λ o. option_or o (deepest_within depth (routes_of rules) ip)) (missing_at rules (suc depth) (prefix_of ip (suc depth)) place missing)
+    ∙ ap (λ n. deepest_within n (routes_of rules) ip) (sym e))

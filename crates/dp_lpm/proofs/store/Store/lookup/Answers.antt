@@ -1,0 +1,13 @@
+-- The entry is that of the deepest route.
+use Rattle.std.proofs.Common.{sym, ◌∙◌}
+use Rattle.dp_lpm.specs.Kept.{routes_in}
+use Rattle.dp_lpm.proofs.HopFor.{hop_told, none_told}
+use Rattle.dp_lpm.proofs.store.Store.lookup.Goals as goal
+
+pub returns-in-Hop : goal.returns-in-Hop
+returns-in-Hop c =
+    sym (hop_told (routes_in c.args.self.now) c.args.ip c.in-Hop.hop c.in-Hop.depth (c.in-Hop.ensures ∙ c.requires.answers c.args.ip))
+
+pub returns-in_default : goal.returns-in_default
+returns-in_default c =
+    sym (none_told (routes_in c.args.self.now) c.args.ip c.entry_for.result c.in_default.not-Hop (c.entry_for.ensures ∙ c.requires.answers c.args.ip))

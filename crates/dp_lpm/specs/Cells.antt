@@ -1,0 +1,38 @@
+-- Entries of tables, and the four bytes that each takes.
+use Rattle.std.specs.Prelude.{ℕ, ◌/◌, ◌%◌, ◌<◌, ◌≤◌, ◌==◌, nat_le, if◌then◌else◌, List, Option, Some, None, slice_index_or}
+use Rattle.dp_lpm.specs.declared.cell.Entry.{Entry}
+use Rattle.dp_lpm.specs.declared.cell.Entry.TheVariants.{Empty, Hop, Group}
+use Rattle.dp_lpm.specs.declared.cell.Cell.{Cell}
+
+-- the entry of four bytes
+abbrev pub entry_in : Cell → Entry
+entry_in c =
+    if c.bits / 16777216 == 0 then Empty
+    else if c.bits / 16777216 == 255 then Group (c.bits % 256)
+    else Hop (c.bits % 16777216) (c.bits / 16777216)
+
+-- whether four bytes can hold it
+abbrev pub IsStorable : Entry → Type 0
+IsStorable Empty = Unit {0}
+IsStorable (Hop hop depth) = (hop < 16777216) × (1 ≤ depth) × (depth ≤ 32)
+IsStorable (Group g) = Unit {0}
+
+-- the entry at a place
+abbrev pub at : List Cell → ℕ → Entry
+at cells k = entry_in (slice_index_or cells k (record { bits = 0 }))
+
+-- how deep the rule of an entry is, 255 for a group
+abbrev pub depth_of : Entry → ℕ
+depth_of Empty = 0
+depth_of (Hop hop depth) = depth
+depth_of (Group g) = 255
+
+-- an entry that is at most so deep becomes another
+abbrev pub settled : ℕ → Entry → Entry → Entry
+settled depth to e = if nat_le (depth_of e) depth then to else e
+
+-- the group that an entry names
+abbrev pub group_in : Entry → Option ℕ
+group_in Empty = None
+group_in (Hop hop depth) = None
+group_in (Group g) = Some g

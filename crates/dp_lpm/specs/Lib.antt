@@ -1,0 +1,6 @@
+pub mod Cells
+pub mod Faults
+pub mod Kept
+pub mod Routes
+pub mod Rules
+pub mod Tables

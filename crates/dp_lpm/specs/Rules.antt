@@ -1,0 +1,58 @@
+-- Rules in their order, and the routes that they are.
+use Rattle.std.specs.Prelude.{◌≡◌, ℕ, suc, ◌+◌, ◌*◌, ◌<◌, ◌≤◌, List, [], ◌∷◌, length, take, drop, map, Option, Some, None, slice_index_or}
+use Rattle.std.specs.List.{AllByRecursion}
+use Rattle.dp_model.specs.Prefixes.{Route}
+use Rattle.dp_lpm.specs.declared.cell.Entry.{Entry}
+use Rattle.dp_lpm.specs.declared.cell.Entry.TheVariants.{Empty, Hop}
+use Rattle.dp_lpm.specs.declared.rule.Rule.{Rule}
+
+-- the route that a rule is
+abbrev pub route_of : Rule → Route
+route_of r = record { prefix = r.prefix; depth = r.depth; hop = r.hop }
+
+abbrev pub routes_of : List Rule → List Route
+routes_of rules = map route_of rules
+
+-- the entry of a route
+abbrev pub entry_of : Option Route → Entry
+entry_of None = Empty
+entry_of (Some route) = Hop route.hop route.depth
+
+-- the place in the order: by depth, then by prefix
+abbrev pub rank : ℕ → ℕ → ℕ
+rank depth prefix = depth * 4294967296 + prefix
+
+abbrev pub rank_of : Rule → ℕ
+rank_of r = rank r.depth r.prefix
+
+-- each rule comes before those behind it
+abbrev pub IsOrdered : List Rule → Type 0
+IsOrdered [] = Unit {0}
+IsOrdered (r ∷ rules) = AllByRecursion (λ q. rank_of r < rank_of q) rules × IsOrdered rules
+
+-- the rule at a place
+abbrev pub rule_at : List Rule → ℕ → Rule
+rule_at rules place = slice_index_or rules place (record { prefix = 0; depth = 0; hop = 0 })
+
+-- the rules before the place are below the rank, and the others are not
+pub record IsLowerBound (rules : List Rule) (key place : ℕ) : Type 0 where
+  pub bound : place ≤ length rules
+  pub below : (k : ℕ) → k < place → rank_of (rule_at rules k) < key
+  pub above : (k : ℕ) → place ≤ k → k < length rules → key ≤ rank_of (rule_at rules k)
+
+-- the rules in front are below the rank, and those behind are above it
+pub record Parts (front back : List Rule) (key : ℕ) : Type 0 where
+  pub lower : AllByRecursion (λ r. rank_of r < key) front
+  pub upper : AllByRecursion (λ r. key < rank_of r) back
+
+-- the rule of the depth and the prefix stands at the place
+pub record IsFound (rules : List Rule) (depth prefix place : ℕ) : Type 0 where
+  pub there : place < length rules
+  pub depth_is : (rule_at rules place).depth ≡ depth
+  pub prefix_is : (rule_at rules place).prefix ≡ prefix
+  pub parts : Parts (take place rules) (drop (suc place) rules) (rank depth prefix)
+
+-- there is no such rule, and it would go to the place
+pub record IsMissing (rules : List Rule) (depth prefix place : ℕ) : Type 0 where
+  pub bound : place ≤ length rules
+  pub parts : Parts (take place rules) (drop place rules) (rank depth prefix)

@@ -1,0 +1,90 @@
+-- Tables of entries, and what is done to them.
+use Rattle.std.specs.Prelude.{◌≡◌, ◌≢◌, ℕ, ◌+◌, ◌-◌, ◌*◌, ◌/◌, ◌%◌, ◌^◌, ◌<◌, ◌≤◌, ◌==◌, ◌⊎◌, length, replicate, position, Option, Some, None, slice_index, slice_set}
+use Rattle.std.specs.Option.{option_map_or}
+use Rattle.dp_lpm.specs.declared.cell.Entry.{Entry}
+use Rattle.dp_lpm.specs.declared.cell.Entry.TheVariants.{Empty}
+use Rattle.dp_lpm.specs.declared.table.Table.{Table}
+use Rattle.dp_lpm.specs.Cells.{at, group_in, settled}
+use Rattle.dp_lpm.specs.Routes.{prefix_of}
+
+-- the entry of first bits; the group that they have, if they have one
+abbrev pub first_at : Table → ℕ → Entry
+first_at t i = at t.first.items i
+
+abbrev pub group_at : Table → ℕ → Option ℕ
+group_at t i = group_in (first_at t i)
+
+-- the entry for an address
+abbrev pub entry_for : Table → ℕ → Entry
+entry_for t ip =
+    option_map_or (λ g. at t.cells.items (g * 256 + ip % 256)) (group_at t (ip / 256)) (first_at t (ip / 256))
+
+-- each group that is named belongs to one prefix of 24 bits, has rules, and has 256 entries, of which none is a group
+pub record IsTable (t : Table) : Type 0 where
+  pub first : length t.first.items ≡ 16777216
+  pub cells : length t.cells.items ≡ length t.counts.items * 256
+  pub few : length t.counts.items ≤ 256
+  pub named : (i g : ℕ) → group_at t i ≡ Some g → g < length t.counts.items
+  pub used : (i g : ℕ) → group_at t i ≡ Some g → 1 ≤ slice_index t.counts.items g
+  pub apart : (i j g : ℕ) → group_at t i ≡ Some g → group_at t j ≡ Some g → i ≡ j
+  pub leaves : (k : ℕ) → group_in (at t.cells.items k) ≡ None
+
+-- where the addresses of a prefix begin
+abbrev pub start_of : ℕ → ℕ → ℕ
+start_of ip depth = prefix_of ip depth * 2 ^ (32 - depth)
+
+-- a range of addresses that is part of one group's, or is made of whole ones
+pub record IsEven (start size : ℕ) : Type 0 where
+  pub bound : start + size ≤ 4294967296
+  pub part : size < 256 → start % 256 + size ≤ 256
+  pub whole : 256 ≤ size → (start % 256 ≡ 0) × (size % 256 ≡ 0)
+
+-- the entries of these addresses that are at most so deep have become another one
+pub record Settled (start size depth : ℕ) (to : Entry) (old new : Table) : Type 0 where
+  pub table : IsTable new
+  pub inside : (ip : ℕ) → start ≤ ip → ip < start + size → entry_for new ip ≡ settled depth to (entry_for old ip)
+  pub below : (ip : ℕ) → ip < start → entry_for new ip ≡ entry_for old ip
+  pub above : (ip : ℕ) → start + size ≤ ip → entry_for new ip ≡ entry_for old ip
+  pub groups : (i : ℕ) → group_at new i ≡ group_at old i
+  pub counts : new.counts.items ≡ old.counts.items
+
+-- the first bits have a group with one rule more, and no entry has changed
+pub record Opened (first : ℕ) (old new : Table) : Type 0 where
+  pub table : IsTable new
+  pub same : (ip : ℕ) → entry_for new ip ≡ entry_for old ip
+  pub group : ℕ
+  pub before : (group_at old first ≡ Some group) ⊎ ((group_at old first ≡ None) × (slice_index old.counts.items group ≡ 0))
+  pub named : group_at new first ≡ Some group
+  pub others : (i : ℕ) → i ≢ first → group_at new i ≡ group_at old i
+  pub counts : new.counts.items ≡ slice_set old.counts.items group (slice_index old.counts.items group + 1)
+
+-- the first bits have no group, and none is free
+pub record IsFull (first : ℕ) (old new : Table) : Type 0 where
+  pub none : group_at old first ≡ None
+  pub full : position (λ n. n == 0) old.counts.items ≡ None
+  pub same : new ≡ old
+
+-- the entries of the first bits' group are all the same, if it has one rule left
+pub record CanClose (first : ℕ) (t : Table) : Type 0 where
+  pub group : ℕ
+  pub named : group_at t first ≡ Some group
+  pub some : 1 ≤ slice_index t.counts.items group
+  pub even : slice_index t.counts.items group ≡ 1 → (j : ℕ) → j < 256 → at t.cells.items (group * 256 + j) ≡ at t.cells.items (group * 256)
+
+-- the first bits' group has one rule fewer, and is free if it has none; no entry has changed
+pub record Closed (first : ℕ) (old new : Table) : Type 0 where
+  pub table : IsTable new
+  pub same : (ip : ℕ) → entry_for new ip ≡ entry_for old ip
+  pub group : ℕ
+  pub before : group_at old first ≡ Some group
+  pub last : slice_index old.counts.items group ≡ 1 → group_at new first ≡ None
+  pub more : 1 < slice_index old.counts.items group → group_at new first ≡ Some group
+  pub others : (i : ℕ) → i ≢ first → group_at new i ≡ group_at old i
+  pub counts : new.counts.items ≡ slice_set old.counts.items group (slice_index old.counts.items group - 1)
+
+-- a table without rules
+pub record IsEmptyTable (groups : ℕ) (t : Table) : Type 0 where
+  pub table : IsTable t
+  pub same : (ip : ℕ) → entry_for t ip ≡ Empty
+  pub plain : (i : ℕ) → group_at t i ≡ None
+  pub counts : t.counts.items ≡ replicate groups 0

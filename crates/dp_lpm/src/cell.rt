@@ -1,0 +1,90 @@
+// The entries of a table, of four bytes each.
+
+ghost use Rattle.std.specs.Prelude.{◌≡◌, ℕ, ◌/◌, ◌<◌, ◌≤◌, length, slice_index_or};
+ghost use Rattle.dp_lpm.specs.Cells.{entry_in, IsStorable, at, settled};
+
+/// What an entry says of its addresses.
+#[derive(Clone, Copy, Debug, PartialEq, Eq)]
+pub enum Entry {
+    /// No rule has them.
+    Empty,
+    /// The deepest rule that has them has this hop and depth.
+    Hop { hop: u32, depth: u8 },
+    /// Each of them has an entry of its own, in this group.
+    Group(u8),
+}
+
+/// An entry in four bytes: a hop or a group in the lower three; in the highest 0, a depth, or 255 for a group.
+#[derive(Clone, Copy, Debug)]
+pub struct Cell {
+    pub bits: u32,
+}
+
+impl Cell {
+    /// The entry that fills these four bytes.
+    pub fn of(entry: Entry) -> Cell
+        requires { IsStorable entry }
+        ensures { entry_in result ≡ entry }
+    {
+        let bits = match entry {
+            Entry::Empty => 0,
+            Entry::Hop { hop, depth } => depth as u32 * 0x100_0000 + hop,
+            Entry::Group(group) => 255 * 0x100_0000 + group as u32,
+        };
+        Cell { bits }
+    }
+
+    /// The entry of these four bytes.
+    pub fn entry(self) -> Entry
+        ensures { result ≡ entry_in self }
+    {
+        let kind = self.bits / 0x100_0000;
+        if kind == 0 {
+            return Entry::Empty;
+        }
+        if kind == 255 {
+            return Entry::Group((self.bits % 256) as u8);
+        }
+        Entry::Hop {
+            hop: self.bits % 0x100_0000,
+            depth: kind as u8,
+        }
+    }
+
+    /// The depth of its rule, 0 where there is none, and 255 for a group.
+    pub fn depth(self) -> u8
+        ensures { result ≡ self.bits / 16777216 }
+    {
+        (self.bits / 0x100_0000) as u8
+    }
+}
+
+/// The entries from one place up to another that are at most so deep become another one.
+pub fn settle(cells: &mut [Cell], from: usize, end: usize, depth: u8, to: Cell)
+    requires order { from ≤ end }
+    requires there { end ≤ length cells.old }
+    ensures len { length cells.new ≡ length cells.old }
+    ensures inside { (k : ℕ) → from ≤ k → k < end → at cells.new k ≡ settled depth (entry_in to) (at cells.old k) }
+    ensures below { (k : ℕ) → k < from → at cells.new k ≡ at cells.old k }
+    ensures above { (k : ℕ) → end ≤ k → at cells.new k ≡ at cells.old k }
+{
+    for k in from..end {
+        if cells[k].depth() <= depth {
+            cells[k] = to;
+        }
+    }
+}
+
+/// The entries from one place up to another become this one.
+pub fn fill(cells: &mut [Cell], from: usize, end: usize, to: Cell)
+    requires order { from ≤ end }
+    requires there { end ≤ length cells.old }
+    ensures len { length cells.new ≡ length cells.old }
+    ensures inside { (k : ℕ) → from ≤ k → k < end → at cells.new k ≡ entry_in to }
+    ensures below { (k : ℕ) → k < from → at cells.new k ≡ at cells.old k }
+    ensures above { (k : ℕ) → end ≤ k → at cells.new k ≡ at cells.old k }
+{
+    for k in from..end {
+        cells[k] = to;
+    }
+}

@@ -1,0 +1,71 @@
+// A table for longest prefixes.
+
+ghost use Rattle.std.specs.Prelude.{◌≡◌, ◌≤◌, [], length, None, Some, IfOk, OnOk, OnErr, IfErr};
+ghost use Rattle.dp_model.specs.Prefixes.{hop_for};
+ghost use Rattle.dp_lpm.specs.Routes.{prefix_of, Puts, Drops};
+ghost use Rattle.dp_lpm.specs.Faults.{added, add_fault, delete_fault};
+
+use crate::error::{LpmError, Memory};
+use crate::store::Store;
+use std::alloc::Global;
+use std::marker::Model;
+
+/// A set of rules, at most one for each prefix and depth: addresses that begin with the prefix go to the rule's hop,
+/// or to that of a deeper rule (DPDK Programmer's Guide, LPM library). All its memory is taken as it is made.
+#[derive(Drop)]
+pub struct Lpm {
+    store: Store,
+}
+
+impl Model for Lpm {
+    ghost use Rattle.dp_lpm.specs.Routes.{RouteTable};
+
+    ghost Value = { RouteTable };
+
+    ghost use Rattle.dp_lpm.specs.Kept.{IsKept, shown};
+
+    ghost view = { λ a. shown a.store };
+
+    ghost invariant = { λ a. IsKept a.store };
+}
+
+impl Lpm {
+    /// A table without rules, for at most 65,536 rules and at most 256 prefixes of 24 bits with rules deeper than 24.
+    pub fn new(alloc: Global, max_rules: u32, groups: u32) -> Result<Lpm, Memory>
+        requires rules { max_rules ≤ 65536 }
+        requires groups { groups ≤ 256 }
+        ensures { IfOk result (λ t. t ≡ record { routes = []; max_rules = max_rules; groups = groups }) }
+    {
+        Ok(Lpm {
+            store: Store::new(alloc, max_rules, groups)?,
+        })
+    }
+
+    /// Adds a rule, or gives the one of its prefix and depth another hop. Bits of `ip` below the depth are ignored.
+    /// The causes are found in the order of `LpmError`.
+    pub fn add(&mut self, ip: u32, depth: u8, hop: u32) -> Result<(), LpmError>
+        ensures puts { OnOk result (Puts self.old self.new (added ip depth hop)) }
+        ensures ok { OnOk result (add_fault self.old ip depth hop ≡ None) }
+        ensures fault { IfErr result (λ e. add_fault self.old ip depth hop ≡ Some e) }
+        ensures err { OnErr result (self.new ≡ self.old) }
+    {
+        self.store.add(ip, depth, hop)
+    }
+
+    /// Takes a rule out. Bits of `ip` below the depth are ignored.
+    pub fn delete(&mut self, ip: u32, depth: u8) -> Result<(), LpmError>
+        ensures drops { OnOk result (Drops self.old self.new (prefix_of ip depth) depth) }
+        ensures ok { OnOk result (delete_fault self.old ip depth ≡ None) }
+        ensures fault { IfErr result (λ e. delete_fault self.old ip depth ≡ Some e) }
+        ensures err { OnErr result (self.new ≡ self.old) }
+    {
+        self.store.delete(ip, depth)
+    }
+
+    /// The hop of the deepest rule whose prefix the address begins with.
+    pub fn lookup(&self, ip: u32) -> Option<u32>
+        ensures { result ≡ hop_for self.now.routes ip }
+    {
+        self.store.lookup(ip)
+    }
+}

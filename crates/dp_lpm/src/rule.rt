@@ -1,0 +1,80 @@
+// The rules of a table, in order of depth, and of prefix where the depth is the same.
+
+ghost use Rattle.std.specs.Prelude.{◌≡◌, ℕ, ◌+◌, ◌*◌, ◌/◌, ◌-◌, ◌^◌, ◌<◌, ◌≤◌, List, length, take, drop, nat_lt, IfOk, IfErr};
+ghost use Rattle.dp_lpm.specs.Rules.{rank, rank_of, IsOrdered, IsLowerBound, IsFound, IsMissing, routes_of, entry_of};
+ghost use Rattle.dp_lpm.specs.Routes.{prefix_of, deepest_within};
+
+use crate::cell::Entry;
+
+/// Addresses that begin with these depth bits go to the hop.
+#[derive(Clone, Copy, Debug)]
+pub struct Rule {
+    pub prefix: u32,
+    pub depth: u8,
+    pub hop: u32,
+}
+
+/// The first bits of an address.
+pub fn prefix_of(ip: u32, depth: u8) -> u32
+    requires some { 1 ≤ depth }
+    requires most { depth ≤ 32 }
+    ensures { result ≡ prefix_of ip depth }
+{
+    ip >> (32 - depth)
+}
+
+/// Whether a rule comes before the place of a depth and a prefix.
+fn is_before(rule: Rule, depth: u8, prefix: u32) -> bool
+    ensures { result ≡ nat_lt (rank_of rule) (rank depth prefix) }
+{
+    rule.depth < depth || rule.depth == depth && rule.prefix < prefix
+}
+
+/// How many rules come before the place of a depth and a prefix.
+fn rules_before(rules: &[Rule], depth: u8, prefix: u32) -> usize
+    requires { IsOrdered rules.now }
+    ensures { IsLowerBound rules.now (rank depth prefix) result }
+{
+    let mut low = 0;
+    let mut high = rules.len();
+    while low < high {
+        let middle = low + (high - low) / 2;
+        if is_before(rules[middle], depth, prefix) {
+            low = middle + 1;
+        } else {
+            high = middle;
+        }
+    }
+    low
+}
+
+/// Where the rule of a depth and a prefix stands, or else where it would go.
+pub fn search(rules: &[Rule], depth: u8, prefix: u32) -> Result<usize, usize>
+    requires { IsOrdered rules.now }
+    ensures found { IfOk result (λ place. IsFound rules.now depth prefix place) }
+    ensures missing { IfErr result (λ place. IsMissing rules.now depth prefix place) }
+{
+    let place = rules_before(rules, depth, prefix);
+    if place < rules.len() && rules[place].prefix == prefix && rules[place].depth == depth {
+        return Ok(place);
+    }
+    Err(place)
+}
+
+/// The entry of the deepest rule for an address, of those that are at most so deep.
+pub fn entry_within(rules: &[Rule], ip: u32, depth: u8) -> Entry
+    requires order { IsOrdered rules.now }
+    requires most { depth ≤ 32 }
+    ensures { result ≡ entry_of (deepest_within depth (routes_of rules.now) ip) }
+{
+    if depth == 0 {
+        return Entry::Empty;
+    }
+    match search(rules, depth, prefix_of(ip, depth)) {
+        Ok(place) => Entry::Hop {
+            hop: rules[place].hop,
+            depth,
+        },
+        Err(_) => entry_within(rules, ip, depth - 1),
+    }
+}

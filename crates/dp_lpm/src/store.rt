@@ -1,0 +1,164 @@
+// A table of rules, and the entries of all addresses.
+
+ghost use Rattle.std.specs.Prelude.{◌≡◌, ℕ, ◌<◌, ◌≤◌, [], Some, None, IfOk, OnOk, OnErr, IfErr};
+ghost use Rattle.dp_model.specs.Prefixes.{hop_for};
+ghost use Rattle.dp_lpm.specs.Faults.{add_fault, delete_fault, added};
+
+use crate::cell::{Cell, Entry};
+use crate::error::{LpmError, Memory};
+use crate::rule::{Rule, entry_within, prefix_of, search};
+use crate::table::Table;
+use std::alloc::Global;
+
+/// The greatest hop.
+const MAX_HOP: u32 = 0xff_ffff;
+
+/// The rules in their order, and the entries that go by them.
+#[derive(Drop)]
+pub struct Store {
+    pub rules: Vec<Rule>,
+    pub table: Table,
+    pub max_rules: u32,
+}
+
+impl Store {
+    ghost use Rattle.std.specs.Prelude.{◌+◌, ◌-◌, ◌/◌, ◌^◌, MatchResult};
+    ghost use Rattle.dp_lpm.specs.Cells.{IsStorable, group_in};
+    ghost use Rattle.dp_lpm.specs.Faults.{route_fault, new_fault};
+    ghost use Rattle.dp_lpm.specs.Kept.{IsKept, TakesIn, TakesOut, routes_in, shown};
+    ghost use Rattle.dp_lpm.specs.Routes.{IsRoute, Puts, Drops, prefix_of};
+    ghost use Rattle.dp_lpm.specs.Rules.{route_of, IsFound, IsMissing};
+    ghost use Rattle.dp_lpm.specs.Tables.{IsTable, group_at, start_of, Settled};
+
+    /// No rules. It takes all its memory here.
+    pub fn new(alloc: Global, max_rules: u32, groups: u32) -> Result<Store, Memory>
+        requires rules { max_rules ≤ 65536 }
+        requires groups { groups ≤ 256 }
+        ensures kept { IfOk result IsKept }
+        ensures shown { IfOk result (λ s. shown s ≡ record { routes = []; max_rules = max_rules; groups = groups }) }
+    {
+        let table = Table::new(alloc, groups)?;
+        let Ok(rules) = Vec::with_capacity(alloc, max_rules as usize) else {
+            return Err(Memory);
+        };
+        Ok(Store {
+            rules,
+            table,
+            max_rules,
+        })
+    }
+
+    /// The hop of the deepest rule that has the address.
+    pub fn lookup(&self, ip: u32) -> Option<u32>
+        requires { IsKept self.now }
+        ensures { result ≡ hop_for (routes_in self.now) ip }
+    {
+        match self.table.entry_for(ip) {
+            Entry::Hop { hop, .. } => Some(hop),
+            _ => None,
+        }
+    }
+
+    /// The entries of a prefix's addresses that are at most so deep become another one.
+    fn settle(&mut self, ip: u32, depth: u8, to: Entry)
+        requires table { IsTable self.old.table }
+        requires some { 1 ≤ depth }
+        requires most { depth ≤ 32 }
+        requires deep { 24 < depth → (g : ℕ) × (group_at self.old.table (ip / 256) ≡ Some g) }
+        requires storable { IsStorable to }
+        requires leaf { group_in to ≡ None }
+        ensures settled { Settled (start_of ip depth) (2 ^ (32 - depth)) depth to self.old.table self.new.table }
+        ensures rules { self.new.rules ≡ self.old.rules }
+        ensures max_rules { self.new.max_rules ≡ self.old.max_rules }
+    {
+        let size = 1 << (32 - depth);
+        self.table.settle(ip - ip % size, size, depth, Cell::of(to));
+    }
+
+    /// Takes in a rule whose place is known, if there is room for it and for its group.
+    fn put(&mut self, place: usize, rule: Rule) -> Result<(), LpmError>
+        requires kept { IsKept self.old }
+        requires rule { IsRoute (route_of rule) }
+        requires place { IsMissing self.old.rules.items rule.depth rule.prefix place }
+        ensures { MatchResult result (λ _. TakesIn self.old self.new (route_of rule) × (new_fault (shown self.old) (route_of rule) ≡ None)) (λ e. (new_fault (shown self.old) (route_of rule) ≡ Some e) × (self.new ≡ self.old)) }
+    {
+        if self.rules.len() >= self.max_rules as usize {
+            return Err(LpmError::RulesFull);
+        }
+        if rule.depth > 24 && !self.table.open((rule.prefix >> (rule.depth - 24)) as usize) {
+            return Err(LpmError::GroupsFull);
+        }
+        let _ = self.rules.insert(place, rule);
+        Ok(())
+    }
+
+    /// Takes in a rule, in place of the one of its prefix and depth if there is one.
+    fn take_in(&mut self, rule: Rule) -> Result<(), LpmError>
+        requires kept { IsKept self.old }
+        requires rule { IsRoute (route_of rule) }
+        ensures { MatchResult result (λ _. TakesIn self.old self.new (route_of rule) × (route_fault (shown self.old) (route_of rule) ≡ None)) (λ e. (route_fault (shown self.old) (route_of rule) ≡ Some e) × (self.new ≡ self.old)) }
+    {
+        match search(&self.rules, rule.depth, rule.prefix) {
+            Ok(place) => {
+                self.rules[place] = rule;
+                Ok(())
+            }
+            Err(place) => self.put(place, rule),
+        }
+    }
+
+    /// Takes out the rule at a place: the entries of its prefix become those of the next rule.
+    fn take_out(&mut self, place: usize, ip: u32, depth: u8)
+        requires kept { IsKept self.old }
+        requires some { 1 ≤ depth }
+        requires most { depth ≤ 32 }
+        requires found { IsFound self.old.rules.items depth (prefix_of ip depth) place }
+        ensures { TakesOut self.old self.new ip depth }
+    {
+        let next = entry_within(&self.rules, ip, depth - 1);
+        self.rules.remove(place);
+        self.settle(ip, depth, next);
+    }
+
+    /// Adds a rule, or gives the one of its prefix and depth another hop.
+    pub fn add(&mut self, ip: u32, depth: u8, hop: u32) -> Result<(), LpmError>
+        requires { IsKept self.old }
+        ensures kept { IsKept self.new }
+        ensures ok { OnOk result (Puts (shown self.old) (shown self.new) (added ip depth hop) × (add_fault (shown self.old) ip depth hop ≡ None)) }
+        ensures err { IfErr result (λ e. (add_fault (shown self.old) ip depth hop ≡ Some e) × (self.new ≡ self.old)) }
+    {
+        if depth < 1 || depth > 32 {
+            return Err(LpmError::BadDepth);
+        }
+        if hop > MAX_HOP {
+            return Err(LpmError::BadHop);
+        }
+        self.take_in(Rule {
+            prefix: prefix_of(ip, depth),
+            depth,
+            hop,
+        })?;
+        self.settle(ip, depth, Entry::Hop { hop, depth });
+        Ok(())
+    }
+
+    /// Takes a rule out.
+    pub fn delete(&mut self, ip: u32, depth: u8) -> Result<(), LpmError>
+        requires { IsKept self.old }
+        ensures kept { IsKept self.new }
+        ensures ok { OnOk result (Drops (shown self.old) (shown self.new) (prefix_of ip depth) depth × (delete_fault (shown self.old) ip depth ≡ None)) }
+        ensures err { IfErr result (λ e. (delete_fault (shown self.old) ip depth ≡ Some e) × (self.new ≡ self.old)) }
+    {
+        if depth < 1 || depth > 32 {
+            return Err(LpmError::BadDepth);
+        }
+        let Ok(place) = search(&self.rules, depth, prefix_of(ip, depth)) else {
+            return Err(LpmError::NoRule);
+        };
+        self.take_out(place, ip, depth);
+        if depth > 24 {
+            self.table.close(ip as usize / 256);
+        }
+        Ok(())
+    }
+}

@@ -1,0 +1,141 @@
+// Entries for all addresses: one for the first 24 bits of each, and groups of 256 for the addresses that share them.
+
+ghost use Rattle.std.specs.Prelude.{◌≡◌, ℕ, ◌+◌, ◌*◌, ◌/◌, ◌==◌, ◌<◌, ◌≤◌, length, slice_index, position, IfOk, MatchBool};
+ghost use Rattle.dp_lpm.specs.Cells.{entry_in, group_in};
+
+use crate::cell::{Cell, Entry, fill, settle};
+use crate::error::Memory;
+use std::alloc::Global;
+
+/// How many entries there are for the first 24 bits.
+const FIRST_ENTRIES: usize = 0x100_0000;
+
+/// The entries of a table, and of each group how many rules are deeper than 24 bits in it: a group with none is free.
+#[derive(Drop)]
+pub struct Table {
+    pub first: Vec<Cell>,
+    pub cells: Vec<Cell>,
+    pub counts: Vec<u32>,
+}
+
+impl Table {
+    ghost use Rattle.dp_lpm.specs.Tables.{IsTable, group_at, entry_for, IsEven, Settled, Opened, IsFull, CanClose, Closed, IsEmptyTable};
+
+    /// A table without rules, of so many groups. It takes all its memory here.
+    pub fn new(alloc: Global, groups: u32) -> Result<Table, Memory>
+        requires { groups ≤ 256 }
+        ensures { IfOk result (λ t. IsEmptyTable groups t) }
+    {
+        let empty = Cell::of(Entry::Empty);
+        let Ok(first) = Vec::from_elem(alloc, empty, FIRST_ENTRIES) else {
+            return Err(Memory);
+        };
+        let Ok(cells) = Vec::from_elem(alloc, empty, 256 * groups as usize) else {
+            return Err(Memory);
+        };
+        let Ok(counts) = Vec::from_elem(alloc, 0u32, groups as usize) else {
+            return Err(Memory);
+        };
+        Ok(Table {
+            first,
+            cells,
+            counts,
+        })
+    }
+
+    /// The entry for an address.
+    pub fn entry_for(&self, ip: u32) -> Entry
+        requires { IsTable self.now }
+        ensures { result ≡ entry_for self.now ip }
+    {
+        let entry = self.first[ip as usize / 256].entry();
+        match entry {
+            Entry::Group(group) => self.cells[group as usize * 256 + ip as usize % 256].entry(),
+            _ => entry,
+        }
+    }
+
+    /// Entries of the addresses with these first 24 bits, from the place low on, that are at most so deep become
+    /// another one.
+    fn settle_in(&mut self, first: usize, low: usize, count: usize, depth: u8, to: Cell)
+        requires table { IsTable self.old }
+        requires there { first < 16777216 }
+        requires order { low + count ≤ 256 }
+        requires whole { group_at self.old first ≡ None → (low ≡ 0) × (count ≡ 256) }
+        requires depth { depth ≤ 32 }
+        requires to { group_in (entry_in to) ≡ None }
+        ensures { Settled (first * 256 + low) count depth (entry_in to) self.old self.new }
+    {
+        match self.first[first].entry() {
+            Entry::Group(group) => {
+                let from = group as usize * 256 + low;
+                settle(&mut self.cells, from, from + count, depth, to);
+            }
+            _ => settle(&mut self.first, first, first + 1, depth, to),
+        }
+    }
+
+    /// Entries of the addresses from one on that are at most so deep become another one.
+    pub fn settle(&mut self, start: u32, size: u32, depth: u8, to: Cell)
+        requires table { IsTable self.old }
+        requires range { IsEven start size }
+        requires part { size < 256 → (g : ℕ) × (group_at self.old (start / 256) ≡ Some g) }
+        requires depth { depth ≤ 32 }
+        requires to { group_in (entry_in to) ≡ None }
+        ensures { Settled start size depth (entry_in to) self.old self.new }
+    {
+        let first = start as usize / 256;
+        if size < 256 {
+            self.settle_in(first, start as usize % 256, size as usize, depth, to);
+            return;
+        }
+        for k in 0..size as usize / 256 {
+            self.settle_in(first + k, 0, 256, depth, to);
+        }
+    }
+
+    /// The addresses with these first 24 bits get a group, if they have none, and one rule more in it. No entry changes.
+    /// `false` where no group is free.
+    pub fn open(&mut self, first: usize) -> bool
+        requires table { IsTable self.old }
+        requires there { first < 16777216 }
+        requires room { (g : ℕ) → group_at self.old first ≡ Some g → slice_index self.old.counts.items g < 65536 }
+        ensures { MatchBool result (Opened first self.old self.new) (IsFull first self.old self.new) }
+    {
+        let cell = self.first[first];
+        if let Entry::Group(group) = cell.entry() {
+            self.counts[group as usize] += 1;
+            return true;
+        }
+        let Some(group) = free_group(&self.counts) else {
+            return false;
+        };
+        fill(&mut self.cells, group * 256, group * 256 + 256, cell);
+        self.first[first] = Cell::of(Entry::Group(group as u8));
+        self.counts[group] = 1;
+        true
+    }
+
+    /// One rule fewer is in the group of these first 24 bits. Where none is left there, the group is free again. No
+    /// entry changes.
+    pub fn close(&mut self, first: usize)
+        requires table { IsTable self.old }
+        requires can { CanClose first self.old }
+        ensures { Closed first self.old self.new }
+    {
+        if let Entry::Group(group) = self.first[first].entry() {
+            let group = group as usize;
+            self.counts[group] -= 1;
+            if self.counts[group] == 0 {
+                self.first[first] = self.cells[group * 256];
+            }
+        }
+    }
+}
+
+/// The first group that is free.
+fn free_group(counts: &[u32]) -> Option<usize>
+    ensures { result ≡ position (λ n. n == 0) counts.now }
+{
+    counts.iter().position(|&count| count == 0)
+}
