@@ -3,6 +3,7 @@ pub mod Fills
 pub mod Pieces
 pub mod Known
 pub mod History
+pub mod Endings
 pub mod Once
 pub mod Back
 pub mod Refusals

@@ -59,14 +59,18 @@ impl<F: Feed> Feed for FailingFeed<F> {
     /// Fails only where it was broken, where no byte may come any more, or where the feed inside failed.
     fn pull(&mut self, buf: &mut [u8]) -> Result<usize, Failed>
         ensures bound { IfOk result (λ n. n ≤ length buf.new) }
-        ensures bytes { ReadConsumes (option_map (take (bytes_to_give self.old)) (F.remaining (feed_inside self.old))) (option_map (take (bytes_to_give self.new)) (F.remaining (feed_inside self.new))) result buf.new }
+        ensures bytes { ReadConsumes (option_map (take (bytes_to_give self.old)) (F.remaining (feed_inside self.old)))
+            (option_map (take (bytes_to_give self.new)) (F.remaining (feed_inside self.new)))
+            result buf.new }
         ensures failed { IsErr result ↔ IsTrue (feed_health self.new).is_broken }
         ensures stays { IsTrue (feed_health self.old).is_broken → IsTrue (feed_health self.new).is_broken }
         ensures counted { (feed_health self.new).calls ≡ (feed_health self.old).calls + 1 }
-        ensures failures { MatchResult result (λ _. (feed_health self.new).failures ≡ (feed_health self.old).failures)
+        ensures failures { MatchResult result
+            (λ _. (feed_health self.new).failures ≡ (feed_health self.old).failures)
             (λ _. (feed_health self.new).failures ≡ (feed_health self.old).failures + 1) }
         ensures left { IfOk result (λ n. bytes_to_give self.new + n ≡ bytes_to_give self.old) }
-        ensures cause { OnErr result (IsTrue (feed_health self.old).is_broken ⊎ (bytes_to_give self.old ≡ 0) ⊎ IsTrue (F.is_broken (feed_inside self.new))) }
+        ensures cause { OnErr result (IsTrue (feed_health self.old).is_broken
+            ⊎ (bytes_to_give self.old ≡ 0) ⊎ IsTrue (F.is_broken (feed_inside self.new))) }
     {
         self.health.call();
         if self.health.is_broken() || self.left == 0 {

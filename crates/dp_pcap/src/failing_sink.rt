@@ -66,16 +66,19 @@ impl<S: Sink> Sink for FailingSink<S> {
     fn push(&mut self, bytes: &[u8]) -> Result<usize, Failed>
         ensures bound { IfOk result (λ n. n ≤ length bytes.now) }
         ensures some { IfOk result (λ n. 0 < length bytes.now → 0 < n) }
-        ensures bytes { WriteAppends (S.contents (sink_inside self.old)) (S.contents (sink_inside self.new)) result bytes.now }
+        ensures bytes { WriteAppends (S.contents (sink_inside self.old)) (S.contents (sink_inside self.new))
+            result bytes.now }
         ensures failed { IsErr result ↔ IsTrue (sink_health self.new).is_broken }
         ensures stays { IsTrue (sink_health self.old).is_broken → IsTrue (sink_health self.new).is_broken }
         ensures counted { (sink_health self.new).calls ≡ (sink_health self.old).calls + 1 }
-        ensures failures { MatchResult result (λ _. (sink_health self.new).failures ≡ (sink_health self.old).failures)
+        ensures failures { MatchResult result
+            (λ _. (sink_health self.new).failures ≡ (sink_health self.old).failures)
             (λ _. (sink_health self.new).failures ≡ (sink_health self.old).failures + 1) }
         ensures most { IfOk result (λ n. n ≤ bytes_a_call self.old) }
         ensures same { bytes_a_call self.new ≡ bytes_a_call self.old }
         ensures left { IfOk result (λ n. bytes_to_take self.new + n ≡ bytes_to_take self.old) }
-        ensures cause { OnErr result (IsTrue (sink_health self.old).is_broken ⊎ (bytes_to_take self.old ≡ 0) ⊎ IsTrue (S.is_broken (sink_inside self.new))) }
+        ensures cause { OnErr result (IsTrue (sink_health self.old).is_broken
+            ⊎ (bytes_to_take self.old ≡ 0) ⊎ IsTrue (S.is_broken (sink_inside self.new))) }
     {
         self.health.call();
         if self.health.is_broken() || self.left == 0 {

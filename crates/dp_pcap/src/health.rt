@@ -19,7 +19,11 @@ impl Model for Health {
 
     ghost Value = { State };
 
-    ghost view = { λ h. record { is_broken = h.is_broken; calls = h.calls.count; failures = h.failures.count } };
+    ghost view = { λ h. record {
+      is_broken = h.is_broken;
+      calls = h.calls.count;
+      failures = h.failures.count;
+    } };
 }
 
 impl Health {
