@@ -1,5 +1,9 @@
+pub mod Agreement
+pub mod Available
 pub mod Begin
 pub mod Bytes
+pub mod CountSteps
+pub mod CountTurns
 pub mod Counts
 pub mod Entails
 pub mod EnvLemmas

@@ -101,6 +101,12 @@ HasServed c programs (suc n) w w' =
     × (first_waiting w.rings ≡ Some next) × (slice_get programs next.ring ≡ Some program)
     × NodeRun c program next.packet next.ring (record w { rings = next.rings }) told mid × HasServed c programs n mid w'
 
+-- rings are served until none has a packet, or as often as may be
+pub record IsServed (c : Setting) (programs : List (List Instr)) (n : ℕ) (w : World) (runs : ℕ) (w' : World) : Type 0 where
+  pub served : HasServed c programs runs w w'
+  pub few : runs ≤ n
+  pub why : (runs ≡ n) ⊎ (first_waiting w'.rings ≡ None)
+
 -- a node run of this turn begins so: on the front packet of the first ring that has one, after fewer than 32 others
 pub record IsOfRing (c : Setting) (nodes : Nodes) (port : ℕ) (bytes : List ℕ) (w : World) (b : Beginning) : Type 0 where
   pub spec : PortSpec
@@ -161,6 +167,10 @@ pub record IsPipeline (c : Setting) (nodes : Nodes) : Type 0 where
   pub checked : AreChecked c nodes
   pub ports : length nodes.ports ≡ length c.env.ports
   pub rings : length nodes.rings ≡ length c.env.rings
+
+-- no program has more instructions than that
+abbrev pub AreShort : ℕ → List (List Instr) → Type 0
+AreShort most programs = (i : ℕ) (program : List Instr) → slice_get programs i ≡ Some program → length program ≤ most
 
 -- a record can come: its port is there, and it has bytes
 pub record CanArrive {T : Type 0} (c : Setting) (a : Arrival T) : Type 0 where

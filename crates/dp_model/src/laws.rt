@@ -1,6 +1,6 @@
 // What is proved of accepted programs, as contracts of functions that do nothing.
 
-ghost use Rattle.std.specs.Prelude.{◌≡◌, ◌<◌, ℕ, List, Bool, Some, slice_get};
+ghost use Rattle.std.specs.Prelude.{◌≡◌, ◌+◌, ◌*◌, ◌<◌, ◌≤◌, ℕ, List, Bool, Some, length, slice_get};
 ghost use Rattle.std.specs.List.{AllByRecursion};
 ghost use Rattle.dp_model.specs.Laws.{Begins, IsSound, Ready, AreChecked};
 ghost use Rattle.dp_model.specs.Machine.{Setting, World};
@@ -8,7 +8,7 @@ ghost use Rattle.dp_model.specs.Meaning.{TablesFit};
 ghost use Rattle.dp_model.specs.Packets.{Packet};
 ghost use Rattle.dp_model.specs.Rules.{Question, IsAccepted};
 ghost use Rattle.dp_model.specs.Runs.{Nodes, Outcome, Turn, Arrival};
-ghost use Rattle.dp_model.specs.Safety.{BeginsWell, IsSafeRun, IsAtRest, IsPipeline, IsSafeTurn, CanArrive, AreSafe};
+ghost use Rattle.dp_model.specs.Safety.{BeginsWell, IsSafeRun, IsAtRest, IsPipeline, AreShort, IsSafeTurn, CanArrive, AreSafe};
 ghost use Rattle.dp_model.specs.Starts.{IsStart};
 ghost use Rattle.dp_model.specs.declared.env.PortSpec.{PortSpec};
 
@@ -16,14 +16,17 @@ ghost use Rattle.dp_model.specs.declared.env.PortSpec.{PortSpec};
 /// of refused calls. A node run begins in the row of its entry; wherever it comes, the row of the label holds, each
 /// packet in a ring meets what the ring declares, the world is well formed, and there is a step; it takes at most as
 /// many steps as its program has instructions, and can end. No node run of a turn is ever stuck, there is a turn for
-/// each record, and the pattern and the free buffers decide its outcome. The same holds of whole runs from the start
-/// on. A `T` is the time of a record.
+/// each record, the pattern and the free buffers decide its outcome, and its allocation calls are counted and few.
+/// The same holds of whole runs from the start on. A `T` is the time of a record.
 pub fn accepted_programs_are_safe<T>()
     ensures node_runs { (c : Setting) (q : Question) (k : Packet) (number : ℕ) (w : World) →
         IsAccepted q → BeginsWell c q k number w → IsSafeRun c q k number w }
     ensures turns { (c : Setting) (nodes : Nodes) (port : ℕ) (spec : PortSpec) (bytes : List ℕ) (w : World) →
         IsPipeline c nodes → slice_get c.env.ports port ≡ Some spec → IsAtRest c w → AllByRecursion (λ x. x < 256) bytes →
         IsSafeTurn c nodes port spec bytes w }
+    ensures calls { (c : Setting) (nodes : Nodes) (most port : ℕ) (bytes : List ℕ) (w w' : World) (outcome : Outcome) (runs : ℕ) (told : List Bool) →
+        IsPipeline c nodes → AreShort most nodes.ports → AreShort most nodes.rings → IsAtRest c w →
+        Turn c nodes port bytes w outcome runs told w' → (w'.calls ≡ w.calls + length told) × (length told ≤ 1 + 33 * most) }
     ensures runs { (c : Setting) (nodes : Nodes) (arrivals : List (Arrival T)) (w : World) →
         TablesFit c → IsPipeline c nodes → IsStart c.env w → AllByRecursion (CanArrive c) arrivals →
         AreSafe c nodes arrivals w }

@@ -104,18 +104,22 @@ pub trait PacketLayer {
         requires { HasSome (store self.old) packet (λ k. (place + bytes_in width ≤ first_len k) × IsHeadSole (segments_of (store self.old)) k) }
         ensures { Becomes (store self.old) (store self.new) packet (λ k. k) (stored place (bytes_in width) n) };
 
+    /// The room in front of the first segment's bytes.
     fn headroom(&self, packet: Packet) -> u16
         requires { IsLive (store self.now) packet }
         ensures { Of (store self.now) packet (λ k. result ≡ headroom k) };
 
+    /// The room behind the last segment's bytes.
     fn tailroom(&self, packet: Packet) -> u16
         requires { IsLive (store self.now) packet }
         ensures { Of (store self.now) packet (λ k. result ≡ tailroom (store self.now).pools k) };
 
+    /// How many bytes the first segment has.
     fn first_len(&self, packet: Packet) -> u16
         requires { IsLive (store self.now) packet }
         ensures { Of (store self.now) packet (λ k. result ≡ first_len k) };
 
+    /// How many bytes the last segment has.
     fn last_len(&self, packet: Packet) -> u16
         requires { IsLive (store self.now) packet }
         ensures { Of (store self.now) packet (λ k. result ≡ last_len k) };
@@ -126,10 +130,12 @@ pub trait PacketLayer {
         ensures value { Of (store self.now) packet (λ k. result ≡ length (packet_bytes (store self.now).buffers k)) }
         ensures bound { result ≤ 262144 };
 
+    /// How many segments it has, 1 to 64.
     fn segments(&self, packet: Packet) -> u32
         requires { IsLive (store self.now) packet }
         ensures { Of (store self.now) packet (λ k. result ≡ length k) };
 
+    /// The bytes of a segment, by its place from 0.
     fn segment_bytes(&self, packet: Packet, index: u32) -> &[u8]
         requires { HasSome (store self.now) packet (λ k. index < length k) }
         ensures { Of (store self.now) packet (λ k. (s : Segment) → slice_get k index ≡ Some s → result.now ≡ segment_bytes (store self.now).buffers s) };

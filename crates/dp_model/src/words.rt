@@ -1,6 +1,6 @@
 // What is proved of the definitions themselves, as contracts of functions that do nothing.
 
-ghost use Rattle.std.specs.Prelude.{◌≡◌, ◌≢◌, ◌↔◌, ℕ, ◌+◌, ◌-◌, ◌%◌, ◌^◌, ◌<◌, ◌≤◌, List, ◌∷◌, length, Option, Some, None};
+ghost use Rattle.std.specs.Prelude.{◌≡◌, ◌≢◌, ◌↔◌, ℕ, ◌+◌, ◌%◌, ◌^◌, ◌<◌, ◌≤◌, Bool, true, List, [], ◌∷◌, length, Option, Some, None, slice_index_or};
 ghost use Rattle.dp_model.specs.Arithmetic.{all_ones, big_endian, spelled};
 ghost use Rattle.dp_model.specs.Buffers.{Number, Buffers, bytes_of};
 ghost use Rattle.dp_model.specs.Environments.{Environment, room_at, fault_of};
@@ -8,8 +8,8 @@ ghost use Rattle.dp_model.specs.Machine.{Setting, State, World, Move, Step, live
 ghost use Rattle.dp_model.specs.Meaning.{TablesFit};
 ghost use Rattle.dp_model.specs.Packets.{Segment, Packet, refs, headroom, tailroom, first_len, last_len, IsHeadSole, IsTailSole, AreOwned, IsWellFormed, at_front, at_end, more_before, less_before, more_behind, less_behind, zeroed_before, zeroed_behind, stored, loaded};
 ghost use Rattle.dp_model.specs.Prefixes.{Route, IsTable, LooksUp, hop_for};
-ghost use Rattle.dp_model.specs.Runs.{with_empty_outboxes};
-ghost use Rattle.dp_model.specs.Safety.{ArePackets, IsAtRest};
+ghost use Rattle.dp_model.specs.Runs.{NodeRun, Receives, Serves, Nodes, with_empty_outboxes, of_port, interleaved};
+ghost use Rattle.dp_model.specs.Safety.{ArePackets, IsAtRest, Beginning, IsOfRecord, IsServed};
 ghost use Rattle.dp_model.specs.Starts.{IsStart};
 ghost use Rattle.dp_model.specs.Stores.{Store, segments_of, Has, with_slot, Becomes, unwritten, Allocates, ReceivesInto, Clones, Chains, IsWellFormedStore};
 ghost use Rattle.dp_model.specs.declared.instr.Instr.{Instr};
@@ -66,4 +66,15 @@ pub fn numbers_are_as_called()
     ensures spelling { (w n : ℕ) → spelled (big_endian w n) ≡ n % 256 ^ w }
     ensures stores { (place w n : ℕ) (s : Segment) (rest : Packet) (buffers : Buffers) → 1 ≤ w → place + w ≤ s.len →
         s.offset + s.len ≤ length (bytes_of buffers s.buffer) → loaded place w (s ∷ rest) (stored place w n (s ∷ rest) buffers) ≡ n % 256 ^ w }
+{}
+
+/// Runs are as they read: rounds give each port the records of its input, in order; rings are served until none has a
+/// packet, or as often as may be; a record is received and its node runs, in one or one after the other.
+pub fn runs_are_as_they_read<T>()
+    ensures rounds { (port : ℕ) (inputs : List (List (T × List ℕ))) → of_port port (interleaved inputs) ≡ slice_index_or inputs port [] }
+    ensures serves { (c : Setting) (programs : List (List Instr)) (n : ℕ) (w : World) (told : List Bool) (runs : ℕ) (w' : World) →
+        Serves c programs n w told runs w' → IsServed c programs n w runs w' }
+    ensures receives { (c : Setting) (nodes : Nodes) (port : ℕ) (bytes : List ℕ) (w w' : World) (b : Beginning) (told : List Bool) →
+        (r : IsOfRecord c nodes port bytes w b) → NodeRun c b.program b.packet b.number b.world told w' →
+        Receives c r.program port r.spec bytes w (true ∷ told) w' }
 {}

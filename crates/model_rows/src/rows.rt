@@ -3,8 +3,8 @@
 use dp_model::{
     Env, Fact, Instr, Leads, NumberRegister, Operand, Packet, PacketRegister, PoolSpec, PortSpec,
     Row, Rule, Width, accepted_programs_are_safe, accepted_programs_are_sound,
-    layers_stay_well_formed, longest_prefixes_agree, numbers_are_as_called, turns_stay_ready,
-    worlds_stay_well_formed,
+    layers_stay_well_formed, longest_prefixes_agree, numbers_are_as_called, runs_are_as_they_read,
+    turns_stay_ready, worlds_stay_well_formed,
 };
 
 /// What is known of a packet in one segment.
@@ -234,4 +234,5 @@ fn laws_can_be_called(_rt: HostRuntime) {
     layers_stay_well_formed();
     longest_prefixes_agree();
     numbers_are_as_called();
+    runs_are_as_they_read::<u32>();
 }
