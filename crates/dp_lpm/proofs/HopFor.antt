@@ -24,7 +24,7 @@ same_find (r ∷ routes) ip depth =
     ap (λ b. cond b (Some r) (find (λ r. (r.depth == depth) && is_match ip r) routes)) (same_test ip depth r)
     ∙ ap (cond (is_at (prefix_of ip depth) depth r) (Some r)) (same_find routes ip depth)
 
-hop_is : (routes : List Route) (ip depth : ℕ) → hop_within depth routes ip ≡ option_map (λ r. r.hop) (deepest_within depth routes ip)
+pub hop_is : (routes : List Route) (ip depth : ℕ) → hop_within depth routes ip ≡ option_map (λ r. r.hop) (deepest_within depth routes ip)
 hop_is routes ip zero = ap (option_map (λ r. r.hop)) (sym (within_zero routes ip))
 hop_is routes ip (suc depth) =
     ap (λ o. hop_or o (hop_within depth routes ip)) (same_find routes ip (suc depth))

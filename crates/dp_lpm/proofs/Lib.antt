@@ -12,6 +12,7 @@ pub mod Grouping
 pub mod Groups
 pub mod Growing
 pub mod HopFor
+pub mod Looking
 pub mod Opening
 pub mod Order
 pub mod Ordering

@@ -1,6 +1,6 @@
 -- Tables of routes, and the changes that they allow.
-use Rattle.std.specs.Prelude.{◌≡◌, ℕ, zero, suc, ◌+◌, ◌-◌, ◌/◌, ◌^◌, ◌<◌, ◌≤◌, Bool, false, ◌&&◌, ◌==◌, nat_lt, if◌then◌else◌, List, length, Option, Some, None, is_some, find}
-use Rattle.std.specs.List.{list_any}
+use Rattle.std.specs.Prelude.{◌≡◌, ℕ, zero, suc, ◌+◌, ◌-◌, ◌/◌, ◌^◌, ◌<◌, ◌≤◌, Bool, false, ◌&&◌, ◌==◌, nat_lt, if◌then◌else◌, List, [], ◌∷◌, length, Option, Some, None, is_some, find}
+use Rattle.std.specs.List.{list_any, AllByRecursion}
 use Rattle.std.specs.Option.{option_or}
 use Rattle.dp_model.specs.Prefixes.{Route}
 
@@ -65,3 +65,15 @@ pub record IsRoute (route : Route) : Type 0 where
   pub most : route.depth ≤ 32
   pub prefix : route.prefix < 2 ^ route.depth
   pub hop : route.hop ≤ 16777215
+
+-- each prefix and depth has one route at most
+abbrev pub AreOnce : List Route → Type 0
+AreOnce [] = Unit {0}
+AreOnce (route ∷ routes) = (route_at routes route.prefix route.depth ≡ None) × AreOnce routes
+
+-- what every table is
+pub record IsTableOfRoutes (t : RouteTable) : Type 0 where
+  pub each : AllByRecursion IsRoute t.routes
+  pub once : AreOnce t.routes
+  pub few : length t.routes ≤ t.max_rules
+  pub groups : groups_needed t.routes ≤ t.groups

@@ -1,8 +1,9 @@
 // A table for longest prefixes.
 
-ghost use Rattle.std.specs.Prelude.{◌≡◌, ◌≤◌, [], length, None, Some, IfOk, OnOk, OnErr, IfErr};
-ghost use Rattle.dp_model.specs.Prefixes.{hop_for};
-ghost use Rattle.dp_lpm.specs.Routes.{prefix_of, Puts, Drops};
+ghost use Rattle.std.specs.Prelude.{◌≡◌, ◌≤◌, [], length, IsTrue, ◌↔◌, None, Some, IfOk, OnOk, OnErr, IfErr};
+ghost use Rattle.dp_model.specs.Prefixes.{hop_for, LooksUp};
+ghost use Rattle.dp_lpm.specs.Routes.{prefix_of, IsTableOfRoutes, Puts, Drops};
+ghost use Rattle.std.specs.List.{AllByRecursion};
 ghost use Rattle.dp_lpm.specs.Faults.{added, add_fault, delete_fault};
 
 use crate::error::{LpmError, Memory};
@@ -64,8 +65,25 @@ impl Lpm {
 
     /// The hop of the deepest rule whose prefix the address begins with.
     pub fn lookup(&self, ip: u32) -> Option<u32>
-        ensures { result ≡ hop_for self.now.routes ip }
+        ensures value { result ≡ hop_for self.now.routes ip }
+        ensures deepest { LooksUp self.now.routes ip result }
     {
         self.store.lookup(ip)
+    }
+
+    /// How many rules there are.
+    pub fn len(&self) -> usize
+        ensures len { result ≡ length self.now.routes }
+        ensures table { IsTableOfRoutes self.now }
+        ensures hops { AllByRecursion (λ route. route.hop ≤ 16777215) self.now.routes }
+    {
+        self.store.len()
+    }
+
+    /// Whether there is no rule.
+    pub fn is_empty(&self) -> bool
+        ensures { IsTrue result ↔ (self.now.routes ≡ []) }
+    {
+        self.len() == 0
     }
 }

@@ -1,7 +1,7 @@
 // A table of rules, and the entries of all addresses.
 
-ghost use Rattle.std.specs.Prelude.{◌≡◌, ℕ, ◌<◌, ◌≤◌, [], Some, None, IfOk, OnOk, OnErr, IfErr};
-ghost use Rattle.dp_model.specs.Prefixes.{hop_for};
+ghost use Rattle.std.specs.Prelude.{◌≡◌, ℕ, ◌<◌, ◌≤◌, [], length, Some, None, IfOk, OnOk, OnErr, IfErr};
+ghost use Rattle.dp_model.specs.Prefixes.{hop_for, LooksUp};
 ghost use Rattle.dp_lpm.specs.Faults.{add_fault, delete_fault, added};
 
 use crate::cell::{Cell, Entry};
@@ -26,7 +26,7 @@ impl Store {
     ghost use Rattle.dp_lpm.specs.Cells.{IsStorable, group_in};
     ghost use Rattle.dp_lpm.specs.Faults.{route_fault, new_fault};
     ghost use Rattle.dp_lpm.specs.Kept.{IsKept, TakesIn, TakesOut, routes_in, shown};
-    ghost use Rattle.dp_lpm.specs.Routes.{IsRoute, Puts, Drops, prefix_of};
+    ghost use Rattle.dp_lpm.specs.Routes.{IsRoute, IsTableOfRoutes, Puts, Drops, prefix_of};
     ghost use Rattle.dp_lpm.specs.Rules.{route_of, IsFound, IsMissing};
     ghost use Rattle.dp_lpm.specs.Tables.{IsTable, group_at, start_of, Settled};
 
@@ -51,12 +51,22 @@ impl Store {
     /// The hop of the deepest rule that has the address.
     pub fn lookup(&self, ip: u32) -> Option<u32>
         requires { IsKept self.now }
-        ensures { result ≡ hop_for (routes_in self.now) ip }
+        ensures value { result ≡ hop_for (routes_in self.now) ip }
+        ensures deepest { LooksUp (routes_in self.now) ip result }
     {
         match self.table.entry_for(ip) {
             Entry::Hop { hop, .. } => Some(hop),
             _ => None,
         }
+    }
+
+    /// How many rules there are.
+    pub fn len(&self) -> usize
+        requires { IsKept self.now }
+        ensures len { result ≡ length (routes_in self.now) }
+        ensures table { IsTableOfRoutes (shown self.now) }
+    {
+        self.rules.len()
     }
 
     /// The entries of a prefix's addresses that are at most so deep become another one.

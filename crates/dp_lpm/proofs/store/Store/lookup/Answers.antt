@@ -1,13 +1,17 @@
 -- The entry is that of the deepest route.
-use Rattle.std.proofs.Common.{sym, ◌∙◌}
+use Rattle.std.proofs.Common.{sym, ◌∙◌, subst}
+use Rattle.dp_model.specs.Prefixes.{LooksUp}
 use Rattle.dp_lpm.specs.Kept.{routes_in}
 use Rattle.dp_lpm.proofs.HopFor.{hop_told, none_told}
+use Rattle.dp_lpm.proofs.Looking.{looks_up}
 use Rattle.dp_lpm.proofs.store.Store.lookup.Goals as goal
 
 pub returns-in-Hop : goal.returns-in-Hop
 returns-in-Hop c =
-    sym (hop_told (routes_in c.args.self.now) c.args.ip c.in-Hop.hop c.in-Hop.depth (c.in-Hop.ensures ∙ c.requires.answers c.args.ip))
+    let told = hop_told (routes_in c.args.self.now) c.args.ip c.in-Hop.hop c.in-Hop.depth (c.in-Hop.ensures ∙ c.requires.answers c.args.ip) in
+    record { value = sym told; deepest = subst (LooksUp (routes_in c.args.self.now) c.args.ip) told (looks_up (routes_in c.args.self.now) c.args.ip c.requires.each) }
 
 pub returns-in_default : goal.returns-in_default
 returns-in_default c =
-    sym (none_told (routes_in c.args.self.now) c.args.ip c.entry_for.result c.in_default.not-Hop (c.entry_for.ensures ∙ c.requires.answers c.args.ip))
+    let told = none_told (routes_in c.args.self.now) c.args.ip c.entry_for.result c.in_default.not-Hop (c.entry_for.ensures ∙ c.requires.answers c.args.ip) in
+    record { value = sym told; deepest = subst (LooksUp (routes_in c.args.self.now) c.args.ip) told (looks_up (routes_in c.args.self.now) c.args.ip c.requires.each) }

@@ -1,0 +1,198 @@
+//! Rows with known answers, and the table beside one list of rules.
+
+mod plain;
+
+use crate::{Lpm, LpmError};
+use plain::Plain;
+use std::test::Fail;
+
+/// The address of four numbers.
+fn ip(a: u8, b: u8, c: u8, d: u8) -> u32 {
+    u32::from_be_bytes([a, b, c, d])
+}
+
+#[test]
+fn one_group_is_freed_and_taken_again(rt: HostRuntime) -> Result<(), Fail> {
+    let mut table = Lpm::new(rt.alloc(), 4, 1)?;
+    assert_eq!(rt; table.add(ip(10, 0, 0, 0), 8, 1), Ok(()));
+    assert_eq!(rt; table.add(ip(10, 1, 2, 128), 25, 2), Ok(()));
+    assert_eq!(rt; table.lookup(ip(10, 1, 2, 200)), Some(2));
+    assert_eq!(rt; table.lookup(ip(10, 1, 2, 100)), Some(1));
+    assert_eq!(rt; table.lookup(ip(11, 0, 0, 1)), None);
+    assert_eq!(rt;
+        table.add(ip(10, 1, 3, 128), 25, 3),
+        Err(LpmError::GroupsFull)
+    );
+    assert_eq!(rt; table.delete(ip(10, 1, 2, 128), 25), Ok(()));
+    assert_eq!(rt; table.lookup(ip(10, 1, 2, 200)), Some(1));
+    assert_eq!(rt; table.delete(ip(10, 1, 2, 128), 25), Err(LpmError::NoRule));
+    assert_eq!(rt; table.add(ip(10, 1, 3, 128), 25, 3), Ok(()));
+    assert_eq!(rt; table.lookup(ip(10, 1, 3, 200)), Some(3));
+    Ok(())
+}
+
+#[test]
+fn refusals_come_in_their_order(rt: HostRuntime) -> Result<(), Fail> {
+    let mut table = Lpm::new(rt.alloc(), 1, 0)?;
+    assert_eq!(rt;
+        table.add(ip(10, 1, 3, 128), 0, 16_777_216),
+        Err(LpmError::BadDepth)
+    );
+    assert_eq!(rt;
+        table.add(ip(10, 1, 3, 128), 33, 0),
+        Err(LpmError::BadDepth)
+    );
+    assert_eq!(rt;
+        table.add(ip(10, 1, 3, 128), 25, 16_777_216),
+        Err(LpmError::BadHop)
+    );
+    assert_eq!(rt;
+        table.add(ip(10, 1, 3, 128), 25, 3),
+        Err(LpmError::GroupsFull)
+    );
+    assert_eq!(rt; table.add(ip(10, 0, 0, 0), 8, 16_777_215), Ok(()));
+    assert_eq!(rt;
+        table.add(ip(10, 1, 3, 128), 25, 3),
+        Err(LpmError::RulesFull)
+    );
+    assert_eq!(rt; table.add(ip(10, 200, 0, 1), 8, 4), Ok(()));
+    assert_eq!(rt; table.lookup(ip(10, 1, 3, 128)), Some(4));
+    assert_eq!(rt; table.delete(ip(10, 0, 0, 0), 0), Err(LpmError::BadDepth));
+    assert_eq!(rt; table.delete(ip(10, 0, 0, 0), 9), Err(LpmError::NoRule));
+    let numbers = [
+        LpmError::BadDepth.number(),
+        LpmError::BadHop.number(),
+        LpmError::RulesFull.number(),
+        LpmError::GroupsFull.number(),
+        LpmError::NoRule.number(),
+    ];
+    assert_eq!(rt; numbers, [1, 2, 3, 4, 5]);
+    Ok(())
+}
+
+#[test]
+fn shallow_rules_change_below_a_deep_one(rt: HostRuntime) -> Result<(), Fail> {
+    let mut table = Lpm::new(rt.alloc(), 4, 1)?;
+    assert_eq!(rt; table.add(ip(10, 0, 0, 0), 8, 1), Ok(()));
+    assert_eq!(rt; table.add(ip(10, 1, 2, 0), 24, 5), Ok(()));
+    assert_eq!(rt; table.add(ip(10, 1, 2, 128), 25, 6), Ok(()));
+    assert_eq!(rt; table.delete(ip(10, 1, 2, 0), 24), Ok(()));
+    assert_eq!(rt; table.lookup(ip(10, 1, 2, 100)), Some(1));
+    assert_eq!(rt; table.lookup(ip(10, 1, 2, 200)), Some(6));
+    assert_eq!(rt; table.add(ip(10, 1, 2, 129), 25, 7), Ok(()));
+    assert_eq!(rt; table.lookup(ip(10, 1, 2, 200)), Some(7));
+    assert_eq!(rt; table.delete(ip(10, 1, 2, 128), 25), Ok(()));
+    assert_eq!(rt; table.lookup(ip(10, 1, 2, 200)), Some(1));
+    assert_eq!(rt; table.add(ip(10, 9, 9, 9), 32, 16_777_215), Ok(()));
+    assert_eq!(rt; table.lookup(ip(10, 9, 9, 9)), Some(16_777_215));
+    assert_eq!(rt; table.lookup(ip(10, 9, 9, 8)), Some(1));
+    Ok(())
+}
+
+#[test]
+fn every_depth_over_one_address(rt: HostRuntime) -> Result<(), Fail> {
+    let mut table = Lpm::new(rt.alloc(), 32, 1)?;
+    let address = ip(170, 85, 204, 51);
+    for depth in 1..33u8 {
+        assert_eq!(rt;
+            table.add(address, depth, u32::from(depth)),
+            Ok(()),
+            "at {depth}"
+        );
+        assert_eq!(rt; table.lookup(address), Some(u32::from(depth)));
+    }
+    // An address that leaves the prefixes at one bit has the rule before that bit.
+    for bit in 0..32u8 {
+        let other = address ^ (1 << (31 - bit));
+        let hop = if bit == 0 { None } else { Some(u32::from(bit)) };
+        assert_eq!(rt; table.lookup(other), hop, "at {bit}");
+    }
+    for depth in 1..33u8 {
+        assert_eq!(rt; table.delete(address, depth), Ok(()), "at {depth}");
+        let hop = if depth == 32 { None } else { Some(32) };
+        assert_eq!(rt; table.lookup(address), hop);
+    }
+    Ok(())
+}
+
+/// Numbers that follow no pattern, the same in each run.
+#[derive(Drop)]
+struct Numbers {
+    state: u64,
+}
+
+impl Numbers {
+    fn next(&mut self) -> u32 {
+        self.state = self
+            .state
+            .wrapping_mul(6_364_136_223_846_793_005)
+            .wrapping_add(1_442_695_040_888_963_407);
+        (self.state / 0x1_0000_0000) as u32
+    }
+
+    /// An address in one of four times 256, or any.
+    fn address(&mut self) -> u32 {
+        let any = self.next();
+        if self.next() % 8 == 0 {
+            return any;
+        }
+        0x0a01_0000 + any % 1024
+    }
+
+    /// A depth of 1 to 32, mostly a great one.
+    fn depth(&mut self) -> u8 {
+        let any = self.next();
+        if self.next() % 4 == 0 {
+            return (any % 32) as u8 + 1;
+        }
+        (any % 12) as u8 + 21
+    }
+}
+
+#[test]
+fn the_table_and_the_list_agree(rt: HostRuntime) -> Result<(), Fail> {
+    let mut table = Lpm::new(rt.alloc(), 300, 6)?;
+    let mut list = Plain::new(rt.alloc(), 300, 6)?;
+    let mut numbers = Numbers { state: 7 };
+    let mut refused = 0u32;
+    for step in 0..1500u32 {
+        let address = numbers.address();
+        let depth = numbers.depth();
+        if numbers.next() % 4 == 0 {
+            assert_eq!(rt;
+                table.delete(address, depth),
+                list.delete(address, depth),
+                "delete {step}"
+            );
+        } else {
+            let hop = numbers.next() % 16_777_216;
+            let answer = table.add(address, depth, hop);
+            assert_eq!(rt; answer, list.add(address, depth, hop), "add {step}");
+            if answer.is_err() {
+                refused = refused.wrapping_add(1);
+            }
+        }
+        for _ in 0..10u32 {
+            let other = numbers.address();
+            assert_eq!(rt; table.lookup(other), list.lookup(other), "step {step}");
+        }
+    }
+    assert!(rt; refused > 0);
+    for _ in 0..100_000u32 {
+        let address = numbers.address();
+        assert_eq!(rt; table.lookup(address), list.lookup(address));
+    }
+    Ok(())
+}
+
+#[test]
+fn rules_are_counted(rt: HostRuntime) -> Result<(), Fail> {
+    let mut table = Lpm::new(rt.alloc(), 4, 1)?;
+    assert!(rt; table.is_empty());
+    assert_eq!(rt; table.add(ip(10, 1, 2, 0), 24, 5), Ok(()));
+    assert_eq!(rt; table.add(ip(10, 1, 2, 128), 25, 6), Ok(()));
+    assert_eq!(rt; table.add(ip(10, 1, 2, 255), 24, 7), Ok(()));
+    assert_eq!(rt; table.len(), 2);
+    assert!(rt; !table.is_empty());
+    Ok(())
+}
