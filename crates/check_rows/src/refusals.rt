@@ -73,6 +73,11 @@ fn each_rule_once(rt: HostRuntime) -> Result<(), Fail> {
             (1, 5),
         ),
         (
+            "alloc p1,0,d\nclone p1,p0,0,e\nfree p2\ne: free p1\nd: free p0\nexit\n",
+            "alloc p1,0,d\nclone p2,p0,0,e\nfree p2\ne: free p1\nd: free p0\nexit\n",
+            (1, 5),
+        ),
+        (
             "iflen p0,14,d\nadj p0,15\nd: free p0\nexit\n",
             "iflen p0,14,d\nadj p0,14\nd: free p0\nexit\n",
             (1, 6),

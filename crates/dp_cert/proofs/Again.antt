@@ -1,122 +1,17 @@
 -- What is spelled is read again.
-use Rattle.std.proofs.Common.{◌≡◌, ℕ, zero, suc, ◌+◌, ◌-◌, ◌*◌, ◌/◌, ◌%◌, ◌^◌, ◌<◌, Bool, true, false, cond, eqb, List, [], ◌∷◌, ◌++◌, length, take, drop, get_or, Ok, refl, ap, ◌∙◌, append_assoc, eq-eqb, arith}
+use Rattle.std.proofs.Common.{◌≡◌, ℕ, ◌+◌, ◌-◌, ◌*◌, ◌/◌, ◌%◌, ◌<◌, Bool, true, false, eqb, List, [], ◌∷◌, ◌++◌, length, take, drop, get_or, Ok, refl, ap, ◌∙◌, eq-eqb, arith}
 use Rattle.std.specs.List.{flat_map, AllByRecursion, list_all}
-use Rattle.std.specs.Int.{w16, w64, to_be_bytes, from_be_bytes, bytes_high_first, byte_at}
 use Rattle.std.specs.Str.{bytes_eq}
-use Rattle.std.proofs.lemmas.List.{append-nil, take_at, drop_at, length-append, get_or-append_right}
+use Rattle.std.proofs.lemmas.List.{take_at, drop_at, length-append, get_or-append_right}
 use Rattle.std.proofs.lemmas.List.Folds.{list_all_at}
-use Rattle.std.proofs.lemmas.Nat.{from_be_bytes-to_be_bytes_2, from_be_bytes-to_be_bytes_8}
 use Rattle.std.proofs.lemmas.Slice.Eq.{bytes_eq-Decides}
-use Rattle.hex.specs.Hex.{encode_with, encode_lower, lower_digits, decode_sized, IsBytes}
+use Rattle.hex.specs.Hex.{encode_with, encode_lower, lower_digits, decode_sized}
 use Rattle.hex.proofs.HexLemmas.{length-encode_with, decode_sized-encode_lower}
-use Rattle.dp_model.specs.declared.row.Fact.{Fact}
-use Rattle.dp_model.specs.declared.row.Fact.TheVariants.{Empty, Held}
 use Rattle.dp_model.specs.declared.row.Row.{Row}
-use Rattle.dp_cert.specs.Spelling.{fact_bytes, row_bytes, head_line, row_line, spelling, FactInRange, IsRow}
-use Rattle.dp_cert.specs.Reading.{fact_in, bound_in, parts_in, facts_in, bounds_in, row_in, is_digit, digits_in, is_line, row_of, rows_of, cert_of}
+use Rattle.dp_cert.specs.Spelling.{row_bytes, head_line, row_line, spelling, IsRow}
+use Rattle.dp_cert.specs.Reading.{is_digit, digits_in, is_line, row_of, rows_of, cert_of}
 use Rattle.dp_cert.proofs.Loop.{one_row}
-
--- ---- bytes
-
-abbrev Low : List ℕ → Type 0
-Low bytes = AllByRecursion (λ b. b < 256) bytes
-
-Low-append : (xs ys : List ℕ) → Low xs → Low ys → Low (xs ++ ys)
-Low-append [] ys h k = k
-Low-append (x ∷ xs) ys h k = (h.0, Low-append xs ys h.1 k)
-
-byte_low : (k n : ℕ) → byte_at k n < 256
-byte_low zero n = omega arith
-byte_low (suc k) n = omega arith
-
-Low-be : (k n : ℕ) → Low (bytes_high_first k n)
-Low-be zero n = tt
-Low-be (suc k) n = (byte_low k n, Low-be k n)
-
-Low-flat : {A : Type 0} (P : A → Type 0) (f : A → List ℕ) (xs : List A) → ((x : A) → P x → Low (f x)) → AllByRecursion P xs → Low (flat_map f xs)
-Low-flat P f [] each h = tt
-Low-flat P f (x ∷ xs) each h = Low-append (f x) (flat_map f xs) (each x h.0) (Low-flat P f xs each h.1)
-
-IsBytes-from : (bytes : List ℕ) → Low bytes → IsBytes bytes
-IsBytes-from [] h i = omega arith
-IsBytes-from (b ∷ bytes) h zero = h.0
-IsBytes-from (b ∷ bytes) h (suc i) = IsBytes-from bytes h.1 i
-
--- ---- facts and bounds
-
-length-fact : (f : Fact) → length (fact_bytes f) ≡ 11
-length-fact Empty = refl
-length-fact (Held share head tail first last segs) = refl
-
-Low-fact : (f : Fact) → FactInRange f → Low (fact_bytes f)
-Low-fact Empty h = (omega arith, (omega arith, (omega arith, (omega arith, (omega arith, (omega arith, (omega arith, (omega arith, (omega arith, (omega arith, (omega arith, tt)))))))))))
-Low-fact (Held share head tail first last segs) h = (omega arith, (omega arith, (omega arith, (omega arith, (omega arith, (omega arith, (omega arith, (omega arith, (omega arith, (omega arith, (omega arith, tt)))))))))))
-
-fact_again : (f : Fact) → FactInRange f → fact_in (fact_bytes f) ≡ f
-unfolding fact_in
-fact_again Empty h = refl
-fact_again (Held share head tail first last segs) h =
-    let made : ℕ → ℕ → ℕ → ℕ → Fact = λ a b c d. Held share a b c d segs in
-    let e1 = from_be_bytes-to_be_bytes_2 head h.1 in
-    let e2 = from_be_bytes-to_be_bytes_2 tail h.2 in
-    let e3 = from_be_bytes-to_be_bytes_2 first h.3 in
-    let e4 = from_be_bytes-to_be_bytes_2 last h.4 in
-    let back : ℕ → ℕ = λ n. from_be_bytes w16 (to_be_bytes w16 n) in
-    ap (λ (x : ℕ). made x (back tail) (back first) (back last)) e1
-    ∙ ap (λ (x : ℕ). made head x (back first) (back last)) e2
-    ∙ ap (λ (x : ℕ). made head tail x (back last)) e3
-    ∙ ap (λ (x : ℕ). made head tail first x) e4
-
-bound_again : (n : ℕ) → n < 2 ^ 64 → bound_in (to_be_bytes w64 n) ≡ n
-unfolding bound_in
-bound_again n h = from_be_bytes-to_be_bytes_8 n h
-
-parts_again : {A : Type 0} (P : A → Type 0) (part : List ℕ → A) (f : A → List ℕ) (width : ℕ) → ((x : A) → length (f x) ≡ width) → ((x : A) → P x → part (f x) ≡ x)
-    → (xs : List A) (rest : List ℕ) → AllByRecursion P xs → parts_in part width (length xs) (flat_map f xs ++ rest) ≡ xs
-unfolding parts_in
-parts_again P part f width len again [] rest h = refl
-parts_again P part f width len again (x ∷ xs) rest h =
-    let e : (f x ++ flat_map f xs) ++ rest ≡ f x ++ (flat_map f xs ++ rest) = append_assoc (f x) (flat_map f xs) rest in
-    rw (e, take_at (f x) (flat_map f xs ++ rest) width (len x), drop_at (f x) (flat_map f xs ++ rest) width (len x), again x h.0, parts_again P part f width len again xs rest h.1) refl
-
-length-flat : {A : Type 0} (f : A → List ℕ) (width : ℕ) → ((x : A) → length (f x) ≡ width) → (xs : List A) → length (flat_map f xs) ≡ width * length xs
-length-flat f width len [] = omega arith
-length-flat f width len (x ∷ xs) = omega (arith, length-append (f x) (flat_map f xs), len x, length-flat f width len xs)
-
--- ---- rows
-
-flag : (b : Bool) → eqb (cond b 1 0) 1 ≡ b
-flag true = refl
-flag false = refl
-
-length-row : (row : Row) → IsRow row → length (row_bytes row) ≡ 153
-length-row row fits =
-    let a = length-flat fact_bytes 11 length-fact row.facts in
-    let b = length-flat (to_be_bytes w64) 8 (λ n. refl) row.bounds in
-    omega (arith, a, b, fits.eight_facts, fits.eight_bounds, length-append (flat_map fact_bytes row.facts) (flat_map (to_be_bytes w64) row.bounds))
-
-low_flag : (b : Bool) → cond b 1 0 < 256
-low_flag true = omega arith
-low_flag false = omega arith
-
-Low-row : (row : Row) → IsRow row → Low (row_bytes row)
-Low-row row fits = (low_flag row.live, Low-append (flat_map fact_bytes row.facts) (flat_map (to_be_bytes w64) row.bounds) (Low-flat FactInRange fact_bytes row.facts Low-fact fits.facts) (Low-flat (λ n. n < 2 ^ 64) (to_be_bytes w64) row.bounds (λ n h. Low-be 8 n) fits.bounds))
-
-row_again : (row : Row) → IsRow row → row_in (row_bytes row) ≡ row
-unfolding row_in facts_in bounds_in
-row_again row fits =
-    let a = flat_map fact_bytes row.facts in
-    let b = flat_map (to_be_bytes w64) row.bounds in
-    let made : Bool → List Fact → List ℕ → Row = λ l f n. record { live = l; facts = f; bounds = n } in
-    let front : parts_in fact_in 11 8 (a ++ b) ≡ row.facts = rw fits.eight_facts at (parts_again FactInRange fact_in fact_bytes 11 length-fact fact_again row.facts b fits.facts) in
-    let back : parts_in bound_in 8 8 b ≡ row.bounds = rw (fits.eight_bounds, append-nil b) at (parts_again (λ n. n < 2 ^ 64) bound_in (to_be_bytes w64) 8 (λ n. refl) bound_again row.bounds [] fits.bounds) in
-    let far : drop 89 (row_bytes row) ≡ b = drop_at (cond row.live 1 0 ∷ a) b 89 (omega (arith, length-flat fact_bytes 11 length-fact row.facts, fits.eight_facts)) in
-    ap (λ (l : Bool). made l (parts_in fact_in 11 8 (a ++ b)) (parts_in bound_in 8 8 (drop 89 (row_bytes row)))) (flag row.live)
-    ∙ ap (λ (f : List Fact). made row.live f (parts_in bound_in 8 8 (drop 89 (row_bytes row)))) front
-    ∙ ap (λ (x : List ℕ). made row.live row.facts (parts_in bound_in 8 8 x)) far
-    ∙ ap (λ (n : List ℕ). made row.live row.facts n) back
-
--- ---- lines
+use Rattle.dp_cert.proofs.RowBytes.{Low, IsBytes-from, length-row, Low-row, row_again}
 
 digit_good : (d : ℕ) → d < 16 → is_digit (get_or lower_digits d 0) ≡ true
 digit_good d lt = go (is_digit (get_or lower_digits d 0)) refl

@@ -1,16 +1,11 @@
 -- What is wrong where nothing is read.
-use Rattle.std.proofs.Common.{◌≡◌, ◌≢◌, ◌⊎◌, ℕ, zero, suc, ◌+◌, ◌-◌, ◌*◌, ◌<◌, ◌&&◌, ◌||◌, Bool, true, false, cond, eqb, get_or, Some, None, List, [], ◌∷◌, ◌++◌, length, take, drop, Result, Ok, Err, refl, sym, ap, subst, ◌∙◌, append_assoc, inl, inr, arith}
-use Rattle.std.specs.Prelude.{IfErr, IsOk, is_some, nat_eq, nat_le}
+use Rattle.std.proofs.Common.{◌≡◌, ◌⊎◌, ℕ, zero, suc, ◌+◌, Bool, true, false, List, [], ◌∷◌, ◌++◌, length, take, drop, Result, Ok, Err, refl, sym, ap, subst, ◌∙◌, append_assoc, inl, inr, arith}
+use Rattle.std.specs.Prelude.{IfErr, nat_eq}
 use Rattle.std.specs.Global.{Vec}
-use Rattle.std.specs.List.{flat_map, list_all, AllByRecursion, starts_with}
-use Rattle.std.specs.Str.{bytes_eq}
-use Rattle.std.proofs.lemmas.List.{take-append-drop, length-take}
-use Rattle.std.proofs.lemmas.List.Sums.{AllPass-from_list_all}
+use Rattle.std.specs.List.{flat_map, AllByRecursion, starts_with}
+use Rattle.std.proofs.lemmas.List.{take-append-drop}
 use Rattle.std.proofs.lemmas.Bool.Decides.{Decides-eqb}
 use Rattle.std.proofs.lemmas.Slice.Eq.{starts_is}
-use Rattle.hex.specs.Hex.{decode_sized, is_hex_digit}
-use Rattle.hex.specs.declared.error.FromHexError.{FromHexError}
-use Rattle.hex.proofs.HexLemmas.{IsOk-decode_sized}
 use Rattle.dp_model.specs.declared.row.Row.{Row}
 use Rattle.dp_model.specs.Rows.{is_well_formed_row}
 use Rattle.dp_cert.specs.declared.error.Cause.{Cause}
@@ -18,81 +13,11 @@ use Rattle.dp_cert.specs.declared.error.Cause.TheVariants.{BadHead, BadLine, Bad
 use Rattle.dp_cert.specs.declared.error.Fault.{Fault}
 use Rattle.dp_cert.specs.declared.error.CertError.{CertError}
 use Rattle.dp_cert.specs.declared.error.CertError.TheVariants as errors
-use Rattle.dp_cert.specs.Spelling.{IsRow, row_line, head_line, is_digit, digits_in, is_line}
+use Rattle.dp_cert.specs.Spelling.{row_line, head_line}
 use Rattle.dp_cert.specs.Faults.{IsWrong, HasFault, IsFaultOf}
-use Rattle.dp_cert.specs.Reading.{◌>>=◌, at_line, onto, of_bytes, row_in, row_of, rows_of, cert_of, Gives}
-use Rattle.dp_cert.proofs.Found.{both_true, row_found, from_line, Spells}
-use Rattle.dp_cert.proofs.Again.{line_again}
-
-abbrev wrong : {A E : Type 0} → E → Result A E
-wrong e = Err e
-
--- what is wrong with a line alone
-abbrev IsWrongLine : List ℕ → Cause → Type 0
-IsWrongLine line BadLine = is_line line ≡ false
-IsWrongLine line BadRow = (is_line line ≡ true) × ((row : Row) → IsRow row → line ≢ row_line row)
-IsWrongLine line BadHead = ⊥
-IsWrongLine line BadCount = ⊥
-
-not_spelled : (line : List ℕ) (cause : Cause) → row_of line ≡ Err cause → (row : Row) → IsRow row → line ≢ row_line row
-not_spelled line cause h row fits e = let other : row_of line ≡ Ok row = rw e (line_again row fits) in absurd (cc (h, other))
-
-same_error : {A E : Type 0} (x y : E) → wrong {A = A} x ≡ wrong y → x ≡ y
-same_error x y h = cc
-
--- one of the two tests is enough
-some_value : (a b d : Bool) (x y z : ℕ) → (d || b) ≡ true → is_some (cond a (Some x) (cond b (Some y) (cond d (Some z) None))) ≡ true
-some_value true b d x y z h = refl
-some_value false true d x y z h = refl
-some_value false false true x y z h = refl
-some_value false false false x y z h = absurd cc
-
-is_hex : (c : ℕ) → is_digit c ≡ true → is_hex_digit c ≡ true
-is_hex c h = some_value (nat_le 65 c && nat_le c 70) (nat_le 97 c && nat_le c 102) (nat_le 48 c && nat_le c 57) (c - 55) (c - 87) (c - 48) h
-
-all_hex : (digits : List ℕ) → list_all is_digit digits ≡ true → list_all is_hex_digit digits ≡ true
-all_hex [] h = refl
-all_hex (c ∷ digits) h =
-    let p = both_true (is_digit c) (list_all is_digit digits) h in
-    rw (is_hex c p.0, all_hex digits p.1) refl
-
--- a line of digits gives bytes
-has_bytes : (line : List ℕ) → is_line line ≡ true → IsOk (decode_sized (digits_in line) 153)
-has_bytes line h =
-    let p = both_true (eqb (length line) 307 && list_all is_digit (digits_in line)) (eqb (get_or line (length line - 1) 0) 10) h in
-    let q = both_true (eqb (length line) 307) (list_all is_digit (digits_in line)) p.0 in
-    let long : length line ≡ 307 = (Decides-eqb (length line) 307).0 q.0 in
-    let half : length (digits_in line) ≡ 2 * 153 = omega (arith, long, length-take (length line - 1) line) in
-    (IsOk-decode_sized (digits_in line) 153).1 (half, AllPass-from_list_all is_hex_digit (digits_in line) (all_hex (digits_in line) q.1))
-
--- what is wrong with a line of digits is its row
-row_wrong : (b : Bool) (row : Row) (cause : Cause) → cond b (Ok row) (Err BadRow) ≡ Err cause → cause ≡ BadRow
-row_wrong true row cause h = absurd cc
-row_wrong false row cause h = cc
-
-bytes_wrong : (line : List ℕ) (d : Result (List ℕ) FromHexError) (cause : Cause) → IsOk d → of_bytes line d ≡ Err cause → cause ≡ BadRow
-bytes_wrong line (Ok bytes) cause ok h = row_wrong (bytes_eq (row_line (row_in bytes)) line && is_well_formed_row (row_in bytes)) (row_in bytes) cause h
-bytes_wrong line (Err e) cause ok h = absurd cc
-
-line_wrong : (line : List ℕ) (cause : Cause) → row_of line ≡ Err cause → IsWrongLine line cause
-unfolding row_of
-line_wrong line cause h = go (is_line line) refl
-  where
-    go : (b : Bool) → is_line line ≡ b → IsWrongLine line cause
-    go true e =
-        let read : of_bytes line (decode_sized (digits_in line) 153) ≡ Err cause = rw e at h in
-        let is : cause ≡ BadRow = bytes_wrong line (decode_sized (digits_in line) 153) cause (has_bytes line e) read in
-        subst (λ (x : Cause). IsWrongLine line x) (sym is) (e, not_spelled line cause h)
-    go false e =
-        let read : Err BadLine ≡ Err cause = rw e at h in
-        subst (λ (x : Cause). IsWrongLine line x) (same_error BadLine cause read) e
-
--- the next of the lines is wrong
-next_wrong : (n : ℕ) (rows : List Row) (rest : List ℕ) (cause : Cause) → length rows < n → 0 < length rest → IsWrongLine (take 307 rest) cause → IsWrong n rows rest cause
-next_wrong n rows rest BadHead lt some h = h
-next_wrong n rows rest BadLine lt some h = (lt, some, h)
-next_wrong n rows rest BadRow lt some h = (lt, h.0, h.1)
-next_wrong n rows rest BadCount lt some h = absurd h
+use Rattle.dp_cert.specs.Reading.{◌>>=◌, at_line, onto, row_of, rows_of, cert_of, Gives}
+use Rattle.dp_cert.proofs.Found.{row_found, from_line, Spells}
+use Rattle.dp_cert.proofs.LineFaults.{wrong, same_error, line_wrong, next_wrong}
 
 -- after some rows, the first of which is at this line
 record Stops (start n : ℕ) (bytes : List ℕ) (fault : Fault) : Type 0 where

@@ -2,5 +2,7 @@ pub mod Parts
 pub mod Loop
 pub mod Rows
 pub mod Found
+pub mod RowBytes
 pub mod Again
+pub mod LineFaults
 pub mod Faulty

@@ -17,10 +17,12 @@ use Rattle.dp_check.specs.Faults.{question}
 use Rattle.dp_infer.specs.Joins.{joined, dead_row, begun, found_rows}
 use Rattle.dp_infer.specs.Inference.{Certifies, SaysMost}
 use Rattle.dp_infer.proofs.Stronger.{both_are}
-use Rattle.dp_infer.proofs.RowsAfter.{AreWellFormed}
-use Rattle.dp_infer.proofs.RulesKeep.{all_held_keeps, targets_keep, bytes_keep, share_keeps, segments_keep, leave_keeps, end_keeps}
+use Rattle.dp_infer.proofs.Changes.{AreWellFormed}
+use Rattle.dp_infer.proofs.PacketTests.{all_held_keeps}
+use Rattle.dp_infer.proofs.RulesKeep.{targets_keep, bytes_keep, share_keeps, segments_keep, leave_keeps, end_keeps}
 use Rattle.dp_infer.proofs.JoinLaws.{rows_join, joined_well_formed}
-use Rattle.dp_infer.proofs.Reach.{all_at, all_set, set_here, passes_at, passes, fits_from, Fit, fit_set}
+use Rattle.dp_infer.proofs.RowLists.{all_at, all_set, set_here, passes_at, passes, fits_from}
+use Rattle.dp_infer.proofs.Reach.{Fit, fit_set}
 use Rattle.dp_infer.proofs.Accepted.{second_rule, is_accepted, all_from}
 use Rattle.dp_infer.proofs.Spread.{Sound, live_rules, leads_well, spread_sound}
 

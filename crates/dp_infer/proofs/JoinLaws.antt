@@ -9,7 +9,7 @@ use Rattle.dp_model.specs.declared.row.Row.{Row}
 use Rattle.dp_model.specs.Rows.{is_well_formed_fact, is_well_formed_row}
 use Rattle.dp_infer.specs.Joins.{joined_fact, paired, joined, met}
 use Rattle.dp_infer.proofs.Stronger.{StrongerFact, AtMost, Stronger, both_are}
-use Rattle.dp_infer.proofs.RowsAfter.{AreWellFormed}
+use Rattle.dp_infer.proofs.Changes.{AreWellFormed}
 
 -- what two have in common follows from either, and gives all that follows from both
 record HaveLeast {A : Type 0} (R : A → A → Type 0) (x y j u : A) : Type 0 where

@@ -1,9 +1,13 @@
 pub mod Stronger
+pub mod Registers
 pub mod Pairs
 pub mod Numbers
+pub mod Changes
 pub mod RowsAfter
+pub mod PacketTests
 pub mod RulesKeep
 pub mod JoinLaws
+pub mod RowLists
 pub mod Reach
 pub mod Accepted
 pub mod Spread

@@ -1,5 +1,5 @@
 -- Control goes from a label to a later one.
-use Rattle.std.proofs.Common.{◌≡◌, ℕ, zero, suc, ◌<◌, ◌≤◌, Bool, true, false, List, [], ◌∷◌, length, set, Option, Some, None, refl, sym, ap, ◌∙◌, ◌⊎◌, inl, inr, subst, arith}
+use Rattle.std.proofs.Common.{◌≡◌, ℕ, zero, suc, ◌<◌, ◌≤◌, Bool, true, false, List, [], ◌∷◌, length, set, Option, Some, None, refl, sym, ◌∙◌, inl, inr, subst, arith}
 use Rattle.std.specs.Prelude.{nat_lt, slice_get, slice_set}
 use Rattle.std.specs.List.{list_all}
 use Rattle.std.specs.Option.{option_map_or}
@@ -7,66 +7,13 @@ use Rattle.std.proofs.lemmas.Bool.{le-leb, ltb-true, and_parts}
 use Rattle.std.proofs.lemmas.List.{length-set}
 use Rattle.dp_model.specs.declared.row.Row.{Row}
 use Rattle.dp_model.specs.declared.after.Lead.{Lead}
-use Rattle.dp_model.specs.Rows.{entails, is_well_formed_fact, is_well_formed_row}
+use Rattle.dp_model.specs.Rows.{entails, is_well_formed_row}
 use Rattle.dp_model.specs.Rules.{Question, row_passes}
 use Rattle.dp_infer.specs.Joins.{joined, met, reached, passed_on}
 use Rattle.dp_infer.proofs.Stronger.{Stronger, stronger, row_test, further, both_are}
-use Rattle.dp_infer.proofs.RowsAfter.{AreWellFormed}
+use Rattle.dp_infer.proofs.Changes.{AreWellFormed}
 use Rattle.dp_infer.proofs.JoinLaws.{rows_join, met_well_formed}
-
--- ---- lists of rows
-
--- an element after a write is the new one or an old one
-set_cases : {A : Type 0} (xs : List A) (i k : ℕ) (x y : A) → slice_get (set xs i x) k ≡ Some y → ((k ≡ i) × (x ≡ y)) ⊎ (slice_get xs k ≡ Some y)
-set_cases [] i k x y e = inr e
-set_cases (z ∷ zs) zero zero x y e = inl (refl, cc)
-set_cases (z ∷ zs) zero (suc k) x y e = inr e
-set_cases (z ∷ zs) (suc i) zero x y e = inr e
-set_cases (z ∷ zs) (suc i) (suc k) x y e =
-    elim (set_cases zs i k x y e) [
-      | inl here ↦ inl (ap suc here.0, here.1)
-      | inr other ↦ inr other
-    ]
-
-set_before : {A : Type 0} (xs : List A) (i k : ℕ) (x : A) → k < i → slice_get (set xs i x) k ≡ slice_get xs k
-set_before [] i k x lt = refl
-set_before (z ∷ zs) zero k x lt = absurd (omega arith)
-set_before (z ∷ zs) (suc i) zero x lt = refl
-set_before (z ∷ zs) (suc i) (suc k) x lt = set_before zs i k x (omega arith)
-
-pub set_here : {A : Type 0} (xs : List A) (i : ℕ) (x y : A) → slice_get xs i ≡ Some y → slice_get (set xs i x) i ≡ Some x
-set_here [] i x y e = absurd cc
-set_here (z ∷ zs) zero x y e = refl
-set_here (z ∷ zs) (suc i) x y e = set_here zs i x y e
-
-pub all_set : {A : Type 0} (test : A → Bool) (xs : List A) (i : ℕ) (x : A) → list_all test xs ≡ true → test x ≡ true → list_all test (set xs i x) ≡ true
-all_set test [] i x e h = refl
-all_set test (z ∷ zs) zero x e h = both_are h (and_parts (test z) (list_all test zs) e).1
-all_set test (z ∷ zs) (suc i) x e h = let (here, rest) = and_parts (test z) (list_all test zs) e in both_are here (all_set test zs i x rest h)
-
-pub all_at : {A : Type 0} (test : A → Bool) (xs : List A) (i : ℕ) (x : A) → list_all test xs ≡ true → slice_get xs i ≡ Some x → test x ≡ true
-all_at test [] i x e g = absurd cc
-all_at test (z ∷ zs) zero x e g = let here = (and_parts (test z) (list_all test zs) e).0 in cc
-all_at test (z ∷ zs) (suc i) x e g = all_at test zs i x (and_parts (test z) (list_all test zs) e).1 g
-
-pub there_is : {A : Type 0} (xs : List A) (i : ℕ) → i < length xs → (x : A) × (slice_get xs i ≡ Some x)
-there_is [] i lt = absurd (omega arith)
-there_is (x ∷ xs) zero lt = (x, refl)
-there_is (x ∷ xs) (suc i) lt = there_is xs i (omega arith)
-
--- the row that passes is there
-pub passes_at : (rows : List Row) (k : ℕ) (row : Row) → row_passes rows k (entails row) ≡ true → (u : Row) × (slice_get rows k ≡ Some u) × Stronger row u
-passes_at [] k row e = absurd cc
-passes_at (u ∷ rows) zero row e = (u, refl, stronger row u e)
-passes_at (u ∷ rows) (suc k) row e = passes_at rows k row e
-
-pub passes : (rows : List Row) (k : ℕ) (row u : Row) → slice_get rows k ≡ Some u → Stronger row u → row_passes rows k (entails row) ≡ true
-passes rows k row u e s = rw (e, row_test row u s) refl
-
-pub fits_from : (row : Row) → is_well_formed_row row ≡ true → AreWellFormed row
-fits_from row e = (and_parts (list_all is_well_formed_fact row.facts) _ e).0
-
--- ---- one lead
+use Rattle.dp_infer.proofs.RowLists.{set_cases, set_before, set_here, all_set, all_at, there_is, passes_at, passes, fits_from}
 
 -- each live row says all that the certificate's does
 pub record Fit (q : Question) (rows : List Row) : Type 0 where

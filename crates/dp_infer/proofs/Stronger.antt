@@ -1,13 +1,11 @@
 -- Entailment, as a relation: one row says all that another does.
-use Rattle.std.proofs.Common.{◌≡◌, ℕ, zero, suc, ◌≤◌, Bool, true, ◌&&◌, List, [], ◌∷◌, Option, Some, None, refl, arith, get_or, set}
-use Rattle.std.specs.Prelude.{nat_le, slice_get, option_and_then}
+use Rattle.std.proofs.Common.{◌≡◌, ℕ, ◌≤◌, Bool, true, ◌&&◌, List, [], ◌∷◌, Option, Some, None, refl, arith}
+use Rattle.std.specs.Prelude.{nat_le}
 use Rattle.std.specs.List.{AllZip}
 use Rattle.std.proofs.lemmas.Bool.{leb-true, le-leb, and_parts}
 use Rattle.dp_model.specs.declared.row.Fact.{Fact}
 use Rattle.dp_model.specs.declared.row.Row.{Row}
-use Rattle.dp_model.specs.declared.registers.Operand.{Operand}
-use Rattle.dp_model.specs.declared.registers.Operand.TheVariants.{Register, Constant}
-use Rattle.dp_model.specs.Rows.{Holding, holding, held_at, entails_holding, entails_option, entails_fact, at_each_place, entails, bound, with_bound, with_fact}
+use Rattle.dp_model.specs.Rows.{Holding, holding, entails_holding, entails_option, entails_fact, at_each_place, entails}
 
 -- the first promises at least what the second does
 pub record StrongerHolding (a b : Holding) : Type 0 where
@@ -72,13 +70,13 @@ option_test (Some a) (Some b) h = holding_test a b h
 option_test None (Some b) h = absurd h
 option_test (Some a) None h = absurd h
 
-zip_from : {A B : Type 0} (test : A → B → Bool) (R : A → B → Type 0) → ((x : A) (y : B) → test x y ≡ true → R x y) → (xs : List A) (ys : List B) → at_each_place test xs ys ≡ true → AllZip R xs ys
+pub zip_from : {A B : Type 0} (test : A → B → Bool) (R : A → B → Type 0) → ((x : A) (y : B) → test x y ≡ true → R x y) → (xs : List A) (ys : List B) → at_each_place test xs ys ≡ true → AllZip R xs ys
 zip_from test R each [] [] e = tt
 zip_from test R each (x ∷ xs) (y ∷ ys) e = let (here, rest) = and_parts (test x y) (at_each_place test xs ys) e in (each x y here, zip_from test R each xs ys rest)
 zip_from test R each [] (y ∷ ys) e = absurd cc
 zip_from test R each (x ∷ xs) [] e = absurd cc
 
-zip_test : {A B : Type 0} (test : A → B → Bool) (R : A → B → Type 0) → ((x : A) (y : B) → R x y → test x y ≡ true) → (xs : List A) (ys : List B) → AllZip R xs ys → at_each_place test xs ys ≡ true
+pub zip_test : {A B : Type 0} (test : A → B → Bool) (R : A → B → Type 0) → ((x : A) (y : B) → R x y → test x y ≡ true) → (xs : List A) (ys : List B) → AllZip R xs ys → at_each_place test xs ys ≡ true
 zip_test test R each [] [] h = refl
 zip_test test R each (x ∷ xs) (y ∷ ys) h = both_are (each x y h.0) (zip_test test R each xs ys h.1)
 zip_test test R each [] (y ∷ ys) h = absurd h
@@ -117,7 +115,7 @@ pub zip_same : {A : Type 0} (R : A → A → Type 0) → ((x : A) → R x x) →
 zip_same R each [] = tt
 zip_same R each (x ∷ xs) = (each x, zip_same R each xs)
 
-zip_further : {A : Type 0} (R : A → A → Type 0) → ((x y z : A) → R x y → R y z → R x z) → (xs ys zs : List A) → AllZip R xs ys → AllZip R ys zs → AllZip R xs zs
+pub zip_further : {A : Type 0} (R : A → A → Type 0) → ((x y z : A) → R x y → R y z → R x z) → (xs ys zs : List A) → AllZip R xs ys → AllZip R ys zs → AllZip R xs zs
 zip_further R each [] [] [] h k = tt
 zip_further R each (x ∷ xs) (y ∷ ys) (z ∷ zs) h k = (each x y z h.0 k.0, zip_further R each xs ys zs h.1 k.1)
 zip_further R each [] [] (z ∷ zs) h k = absurd k
@@ -140,51 +138,3 @@ further a b c h k = record {
   facts = zip_further StrongerFact (λ x y z. option_further (holding x) (holding y) (holding z)) a.facts b.facts c.facts h.facts k.facts;
   bounds = zip_further AtMost (λ m n o p q. omega arith) a.bounds b.bounds c.bounds h.bounds k.bounds;
 }
-
--- ---- single registers
-
-pub zip_set : {A B : Type 0} (R : A → B → Type 0) (xs : List A) (ys : List B) (i : ℕ) (x : A) (y : B) → AllZip R xs ys → R x y → AllZip R (set xs i x) (set ys i y)
-zip_set R [] [] i x y h r = tt
-zip_set R (a ∷ xs) (b ∷ ys) zero x y h r = (r, h.1)
-zip_set R (a ∷ xs) (b ∷ ys) (suc i) x y h r = (h.0, zip_set R xs ys i x y h.1 r)
-zip_set R [] (b ∷ ys) i x y h r = absurd h
-zip_set R (a ∷ xs) [] i x y h r = absurd h
-
-bounds_at : (ms ns : List ℕ) (i : ℕ) → AllZip AtMost ms ns → get_or ms i 0 ≤ get_or ns i 0
-bounds_at [] [] i h = omega arith
-bounds_at (m ∷ ms) (n ∷ ns) zero h = h.0
-bounds_at (m ∷ ms) (n ∷ ns) (suc i) h = bounds_at ms ns i h.1
-bounds_at [] (n ∷ ns) i h = absurd h
-bounds_at (m ∷ ms) [] i h = absurd h
-
--- the value of an operand is bounded as well
-pub bound_at : (a b : Row) (x : Operand) → Stronger a b → bound a x ≤ bound b x
-bound_at a b (Register r) h = bounds_at a.bounds b.bounds r h.bounds
-bound_at a b (Constant c) h = omega arith
-
-pub bound_set : (a b : Row) (r m n : ℕ) → Stronger a b → m ≤ n → Stronger (with_bound a r m) (with_bound b r n)
-bound_set a b r m n h le = record {
-  live = h.live;
-  other_live = h.other_live;
-  facts = h.facts;
-  bounds = zip_set AtMost a.bounds b.bounds r m n h.bounds le;
-}
-
-pub fact_set : (a b : Row) (p : ℕ) (f g : Fact) → Stronger a b → StrongerFact f g → Stronger (with_fact a p f) (with_fact b p g)
-fact_set a b p f g h s = record {
-  live = h.live;
-  other_live = h.other_live;
-  facts = zip_set StrongerFact a.facts b.facts p f g h.facts s;
-  bounds = h.bounds;
-}
-
-facts_at : (fs gs : List Fact) (p : ℕ) → AllZip StrongerFact fs gs → StrongerOption (option_and_then holding (slice_get fs p)) (option_and_then holding (slice_get gs p))
-facts_at [] [] p h = tt
-facts_at (f ∷ fs) (g ∷ gs) zero h = h.0
-facts_at (f ∷ fs) (g ∷ gs) (suc p) h = facts_at fs gs p h.1
-facts_at [] (g ∷ gs) p h = absurd h
-facts_at (f ∷ fs) [] p h = absurd h
-
--- what is known of a packet
-pub held_both : (a b : Row) (p : ℕ) → Stronger a b → StrongerOption (held_at a p) (held_at b p)
-held_both a b p h = facts_at a.facts b.facts p h.facts

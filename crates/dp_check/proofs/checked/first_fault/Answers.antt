@@ -7,7 +7,7 @@ use Rattle.dp_check.proofs.checked.first_fault.Goals as goal
 pub loop-label-preserved : goal.loop-label-preserved
 loop-label-preserved c =
     one_more (question c.args.program.now c.args.rows.now c.args.env.now c.args.entry) c.loop-label.label
-    (omega arith) (cc) c.loop-label.invariant (cc (c.in_default.is, c.in_default.ensures c.args.entry, c.fault_at.ensures c.args.entry))
+    (omega arith) (cc) c.loop-label.invariant (cc (c.in_default.ensures c.args.entry))
 
 pub returns-clause-none : goal.returns-clause-none
 returns-clause-none c =
