@@ -1,0 +1,17 @@
+pub mod Handles
+pub mod Machines
+pub mod Runs
+pub mod Counts
+pub mod Receive
+pub mod Turning
+pub mod Draining
+pub mod Writing
+pub mod Listed
+pub mod Plains
+pub mod Attaching
+pub mod Calls
+pub mod Growing
+pub mod Filling
+pub mod Opened
+pub mod Opening
+pub mod Ones

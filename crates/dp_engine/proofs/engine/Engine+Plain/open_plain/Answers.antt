@@ -1,0 +1,34 @@
+use Rattle.std.proofs.Common.{◌≡◌, ◌∙◌, ◌≤◌, ◌<◌, ℕ, List, [], ◌∷◌, length, sym, ap, subst, rules, refl, arith, get_or, None, Some, Option, replicate}
+use Rattle.std.specs.Vec.{vec_capacity}
+use Rattle.dp_model.specs.declared.env.PoolSpec.{PoolSpec}
+use Rattle.dp_model.specs.declared.env.PortSpec.{PortSpec}
+use Rattle.dp_model.specs.Environments.{Environment, fault_of}
+use Rattle.dp_model.specs.Rules.{Question}
+use Rattle.dp_model.specs.Stores.{Store}
+use Rattle.dp_engine.specs.Handles.{Core, core_of}
+use Rattle.dp_engine.specs.Plain.{store_of}
+use Rattle.dp_engine.specs.Reports.{no_tallies}
+use Rattle.dp_engine.specs.Turns.{IsPlainSetup, IsEngine, IsOpened, engine_of}
+use Rattle.dp_engine.proofs.Opening.{engine_opened, is_opened, no_slots, first_core}
+use Rattle.dp_engine.proofs.engine.Engine+Plain.open_plain.Goals as goal
+
+pub invariant_of-result : goal.invariant_of-result
+invariant_of-result c =
+    let s : IsPlainSetup c.args.checked.env = subst IsPlainSetup (sym c.requires.checked.0) c.requires.setup in
+    let valid : fault_of c.args.checked.env ≡ None = subst (λ e. fault_of e ≡ None) (sym c.requires.checked.0) c.within_limits.ensures in
+    let pool_same = ap (λ l. get_or l 0 (record { count = 0; cache = 0; room = 0 })) (c.pools.ensures ∙ c.requires.setup.pool_is) in
+    let queue : vec_capacity c.in-Ok-with_capacity.outbox ≡ s.port.queue = c.in-Ok-with_capacity.ensures.exact ∙ ap (λ (l : List PortSpec). (get_or l 0 (record { pool = 0; segs = 0; queue = 0 })).queue) (c.ports.ensures ∙ c.requires.setup.port_is) in
+    let core : c.over.result ≡ first_core s.pool (vec_capacity c.in-Ok-with_capacity.outbox) =
+    c.over.ensures ∙ ap (λ (l : Store). core_of l (vec_capacity c.in-Ok-with_capacity.outbox) (replicate 8 None) (replicate 8 0) [] 0 0)
+    (c.in-Ok.ensures ∙ ap (λ (p : PoolSpec). store_of p (replicate p.count (replicate p.room 0)) (replicate p.count None)) pool_same) in
+    rw (c.new.ensures.items, core) (engine_opened c.args.checked s (vec_capacity c.in-Ok-with_capacity.outbox) valid c.requires.checked.1 c.requires.forms (omega (arith, c.instrs-program.ensures.few, ap length (c.instrs-program.ensures.same ∙ c.program.ensures.same))) queue)
+
+pub returns : goal.returns
+returns c =
+    let s : IsPlainSetup c.args.checked.env = subst IsPlainSetup (sym c.requires.checked.0) c.requires.setup in
+    let pool_same = ap (λ l. get_or l 0 (record { count = 0; cache = 0; room = 0 })) (c.pools.ensures ∙ c.requires.setup.pool_is) in
+    let queue : vec_capacity c.in-Ok-with_capacity.outbox ≡ s.port.queue = c.in-Ok-with_capacity.ensures.exact ∙ ap (λ (l : List PortSpec). (get_or l 0 (record { pool = 0; segs = 0; queue = 0 })).queue) (c.ports.ensures ∙ c.requires.setup.port_is) in
+    let core : c.over.result ≡ first_core s.pool (vec_capacity c.in-Ok-with_capacity.outbox) =
+    c.over.ensures ∙ ap (λ (l : Store). core_of l (vec_capacity c.in-Ok-with_capacity.outbox) (replicate 8 None) (replicate 8 0) [] 0 0)
+    (c.in-Ok.ensures ∙ ap (λ (p : PoolSpec). store_of p (replicate p.count (replicate p.room 0)) (replicate p.count None)) pool_same) in
+    rw (c.new.ensures.items, core) (is_opened c.args.checked s (vec_capacity c.in-Ok-with_capacity.outbox))

@@ -1,0 +1,11 @@
+use Rattle.std.proofs.Common.{◌≡◌, ◌-◌, ◌+◌, ◌≤◌, false, ℕ}
+use Rattle.dp_engine.proofs.Ones.{Going}
+use Rattle.dp_engine.proofs.one.run_records.Given as goal
+
+abbrev pub invariant-loop-time : goal.invariant-loop-time
+invariant-loop-time g l =
+    Going l.fn.engine l.engine (g.R.Feed.remaining l.fn.r) (g.R.Feed.remaining l.r) (g.W.Sink.contents l.fn.w) (g.W.Sink.contents l.w) l.source l.unit
+    × (g.W.Sink.is_broken l.w ≡ false) × (l.engine.turns ≤ l.source.given)
+
+abbrev pub decreases-loop-time : goal.decreases-loop-time
+decreases-loop-time g l = 16777216 - l.source.given

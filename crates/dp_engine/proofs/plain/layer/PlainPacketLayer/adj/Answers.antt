@@ -1,0 +1,49 @@
+use Rattle.std.proofs.Common.{◌≡◌, ◌+◌, ◌-◌, ◌<◌, ◌≤◌, ◌∙◌, ℕ, List, Option, Some, None, [], ◌∷◌, ◌++◌, length, take, ap, sym, subst, arith, rules, refl, get_or}
+use Rattle.std.specs.Prelude.{slice_get, slice_set, replicate}
+use Rattle.std.proofs.lemmas.Option.{slice_get_within}
+use Rattle.dp_model.specs.Buffers.{Number, Buffers, written}
+use Rattle.dp_model.specs.Packets.{Segment, Packet, available, at_front, at_end, less_before, more_before, less_behind, more_behind, zeroed_before, zeroed_behind, headroom, tailroom, first_len, last_len}
+use Rattle.dp_model.specs.Environments.{room_at}
+use Rattle.dp_model.specs.Stores.{Store, segments_of, with_slot, Has}
+use Rattle.dp_engine.specs.Plain.{num, resized, packet_of}
+use Rattle.dp_engine.proofs.Calls.{headroom_is, first_len_is, front_is, before_is, last_len_is, tailroom_is, end_is, behind_is, before_end, whole_end, left_all, left_some, left_less, none_pool, allocates}
+use Rattle.dp_engine.proofs.plain.layer.PlainPacketLayer.adj.Goals as goal
+
+pub overflow_add-offset : goal.overflow_add-offset
+overflow_add-offset c =
+    let (k, has, le) = c.requires in
+    let hk : Has c.args.self.now c.number-h.result k = rw c.number-h.ensures has in
+    let there = c.first-part.ensures.value k hk in
+    let lies = c.first-part.ensures.lies in
+    omega (arith, le, lies.fits, lies.most, first_len_is k c.first-part.result there, c.offset.ensures)
+
+pub overflow_sub-len : goal.overflow_sub-len
+overflow_sub-len c =
+    let (k, has, le) = c.requires in
+    let hk : Has c.args.self.now c.number-h.result k = rw c.number-h.ensures has in
+    let there = c.first-part.ensures.value k hk in
+    let lies = c.first-part.ensures.lies in
+    omega (arith, le, first_len_is k c.first-part.result there, c.len.ensures)
+
+pub resize-requires-clause-there : goal.resize-requires-clause-there
+resize-requires-clause-there c =
+    let (k, has, le) = c.requires in
+    let hk : Has c.args.self.now c.number-h.result k = rw c.number-h.ensures has in
+    let there = c.first-part.ensures.value k hk in
+    let lies = c.first-part.ensures.lies in
+    (k, hk, slice_get_within k 0 c.first-part.result there)
+
+pub resize-requires-clause-fits : goal.resize-requires-clause-fits
+resize-requires-clause-fits c =
+    let (k, has, le) = c.requires in
+    let hk : Has c.args.self.now c.number-h.result k = rw c.number-h.ensures has in
+    let there = c.first-part.ensures.value k hk in
+    let lies = c.first-part.ensures.lies in
+    omega (arith, le, lies.fits, first_len_is k c.first-part.result there, c.offset.ensures, c.len.ensures)
+
+pub returns : goal.returns
+returns c k has =
+    let hk : Has c.args.self.now c.number-h.result k = rw c.number-h.ensures has in
+    let there = c.first-part.ensures.value k hk in
+    let shape : at_front (less_before c.args.n) k ≡ resized 0 (c.offset.result + c.args.n) (c.len.result - c.args.n) k = front_is (less_before c.args.n) k c.first-part.result _ _ there (rw (c.offset.ensures, c.len.ensures) refl) in
+    rw (shape, c.resize.ensures k hk, c.number-h.ensures) refl

@@ -1,0 +1,35 @@
+use Rattle.std.proofs.Common.{◌≡◌, ◌+◌, ◌-◌, ◌<◌, ◌≤◌, ◌∙◌, ℕ, List, Option, Some, None, [], ◌∷◌, ◌++◌, length, take, ap, sym, subst, arith, rules, refl, get_or}
+use Rattle.std.specs.Prelude.{slice_get, slice_set, replicate}
+use Rattle.std.proofs.lemmas.Option.{slice_get_within}
+use Rattle.dp_model.specs.Buffers.{Number, Buffers, written}
+use Rattle.dp_model.specs.Packets.{Segment, Packet, available, at_front, at_end, less_before, more_before, less_behind, more_behind, zeroed_before, zeroed_behind, headroom, tailroom, first_len, last_len}
+use Rattle.dp_model.specs.Environments.{room_at}
+use Rattle.dp_model.specs.Stores.{Store, segments_of, with_slot, Has}
+use Rattle.dp_engine.specs.Plain.{num, resized, packet_of}
+use Rattle.dp_engine.proofs.Calls.{headroom_is, first_len_is, front_is, before_is, last_len_is, tailroom_is, end_is, behind_is, before_end, whole_end, left_all, left_some, left_less, none_pool, allocates}
+use Rattle.dp_engine.proofs.plain.layer.PlainPacketLayer.free.Goals as goal
+
+pub detach-requires : goal.detach-requires
+detach-requires c =
+    let (k, has, _) = c.requires in
+    let hk : Has c.args.self.now c.number-h.result k = rw c.number-h.ensures has in
+    let (le, is) = c.loop-left.invariant k hk in
+    let (front, last, there, _) = left_some c.args.self.now c.loop-left.self c.number-h.result c.loop-left.left k hk (omega arith) le is in
+    (front ++ last ∷ [], there, tt)
+
+pub loop-left-init : goal.loop-left-init
+loop-left-init c k has =
+    (omega (arith, c.count-left.ensures.value k has), left_all c.args.self.now c.number-h.result c.count-left.result k has c.count-left.ensures.some (c.count-left.ensures.value k has))
+
+pub loop-left-preserved : goal.loop-left-preserved
+loop-left-preserved c k has =
+    let (le, is) = c.loop-left.invariant k has in
+    (omega (arith, le), left_less c.args.self.now c.loop-left.self c.detach.new.self c.number-h.result c.loop-left.left k has (omega arith) le is c.detach.ensures)
+
+pub returns : goal.returns
+returns c =
+    let (k, has, _) = c.requires in
+    let hk : Has c.args.self.now c.number-h.result k = rw c.number-h.ensures has in
+    let (le, is) = c.loop-left.invariant k hk in
+    let none : c.loop-left.left ≡ 0 = omega arith in
+    is ∙ ap (λ n. with_slot c.number-h.result (packet_of (take n k)) c.args.self.now) none ∙ ap (λ h. with_slot h None c.args.self.now) c.number-h.ensures

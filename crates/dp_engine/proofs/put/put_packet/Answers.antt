@@ -1,0 +1,21 @@
+use Rattle.std.proofs.Common.{◌≡◌, ◌++◌, ◌<◌, length, sym, ap, ◌∙◌, subst, arith, rules, refl}
+use Rattle.dp_model.specs.Packets.{packet_bytes, segment_bytes}
+use Rattle.dp_pcap.specs.Text.{head_text}
+use Rattle.dp_engine.proofs.Writing.{at_place, appends_piece, part_piece, sound_after, on_err_of}
+use Rattle.dp_engine.proofs.put.put_packet.Goals as goal
+
+pub returns-in_err-put_bytes-clause-err : goal.returns-in_err-put_bytes-clause-err
+returns-in_err-put_bytes-clause-err g c =
+    on_err_of c.from_residual-in_err-put_bytes.result (λ k has.
+    let lt : c.loop-index.index < length k = omega (arith, c.segments-index-end.ensures k has) in
+    let (s, here) = at_place k c.loop-index.index lt in
+    part_piece _ _ _ _ (segment_bytes (g.P.PacketLayer.store c.args.layer.now).buffers) k c.loop-index.index s c.segment_bytes.result.now here (c.segment_bytes.ensures k has s here) (c.loop-index.invariant.0 k has) c.in_err-put_bytes.ensures.err)
+
+pub loop-index-preserved : goal.loop-index-preserved
+loop-index-preserved g c = (
+  λ k has.
+      let lt : c.loop-index.index < length k = omega (arith, c.segments-index-end.ensures k has) in
+      let (s, here) = at_place k c.loop-index.index lt in
+      appends_piece _ _ _ _ (segment_bytes (g.P.PacketLayer.store c.args.layer.now).buffers) k c.loop-index.index s c.segment_bytes.result.now here (c.segment_bytes.ensures k has s here) (c.loop-index.invariant.0 k has) c.in_ok-put_bytes.ensures.ok,
+  sound_after g.W.Sink.is_broken c.loop-index.w c.put_bytes.new.w c.segment_bytes.result.now c.loop-index.invariant.1 (λ some. c.in_ok-put_bytes.ensures.sound some refl) c.in_ok-put_bytes.ensures.untouched,
+)

@@ -1,0 +1,121 @@
+-- A run of one port, from a capture to a capture.
+use Rattle.std.specs.Prelude.{◌≡◌, ℕ, ◌+◌, ◌<◌, Bool, List, [], ◌∷◌, ◌++◌, length, map, take, slice_get, Option, None, Some, Result, Ok, Err, ◌⊎◌}
+use Rattle.std.specs.List.{AllByRecursion}
+use Rattle.std.specs.Io.KnownBytes.{Appends, Keeps}
+use Rattle.dp_pcap.specs.declared.time.Time.{Time}
+use Rattle.dp_pcap.specs.declared.time.Unit.{Unit as TimeUnit}
+use Rattle.dp_pcap.specs.declared.error.PcapError.{PcapError}
+use Rattle.dp_pcap.specs.declared.error.PcapError.TheVariants.{Read}
+use Rattle.dp_pcap.specs.Standing.{Standing}
+use Rattle.dp_pcap.specs.Capture.{PacketRecord, Ending, IsCapture, HasBadHeader}
+use Rattle.dp_pcap.specs.Capture as capture
+use Rattle.dp_pcap.specs.Source.{WhereKnown, HasRead}
+use Rattle.dp_pcap.specs.Text.{text, header_text, record_text, AppendsPart}
+use Rattle.dp_model.specs.declared.instr.Instr.{Instr}
+use Rattle.dp_model.specs.Environments.{Environment}
+use Rattle.dp_model.specs.Rules.{Question}
+use Rattle.dp_model.specs.Machine.{World}
+use Rattle.dp_model.specs.Runs.{Arrival, Outcome, Run, NeverStuck}
+use Rattle.dp_model.specs.Safety.{Beginning, IsOfRun}
+use Rattle.dp_engine.specs.declared.report.InputState.{InputState}
+use Rattle.dp_engine.specs.declared.report.InputState.TheVariants.{Open, Whole, Cut}
+use Rattle.dp_engine.specs.declared.report.Report.{Report}
+use Rattle.dp_engine.specs.declared.report.Tallies.{Tallies}
+use Rattle.dp_engine.specs.declared.one.OneCause.{OneCause}
+use Rattle.dp_engine.specs.declared.one.OneCause.TheVariants.{Memory, In, Out, NotYet}
+use Rattle.dp_engine.specs.declared.one.OneFault.{OneFault}
+use Rattle.dp_engine.specs.Drains.{captured, emptied}
+use Rattle.dp_engine.specs.Reports.{IsReport, IsUnopened, IsWhole}
+use Rattle.dp_engine.specs.Steps.{IsPlain}
+use Rattle.dp_engine.specs.Tallies.{Tallied}
+use Rattle.dp_engine.specs.Turns.{EngineState, IsOpened}
+
+abbrev pub arrival_of : PacketRecord → Arrival Time
+arrival_of p = record { port = 0; time = p.time; bytes = p.bytes }
+
+-- from an engine on, the run on these records of the only port has these outcomes and gives this capture
+pub record RunsOn (e : EngineState) (packets sent : List PacketRecord) (outcomes : List Outcome) (w' : World) : Type 0 where
+  pub told : List Bool
+  pub records : List (Time × List ℕ)
+  pub run : Run e.setting e.nodes (map arrival_of packets) e.world told outcomes (records ∷ []) w'
+  pub sent_is : sent ≡ map captured records
+
+-- a capture that is cut at a place, or not
+abbrev pub ending_of : Option ℕ → Ending
+ending_of None = capture.Ending.Whole
+ending_of (Some byte) = capture.Ending.Cut byte
+
+abbrev pub state_of : Option ℕ → InputState
+state_of None = Whole
+state_of (Some byte) = Cut byte
+
+-- the bytes are a header, these records, and more
+abbrev pub BeginsAs : List ℕ → TimeUnit → List PacketRecord → Type 0
+BeginsAs bytes unit packets = (s : Standing) × (rest : List ℕ) × HasRead bytes s packets rest × (s.unit ≡ unit)
+
+-- a writer that failed holds a part of the header, or so many whole records and a part of the next
+abbrev pub StopsIn : Option (List ℕ) → Option (List ℕ) → TimeUnit → List PacketRecord → ℕ → Type 0
+StopsIn c d unit sent whole =
+    ((sent ≡ []) × (whole ≡ 0) × AppendsPart c d (header_text unit))
+    ⊎ ((next : PacketRecord) × (slice_get sent whole ≡ Some next) × AppendsPart c d (text unit (take whole sent) ++ record_text unit next))
+
+-- from an engine to an engine, with the bytes that a reader had left and has left, and those that a writer held and holds
+abbrev pub IsRun : EngineState → EngineState → Option (List ℕ) → Option (List ℕ) → Option (List ℕ) → Option (List ℕ) → Result (Option ℕ) OneCause → Type 0
+IsRun e e' a b c d (Ok cut) =
+    (unit : TimeUnit) × (packets : List PacketRecord) × (sent : List PacketRecord) × (outcomes : List Outcome)
+    × WhereKnown a b (λ bytes rest. IsCapture bytes unit packets (ending_of cut))
+    × RunsOn e packets sent outcomes e'.world × Tallied e.tallies e'.tallies outcomes (length sent) × Appends c d (text unit sent)
+IsRun e e' a b c d (Err (In Read)) =
+    (Keeps c d × (e' ≡ e)) ⊎ ((unit : TimeUnit) × (packets : List PacketRecord) × (sent : List PacketRecord) × (outcomes : List Outcome)
+    × WhereKnown a b (λ bytes rest. BeginsAs bytes unit packets)
+    × RunsOn e packets sent outcomes e'.world × Tallied e.tallies e'.tallies outcomes (length sent) × Appends c d (text unit sent))
+IsRun e e' a b c d (Err (In error)) =
+    (WhereKnown a b (λ bytes rest. HasBadHeader bytes error) × Keeps c d × (e' ≡ e))
+    ⊎ ((unit : TimeUnit) × (packets : List PacketRecord) × (sent : List PacketRecord) × (outcomes : List Outcome)
+    × WhereKnown a b (λ bytes rest. IsCapture bytes unit packets (capture.Ending.Refused error))
+    × RunsOn e packets sent outcomes e'.world × Tallied e.tallies e'.tallies outcomes (length sent) × Appends c d (text unit sent))
+IsRun e e' a b c d (Err Out) =
+    (unit : TimeUnit) × (packets : List PacketRecord) × (sent : List PacketRecord) × (outcomes : List Outcome) × (whole : ℕ)
+    × WhereKnown a b (λ bytes rest. BeginsAs bytes unit packets)
+    × RunsOn e packets sent outcomes e'.world × Tallied e.tallies e'.tallies outcomes whole
+    × AppendsPart c d (text unit sent) × StopsIn c d unit sent whole
+IsRun e e' a b c d (Err Memory) = ⊥
+IsRun e e' a b c d (Err (NotYet label)) = ⊥
+
+-- no node run of a run from this engine on is ever stuck
+abbrev pub NeverSticks : EngineState → Type 0
+NeverSticks e =
+    (arrivals : List (Arrival Time)) (b : Beginning) → IsOfRun e.setting e.nodes arrivals e.world b → NeverStuck e.setting b.program b.packet b.number b.world
+
+-- a run from an engine that was opened for this, and what is reported of it
+pub record Ran (q : Question) (a b c d : Option (List ℕ)) (answer : Result (Option ℕ) OneCause) (state : InputState) (report : Report) : Type 0 where
+  pub first : EngineState
+  pub last : EngineState
+  pub opened : IsOpened q first
+  pub safe : NeverSticks first
+  pub run : IsRun first last a b c d answer
+  pub reports : IsReport (emptied last) state report
+
+-- the least label with an instruction of another form
+pub record IsFirstOther (program : List Instr) (label : ℕ) : Type 0 where
+  pub instr : Instr
+  pub here : slice_get program label ≡ Some instr
+  pub other : IsPlain instr → ⊥
+  pub before : AllByRecursion IsPlain (take label program)
+
+-- why a run stopped, and what had happened by then
+abbrev pub Stopped : Environment → Question → Option (List ℕ) → Option (List ℕ) → Option (List ℕ) → Option (List ℕ) → OneCause → Report → Type 0
+Stopped env q a b c d Memory report = Keeps a b × Keeps c d × IsUnopened env report
+Stopped env q a b c d (NotYet label) report = Keeps a b × Keeps c d × IsUnopened env report × IsFirstOther q.program label
+Stopped env q a b c d (In error) report = Ran q a b c d (Err (In error)) Open report
+Stopped env q a b c d Out report = Ran q a b c d (Err Out) Open report
+
+-- what a whole run answers
+abbrev pub OneAnswers : Environment → Question → Option (List ℕ) → Option (List ℕ) → Option (List ℕ) → Option (List ℕ) → Result Report OneFault → Type 0
+OneAnswers env q a b c d (Ok report) = (cut : Option ℕ) × Ran q a b c d (Ok cut) (state_of cut) report
+OneAnswers env q a b c d (Err fault) = Stopped env q a b c d fault.cause fault.report
+
+-- all buffers are free, whatever is answered
+abbrev pub AllFree : Environment → Result Report OneFault → Type 0
+AllFree env (Ok report) = IsWhole env report
+AllFree env (Err fault) = IsWhole env fault.report

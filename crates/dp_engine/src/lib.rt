@@ -1,0 +1,15 @@
+//! Turns of packets.
+#![tactic(auto)]
+
+mod engine;
+mod machine;
+mod one;
+mod plain;
+mod put;
+mod report;
+mod run;
+
+pub use engine::{Engine, Outcome, Turn, WriteFault};
+pub use one::{OneCause, OneFault, run_one};
+pub use plain::Plain;
+pub use report::{InputState, Memory, PoolReport, PortReport, Report};

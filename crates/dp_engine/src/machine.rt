@@ -1,0 +1,277 @@
+//! Registers and a transmit list, over a packet layer.
+ghost use Rattle.std.specs.Prelude.{◌≡◌, ℕ, ◌+◌, ◌^◌, ◌<◌, ◌≤◌, length, slice_index, List, [], ◌∷◌, ◌++◌};
+ghost use Rattle.dp_model.specs.Packets.{Packet, first_len, at_front, less_before};
+ghost use Rattle.dp_model.specs.Machine.{Holds, with_packet, without_packet, with_number, with_step, with_outbox};
+ghost use Rattle.std.specs.Prelude.{not, None, nat_eq, IsTrue, IsFalse};
+ghost use Rattle.std.specs.List.{list_any, AllByRecursion};
+ghost use Rattle.dp_model.specs.Environments.{room_at};
+ghost use Rattle.dp_model.specs.Packets.{needed};
+ghost use Rattle.dp_model.specs.Machine.{is_denied};
+ghost use Rattle.dp_model.specs.Runs.{between};
+ghost use Rattle.dp_engine.specs.Handles.{moved};
+ghost use Rattle.dp_engine.specs.Steps.{setting_of};
+ghost use Rattle.std.specs.Prelude.{OnOk, OnErr, IfOk, IfErr, IsOk, IsErr, ◌↔◌, false, flat_map};
+ghost use Rattle.std.specs.Io.KnownBytes.{Appends};
+ghost use Rattle.dp_pcap.specs.Text.{AppendsPart, record_text};
+ghost use Rattle.dp_engine.specs.Drains.{record_of, AtPacket, Written, WrotePart};
+ghost use Rattle.dp_engine.specs.Turns.{IsReceived, with_one_call};
+ghost use Rattle.dp_engine.specs.Tallies.{listed_count, packet_count};
+ghost use Rattle.std.specs.Prelude.{MatchResult, slice_get, replicate};
+ghost use Rattle.std.specs.Vec.{vec_capacity};
+ghost use Rattle.dp_model.specs.Packets.{available};
+ghost use Rattle.dp_model.specs.Machine.{live};
+ghost use Rattle.dp_engine.specs.Handles.{in_slot, core_of};
+
+use crate::put::put_packet;
+use dp_model::{Env, NumberRegister, Packet as Handle, PacketLayer, PacketRegister};
+use dp_pcap::{Calls, PcapError, Sink, Time, Unit};
+use std::marker::Model;
+
+#[derive(Drop)]
+pub(crate) struct Machine<P: PacketLayer> {
+    layer: P,
+    registers: [Option<u32>; 8],
+    numbers: [u64; 8],
+    outbox: Vec<u32>,
+    calls: u64,
+    steps: Calls,
+}
+
+impl<P: PacketLayer> Model for Machine<P> {
+    ghost use Rattle.std.specs.Vec.{vec_capacity};
+    ghost use Rattle.dp_engine.specs.Handles.{Core, core_of, StandOnce};
+
+    ghost Value = { Core };
+
+    ghost view = { λ m. core_of (P.store m.layer) (vec_capacity m.outbox) m.registers m.numbers m.outbox.items m.calls m.steps.count };
+
+    ghost invariant = { λ m. StandOnce (P.store m.layer).slots m.registers m.outbox.items };
+}
+
+// Whether the call is one of these.
+fn is_listed(calls: &[u64], call: u64) -> bool
+    ensures { result ≡ list_any (nat_eq call) calls.now }
+{
+    calls.iter().any(|x| call == *x)
+}
+
+impl<P: PacketLayer> Machine<P> {
+    // A machine over a layer that has no packet, with a transmit list that is empty.
+    pub(crate) fn over(layer: P, outbox: Vec<u32>) -> Machine<P>
+        requires none { (h : ℕ) → in_slot (slice_get (P.store layer).slots h) ≡ 0 }
+        requires empty { outbox.items ≡ [] }
+        ensures { result ≡ core_of (P.store layer) (vec_capacity outbox) (replicate 8 None) (replicate 8 0) [] 0 0 }
+    {
+        Machine {
+            layer,
+            registers: [None; 8],
+            numbers: [0; 8],
+            outbox,
+            calls: 0,
+            steps: Calls::new(),
+        }
+    }
+
+    // How many allocation calls there were.
+    pub(crate) fn calls(&self) -> u64
+        ensures { result ≡ self.now.state.world.calls }
+    {
+        self.calls
+    }
+
+    // How many buffers of the first pool are free, between two runs.
+    pub(crate) fn free_buffers(&self) -> u32
+        requires idle { AllByRecursion (λ o. o ≡ None) self.now.state.packets }
+        requires pool { 0 < length self.now.pools }
+        ensures { result ≡ available self.now.pools (live (between self.now.state.world)) 0 }
+    {
+        self.layer.available(0)
+    }
+
+    // Receives bytes into the first register, with the port's number beside it; or the call is refused.
+    pub(crate) fn receive(
+        &mut self,
+        env: &Env,
+        pattern: &[u64],
+        pool: u32,
+        bytes: &[u8],
+        port: u8,
+    ) -> bool
+        requires idle { AllByRecursion (λ o. o ≡ None) self.old.state.packets }
+        requires pools { self.old.pools ≡ env.now.pools }
+        requires has_room { 129 ≤ room_at env.now.pools pool }
+        requires fits { needed env.now.pools pool (length bytes.now) ≤ 64 }
+        requires few { self.old.state.world.calls + 1 < 2 ^ 64 }
+        ensures denied { not result ≡ is_denied (setting_of env.now pattern.now) (between self.old.state.world) pool (needed env.now.pools pool (length bytes.now)) }
+        ensures refused { IsFalse result → self.new ≡ moved (record self.old.state { world = with_one_call self.old.state.world }) self.old }
+        ensures calls { self.new.state.world.calls ≡ self.old.state.world.calls + 1 }
+        ensures received { IsTrue result → IsReceived (setting_of env.now pattern.now) pool port bytes.now self.old.state.world self.new.state }
+        ensures pools { self.new.pools ≡ self.old.pools }
+        ensures room { self.new.room ≡ self.old.room }
+    {
+        let _env = env;
+        self.calls += 1;
+        if is_listed(pattern, self.calls) {
+            return false;
+        }
+        match self.layer.receive(pool, bytes) {
+            Some(packet) => {
+                self.registers = [
+                    Some(packet.number()),
+                    None,
+                    None,
+                    None,
+                    None,
+                    None,
+                    None,
+                    None,
+                ];
+                self.numbers = [port as u64, 0, 0, 0, 0, 0, 0, 0];
+                true
+            }
+            None => false,
+        }
+    }
+
+    // The length of the first segment.
+    pub(crate) fn first_len(&self, p: PacketRegister) -> u16
+        requires { (k : Packet) × Holds self.now.state p k }
+        ensures { (k : Packet) → Holds self.now.state p k → result ≡ first_len k }
+    {
+        let at = p.number() as usize;
+        match self.registers[at] {
+            Some(packet) => self.layer.first_len(Handle::of(packet)),
+            None => unreachable!(),
+        }
+    }
+
+    pub(crate) fn adj(&mut self, p: PacketRegister, n: u16)
+        requires { (k : Packet) × Holds self.old.state p k × (n ≤ first_len k) }
+        ensures { (k : Packet) → Holds self.old.state p k → self.new ≡ moved (with_packet p (at_front (less_before n) k) self.old.state) self.old }
+    {
+        let at = p.number() as usize;
+        match self.registers[at] {
+            Some(packet) => self.layer.adj(Handle::of(packet), n),
+            None => unreachable!(),
+        }
+    }
+
+    pub(crate) fn free(&mut self, p: PacketRegister)
+        requires { (k : Packet) × Holds self.old.state p k }
+        ensures { self.new ≡ moved (without_packet p self.old.state) self.old }
+    {
+        let at = p.number() as usize;
+        match self.registers[at] {
+            Some(packet) => {
+                self.layer.free(Handle::of(packet));
+                self.registers[at] = None;
+            }
+            None => unreachable!(),
+        }
+    }
+
+    // To the end of the transmit list.
+    pub(crate) fn send(&mut self, p: PacketRegister)
+        requires { (k : Packet) × (packets : List Packet) × Holds self.old.state p k × (self.old.state.world.outboxes ≡ packets ∷ []) × (length packets < self.old.room) }
+        ensures { (k : Packet) (packets : List Packet) → Holds self.old.state p k → self.old.state.world.outboxes ≡ packets ∷ []
+            → self.new ≡ moved (with_outbox 0 (packets ++ k ∷ []) (without_packet p self.old.state)) self.old }
+    {
+        let at = p.number() as usize;
+        match self.registers[at] {
+            Some(packet) => {
+                self.outbox.push_reserved(packet);
+                self.registers[at] = None;
+            }
+            None => unreachable!(),
+        }
+    }
+
+    pub(crate) fn queued(&self) -> usize
+        ensures list { (packets : List Packet) × (self.now.state.world.outboxes ≡ packets ∷ []) × (result ≡ length packets) }
+        ensures rings { self.now.state.world.rings ≡ [] }
+        ensures bound { result + 1 < 2 ^ 64 }
+        ensures room { result ≤ self.now.room }
+    {
+        self.outbox.len()
+    }
+
+    pub(crate) fn number(&self, r: NumberRegister) -> u64
+        ensures { result ≡ slice_index self.now.state.numbers r }
+    {
+        self.numbers[r.number() as usize]
+    }
+
+    pub(crate) fn set(&mut self, r: NumberRegister, n: u64)
+        ensures { self.new ≡ moved (with_number r n self.old.state) self.old }
+    {
+        self.numbers[r.number() as usize] = n;
+    }
+
+    pub(crate) fn count_step(&mut self)
+        ensures { self.new ≡ moved (with_step self.old.state) self.old }
+    {
+        self.steps = self.steps.one_more();
+    }
+
+    // Gives up the last packet of the transmit list.
+    pub(crate) fn drop_last(&mut self)
+        requires { (packets : List Packet) × (k : Packet) × (self.old.state.world.outboxes ≡ (packets ++ k ∷ []) ∷ []) }
+        ensures { (packets : List Packet) (k : Packet) → self.old.state.world.outboxes ≡ (packets ++ k ∷ []) ∷ [] → self.new ≡ moved (with_outbox 0 packets self.old.state) self.old }
+    {
+        match self.outbox.pop() {
+            Some(packet) => self.layer.free(Handle::of(packet)),
+            None => unreachable!(),
+        }
+    }
+
+    // Writes the record of a packet of the transmit list.
+    pub(crate) fn put<W: Sink>(
+        &self,
+        at: usize,
+        time: Time,
+        unit: Unit,
+        w: &mut W,
+    ) -> Result<(), PcapError>
+        requires there { (packets : List Packet) × (self.now.state.world.outboxes ≡ packets ∷ []) × (at < length packets) }
+        requires nano { time.nano < 1000000000 }
+        ensures ok { OnOk result (AtPacket self.now at (λ k. Appends (W.contents w.old) (W.contents w.new) (record_of unit time self.now.state.world.buffers k))) }
+        ensures err { OnErr result (AtPacket self.now at (λ k. AppendsPart (W.contents w.old) (W.contents w.new) (record_of unit time self.now.state.world.buffers k))) }
+        ensures failed { IsErr result ↔ IsTrue (W.is_broken w.new) }
+        ensures stays { IsTrue (W.is_broken w.old) → IsTrue (W.is_broken w.new) }
+    {
+        put_packet(&self.layer, Handle::of(self.outbox[at]), time, unit, w)
+    }
+
+    // Gives up all packets of the transmit list.
+    pub(crate) fn clear(&mut self)
+        ensures cleared { self.new ≡ moved (with_outbox 0 [] self.old.state) self.old }
+        ensures list { (packets : List Packet) × (self.old.state.world.outboxes ≡ packets ∷ []) }
+    {
+        let mut left = self.queued();
+        while left > 0 {
+            self.drop_last();
+            left -= 1;
+        }
+    }
+
+    // Writes the records of the transmit list. How many were written whole, and whether all were.
+    pub(crate) fn put_all<W: Sink>(&self, time: Time, unit: Unit, w: &mut W) -> Result<u32, u32>
+        requires nano { time.nano < 1000000000 }
+        requires few { self.now.room ≤ 65536 }
+        ensures ok { IfOk result (λ sent. Written unit time self.now.state.world (λ records. (sent ≡ length records) × Appends (W.contents w.old) (W.contents w.new) (flat_map (record_text unit) records))) }
+        ensures err { IfErr result (λ sent. Written unit time self.now.state.world (λ records. WrotePart (W.contents w.old) (W.contents w.new) unit records sent)) }
+        ensures broken { IsErr result → IsTrue (W.is_broken w.new) }
+        ensures sound { IsOk result → W.is_broken w.old ≡ false → W.is_broken w.new ≡ false }
+        ensures most { MatchResult result (λ sent. sent ≤ listed_count self.now.state.world.outboxes) (λ sent. sent ≤ listed_count self.now.state.world.outboxes) }
+    {
+        let count = self.queued();
+        let mut sent = 0u32;
+        for at in 0..count {
+            if self.put(at, time, unit, w).is_err() {
+                return Err(sent);
+            }
+            sent += 1;
+        }
+        Ok(sent)
+    }
+}

@@ -1,0 +1,186 @@
+//! A run of one port, from a capture to a capture.
+ghost use Rattle.std.specs.Prelude.{◌≡◌, ℕ, ◌+◌, ◌^◌, ◌<◌, ◌≤◌, ◌↔◌, false, [], length, IsOk, IsErr, IsErrOf, IfErr, IfSome, IfNone, IsTrue};
+ghost use Rattle.std.specs.List.{AllByRecursion};
+ghost use Rattle.dp_model.specs.Machine.{live};
+ghost use Rattle.dp_model.specs.Runs.{between};
+ghost use Rattle.dp_engine.specs.Ones.{IsRun, IsFirstOther, OneAnswers, AllFree, state_of};
+ghost use Rattle.dp_engine.specs.Reports.{IsUnopened};
+ghost use Rattle.dp_engine.specs.Steps.{IsPlain};
+ghost use Rattle.dp_engine.specs.Turns.{IsPlainSetup};
+
+use crate::Engine;
+use crate::plain::zeros;
+use crate::report::{InputState, PoolReport, PortReport, Report};
+use arrayvec::ArrayVec;
+use dp_check::Checked;
+use dp_model::{Entry, Env, Instr, PacketLayer};
+use dp_pcap::{Feed, Next, PcapError, Sink, next_record, put_header, read_header};
+use std::alloc::Global;
+
+/// Why a run stopped: no memory, a fault of the input, a writer that failed, or a program with an instruction of a form
+/// that does not run yet, at that label.
+#[derive(Clone, Copy, Debug, PartialEq, Eq)]
+pub enum OneCause {
+    Memory,
+    In(PcapError),
+    Out,
+    NotYet(u16),
+}
+
+/// A run that stopped, and its numbers.
+#[derive(Drop)]
+pub struct OneFault {
+    pub cause: OneCause,
+    pub report: Report,
+}
+
+// Reads a capture, takes a turn and a drain for each record, and says where the capture is cut, if it is.
+pub(crate) fn run_records<P: PacketLayer, R: Feed, W: Sink>(
+    engine: &mut Engine<P>,
+    r: &mut R,
+    w: &mut W,
+    buf: &mut [u8],
+) -> Result<Option<u64>, OneCause>
+    requires buf { 262144 ≤ length buf.old }
+    requires first { engine.old.turns ≡ 0 }
+    ensures run { IsRun engine.old engine.new (R.remaining r.old) (R.remaining r.new) (W.contents w.old) (W.contents w.new) result }
+    ensures reader { IsErrOf result (OneCause.In PcapError.Read) ↔ IsTrue (R.is_broken r.new) }
+    ensures writer { IsErrOf result OneCause.Out → IsTrue (W.is_broken w.new) }
+    ensures sound { IsOk result → W.is_broken w.new ≡ false }
+    ensures setting { engine.new.setting ≡ engine.old.setting }
+{
+    let _queued = engine.one_port();
+    let mut source = match read_header(r) {
+        Ok(source) => source,
+        Err(error) => return Err(OneCause::In(error)),
+    };
+    let unit = source.unit();
+    if put_header(w, unit).is_err() {
+        return Err(OneCause::Out);
+    }
+    loop {
+        match next_record(r, &mut source, buf) {
+            Ok(Next::Record(time, len)) => {
+                let _turn = engine.turn(0, &buf[..len]);
+                if engine.drain(0, time, unit, w).is_err() {
+                    return Err(OneCause::Out);
+                }
+            }
+            Ok(Next::End) => return Ok(None),
+            Ok(Next::Cut(byte)) => return Ok(Some(byte)),
+            Err(error) => return Err(OneCause::In(error)),
+        }
+    }
+}
+
+// Whether the instruction is of a form that runs.
+fn runs(instr: Instr) -> bool
+    ensures plain { IsTrue result → IsPlain instr }
+    ensures other { result ≡ false → IsPlain instr → ⊥ }
+{
+    match instr {
+        Instr::IfLen { .. } => true,
+        Instr::Adj { .. } => true,
+        Instr::Free { .. } => true,
+        Instr::Set { .. } => true,
+        Instr::Tx { .. } => true,
+        Instr::Exit => true,
+        _ => false,
+    }
+}
+
+// The least label with an instruction of another form.
+fn first_other(program: &[Instr]) -> Option<u16>
+    requires { length program.now ≤ 1024 }
+    ensures some { IfSome result (IsFirstOther program.now) }
+    ensures none { IfNone result (AllByRecursion IsPlain program.now) }
+{
+    for label in 0..program.len() {
+        if !runs(program[label]) {
+            return Some(label as u16);
+        }
+    }
+    None
+}
+
+// How far an input was read that is cut there, or not.
+fn state_of(cut: Option<u64>) -> InputState
+    ensures { result ≡ state_of cut }
+{
+    match cut {
+        None => InputState::Whole,
+        Some(byte) => InputState::Cut(byte),
+    }
+}
+
+// The numbers before anything is opened.
+fn unopened(env: &Env) -> Report
+    requires { IsPlainSetup env.now }
+    ensures { IsUnopened env.now result }
+{
+    let count = env.pools()[0].count as u64;
+    let mut ports = ArrayVec::new();
+    ports.push(PortReport {
+        received: 0,
+        nobuf: 0,
+        oversize: 0,
+        sent: 0,
+        state: InputState::Open,
+    });
+    let mut pools = ArrayVec::new();
+    pools.push(PoolReport { free: count, count });
+    Report {
+        ports,
+        rings: ArrayVec::new(),
+        pools,
+        calls: 0,
+        refused: 0,
+    }
+}
+
+/// Reads a capture from `r`, takes a turn and a drain for each record, and writes a capture to `w`. All memory is taken
+/// before anything is read. A program with an instruction of a form that does not run yet is answered before that.
+pub fn run_one<R: Feed, W: Sink>(
+    alloc: Global,
+    env: &Env,
+    checked: Checked,
+    r: &mut R,
+    w: &mut W,
+) -> Result<Report, OneFault>
+    requires setup { IsPlainSetup env.now }
+    requires checked { (checked.env ≡ env.now) × (checked.entry ≡ Entry.Port 0) }
+    ensures run { OneAnswers env.now checked (R.remaining r.old) (R.remaining r.new) (W.contents w.old) (W.contents w.new) result }
+    ensures free { AllFree env.now result }
+    ensures sound { IsOk result → (R.is_broken r.new ≡ false) × (W.is_broken w.new ≡ false) }
+    ensures reader { IfErr result (λ f. f.cause ≡ OneCause.In PcapError.Read → IsTrue (R.is_broken r.new)) }
+    ensures writer { IfErr result (λ f. f.cause ≡ OneCause.Out → IsTrue (W.is_broken w.new)) }
+{
+    env.within_limits();
+    if let Some(label) = first_other(checked.program().instrs()) {
+        return Err(OneFault {
+            cause: OneCause::NotYet(label),
+            report: unopened(env),
+        });
+    }
+    let Ok(mut buf) = zeros(alloc, 262_144) else {
+        return Err(OneFault {
+            cause: OneCause::Memory,
+            report: unopened(env),
+        });
+    };
+    let Ok(mut engine) = Engine::open_plain(alloc, env, checked) else {
+        return Err(OneFault {
+            cause: OneCause::Memory,
+            report: unopened(env),
+        });
+    };
+    let outcome = run_records(&mut engine, r, w, &mut buf);
+    engine.flush();
+    match outcome {
+        Ok(cut) => Ok(engine.report_with(state_of(cut))),
+        Err(cause) => Err(OneFault {
+            cause,
+            report: engine.report(),
+        }),
+    }
+}

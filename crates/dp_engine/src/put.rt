@@ -1,0 +1,30 @@
+//! Writes the record of a packet, segment by segment.
+ghost use Rattle.std.specs.Prelude.{◌≡◌, ◌<◌, ◌↔◌, OnOk, OnErr, IsErr, IsTrue};
+ghost use Rattle.std.specs.Io.KnownBytes.{Appends};
+ghost use Rattle.dp_pcap.specs.Text.{AppendsPart};
+ghost use Rattle.dp_model.specs.Stores.{IsLive, Of};
+ghost use Rattle.dp_engine.specs.Drains.{record_of};
+
+use dp_model::{Packet as Handle, PacketLayer};
+use dp_pcap::{PcapError, Sink, Time, Unit, put_bytes, put_head};
+
+pub(crate) fn put_packet<P: PacketLayer, W: Sink>(
+    layer: &P,
+    packet: Handle,
+    time: Time,
+    unit: Unit,
+    w: &mut W,
+) -> Result<(), PcapError>
+    requires live { IsLive (P.store layer.now) packet }
+    requires nano { time.nano < 1000000000 }
+    ensures ok { OnOk result (Of (P.store layer.now) packet (λ k. Appends (W.contents w.old) (W.contents w.new) (record_of unit time (P.store layer.now).buffers k))) }
+    ensures err { OnErr result (Of (P.store layer.now) packet (λ k. AppendsPart (W.contents w.old) (W.contents w.new) (record_of unit time (P.store layer.now).buffers k))) }
+    ensures failed { IsErr result ↔ IsTrue (W.is_broken w.new) }
+    ensures stays { IsTrue (W.is_broken w.old) → IsTrue (W.is_broken w.new) }
+{
+    put_head(w, unit, time, layer.length(packet) as usize)?;
+    for index in 0..layer.segments(packet) {
+        put_bytes(w, layer.segment_bytes(packet, index))?;
+    }
+    Ok(())
+}
