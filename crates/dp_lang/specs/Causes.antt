@@ -1,5 +1,5 @@
 -- The order of causes.
-use Rattle.std.specs.Prelude.{ℕ, Option, Some, None, nat_le, if◌then◌else◌}
+use Rattle.std.specs.Prelude.{ℕ, List, Option, Some, None, codes, nat_le, if◌then◌else◌}
 use Rattle.dp_lang.specs.declared.cause.Cause.{Cause}
 use Rattle.dp_lang.specs.declared.cause.Cause.TheVariants.{BadByte, BadWord, BadOperands, BadRegister, BadNumber, BadLabel, LabelTwice, LabelUnknown, Size}
 
@@ -13,6 +13,18 @@ number_of BadLabel = 6
 number_of LabelTwice = 7
 number_of LabelUnknown = 8
 number_of Size = 9
+
+-- the name that is shown
+abbrev pub name_of : Cause → List ℕ
+name_of BadByte = codes "BadByte"
+name_of BadWord = codes "BadWord"
+name_of BadOperands = codes "BadOperands"
+name_of BadRegister = codes "BadRegister"
+name_of BadNumber = codes "BadNumber"
+name_of BadLabel = codes "BadLabel"
+name_of LabelTwice = codes "LabelTwice"
+name_of LabelUnknown = codes "LabelUnknown"
+name_of Size = codes "Size"
 
 -- the cause of the lower number
 abbrev pub least : Cause → Cause → Cause

@@ -51,6 +51,11 @@ impl Cause {
 }
 
 impl fmt::Display for Cause {
+    ghost use Rattle.std.specs.Prelude.{Some};
+    ghost use Rattle.dp_lang.specs.Causes.{name_of};
+
+    ghost output = { λ c. Some (name_of c) };
+
     fn fmt<W: fmt::Write>(&self, f: &mut fmt::Formatter<W>) -> fmt::Result {
         let name = match self {
             Cause::BadByte => "BadByte",
@@ -76,6 +81,12 @@ pub struct Fault {
 }
 
 impl fmt::Display for Fault {
+    ghost use Rattle.std.specs.Prelude.{◌++◌, Some, codes};
+    ghost use Rattle.std.specs.Fmt.{decimal};
+    ghost use Rattle.dp_lang.specs.Causes.{name_of};
+
+    ghost output = { λ f. Some (codes "line " ++ (decimal f.line ++ (codes ": " ++ name_of f.cause))) };
+
     fn fmt<W: fmt::Write>(&self, f: &mut fmt::Formatter<W>) -> fmt::Result {
         let line = self.line;
         let cause = self.cause;
