@@ -1,0 +1,119 @@
+-- The call that puts one packet's segments behind another's.
+use Rattle.std.proofs.Common.{◌≡◌, ◌≢◌, ℕ, ◌+◌, ◌≤◌, List, [], ◌∷◌, ◌++◌, length, Option, Some, None, refl, sym, ◌∙◌, ap, subst, arith, inl, inr, ⊎_elim, set}
+use Rattle.std.specs.Prelude.{slice_set}
+use Rattle.std.proofs.lemmas.List.{get_or-set_other, set-set, set_comm, length-append}
+use Rattle.dp_model.specs.Buffers.{Number, IsNumber}
+use Rattle.dp_model.specs.Packets.{Packet}
+use Rattle.dp_model.specs.Machine.{segments_held}
+use Rattle.dp_model.specs.Stores.{Store, HasSome, Chains}
+use Rattle.dp_mbuf.specs.declared.header.Header.{Header}
+use Rattle.dp_mbuf.specs.Pools.{PoolView}
+use Rattle.dp_mbuf.specs.Objects.{header_at, specs_of, HasObject, HeaderSet}
+use Rattle.dp_mbuf.specs.Mbufs.{handle, numbered, slots_of, shown, mbufs, Linked, last_mbuf, Stands, Whole, Sound}
+use Rattle.dp_mbuf.proofs.ObjectLemmas.{same_or}
+use Rattle.dp_mbuf.proofs.Counting.{mbufs-append, all_front}
+use Rattle.dp_mbuf.proofs.Links.{alike, last_in, linked_kept, linked_join}
+use Rattle.dp_mbuf.proofs.Frames.{handle_back, object_of}
+use Rattle.dp_mbuf.proofs.Edits.{all_at, unhooked, unhooked_from, relinked, hooked, linkage_same}
+use Rattle.dp_mbuf.proofs.Live.{opened, has_same, settled, seen}
+
+pub sums : (a b c d : ℕ) → a ≡ b → c ≡ d → a + c ≡ b + d
+sums a b c d e f = omega (arith, e, f)
+
+pub last_of_links : (h : Number → Header) (n : Number) (k : Packet) → 1 ≤ length k → Linked h n k → 1 ≤ mbufs k (last_mbuf n k)
+last_of_links h n [] some l = absurd (omega arith)
+last_of_links h n (s ∷ rest) some l = last_in s rest
+
+pub last_join : (n m : Number) (k t : Packet) (h : Number → Header) → 1 ≤ length t → Linked h m t → last_mbuf n (k ++ t) ≡ last_mbuf m t
+last_join n m [] [] h some l = absurd (omega arith)
+last_join n m [] (s ∷ t) h some l = refl
+last_join n m (a ∷ k) t h some l = last_join a.mbuf m k t h some l
+
+-- the last of the segments in hand gets more behind it
+pub joined : (ps ps' : List PoolView) (k t : Packet) (slots : List (Option Packet)) (n m : Number) → Whole ps (k ++ t) slots → 1 ≤ length k → Linked (header_at ps) n k → Linked (header_at ps) m t → HeaderSet ps (last_mbuf n k) (record (header_at ps (last_mbuf n k)) { next = m }) ps' → Whole ps' (k ++ t) slots × Linked (header_at ps') n (k ++ t)
+joined ps ps' k t slots n m w some lk lt done =
+    let l : Number = last_mbuf n k in
+    let in_k = last_of_links (header_at ps) n k some lk in
+    let once : (x : Number) → mbufs k x + mbufs t x ≤ 1 =
+    λ x. let o = w.counted.once x in
+    omega (arith, o, mbufs-append (k ++ t) (segments_held slots) x, mbufs-append k t x) in
+    let one = once l in (
+      relinked ps ps' (k ++ t) slots l (record (header_at ps l) { next = m }) w (omega (arith, in_k, mbufs-append k t l)) done refl refl,
+      linked_join (header_at ps) (header_at ps') n m k t some (λ x. let o = once x in omega (arith, o)) lk
+          (linked_kept (header_at ps) (header_at ps') m t
+          (λ x q. ⊎_elim
+          (λ same. let z = ap (mbufs t) same in absurd (omega (arith, q, z, one, in_k)))
+          (λ d. (alike (header_at ps' x) (header_at ps x) (done.others x d)).link)
+          (same_or l x))
+          lt)
+          (λ x q. ⊎_elim (λ same. inl (sym same)) (λ d. inr (alike (header_at ps' x) (header_at ps x) (done.others x d)).link) (same_or l x))
+          (ap (λ h. record { mbuf = l; buffer = h.buffer; offset = h.offset; len = h.len }) done.here)
+          (ap (λ h. h.next) done.here),
+    )
+
+module _ (ps : List PoolView) (v : Store) (h t : ℕ) (e : shown ps ≡ v) (sound : Sound ps) (two : h ≢ t) (few : HasSome v h (λ k. HasSome v t (λ j. length k + length j ≤ 64))) where
+  abbrev k : Packet
+  k = few.0
+
+  abbrev j : Packet
+  j = few.2.0
+
+  pub tail_gone : (ps1 : List PoolView) → HeaderSet ps (numbered t) (record (header_at ps (numbered t)) { segs = 0 }) ps1 → Whole ps1 few.2.0 (set (slots_of ps) t None) × Linked (header_at ps1) (numbered t) few.2.0 × Stands ps (numbered t) few.2.0
+  tail_gone ps1 done =
+      unhooked ps ps1 (slots_of ps) t j (record (header_at ps (numbered t)) { segs = 0 }) sound (opened ps v t j e sound few.2.1).slot done refl refl (record { offset = refl; len = refl; next = refl; buffer = refl })
+
+  pub head_gone : (ps1 ps2 : List PoolView) → HeaderSet ps (numbered t) (record (header_at ps (numbered t)) { segs = 0 }) ps1 → HeaderSet ps1 (numbered h) (record (header_at ps1 (numbered h)) { segs = 0 }) ps2 → Whole ps2 (few.0 ++ few.2.0) (set (set (slots_of ps) t None) h None) × Linked (header_at ps2) (numbered h) few.0 × Linked (header_at ps2) (numbered t) few.2.0 × Stands ps1 (numbered h) few.0
+  head_gone ps1 ps2 d1 d2 =
+      let a = tail_gone ps1 d1 in
+      let x : Header = record (header_at ps1 (numbered h)) { segs = 0 } in
+      let b = unhooked_from ps1 ps2 j (set (slots_of ps) t None) h k x a.0 (get_or-set_other (slots_of ps) t h None None two ∙ (opened ps v h k e sound few.1).slot) d2 refl refl (record { offset = refl; len = refl; next = refl; buffer = refl }) in
+      (b.0, b.1, linked_kept (header_at ps1) (header_at ps2) (numbered t) j (λ m _. linkage_same ps1 ps2 (numbered h) x d2 (record { offset = refl; len = refl; next = refl; buffer = refl }) m) a.1, b.2)
+
+  pub last_there : (ps1 ps2 : List PoolView) (l : Number) → HeaderSet ps (numbered t) (record (header_at ps (numbered t)) { segs = 0 }) ps1 → HeaderSet ps1 (numbered h) (record (header_at ps1 (numbered h)) { segs = 0 }) ps2 → l ≡ (header_at ps1 (numbered h)).last → HasObject ps2 l
+  last_there ps1 ps2 l d1 d2 el =
+      let b = head_gone ps1 ps2 d1 d2 in
+      let slots2 : List (Option Packet) = set (set (slots_of ps) t None) h None in
+      let n : Number = last_mbuf (numbered h) k in
+      let in_k = last_of_links (header_at ps2) (numbered h) k b.3.some b.1 in
+      subst (HasObject ps2) (sym (el ∙ b.3.last))
+      (object_of ps2 n (all_at (IsNumber (specs_of ps2)) (k ++ j) n (all_front (λ s. IsNumber (specs_of ps2) s.mbuf) (k ++ j) (segments_held slots2) b.0.counted.numbers) (omega (arith, in_k, mbufs-append k j n))))
+
+  pub segs_fit : (ps1 ps2 : List PoolView) → HeaderSet ps (numbered t) (record (header_at ps (numbered t)) { segs = 0 }) ps1 → HeaderSet ps1 (numbered h) (record (header_at ps1 (numbered h)) { segs = 0 }) ps2 → (header_at ps1 (numbered h)).segs + (header_at ps (numbered t)).segs ≤ 64
+  segs_fit ps1 ps2 d1 d2 =
+      let a = (tail_gone ps1 d1).2.segs in
+      let b = (head_gone ps1 ps2 d1 d2).3.segs in
+      let f = few.2.2 in
+      omega (arith, a, b, f)
+
+  pub chained : (ps1 ps2 ps3 ps4 : List PoolView) (l : Number) (segs : ℕ) (last : Number) → HeaderSet ps (numbered t) (record (header_at ps (numbered t)) { segs = 0 }) ps1 → HeaderSet ps1 (numbered h) (record (header_at ps1 (numbered h)) { segs = 0 }) ps2 → l ≡ (header_at ps1 (numbered h)).last → HeaderSet ps2 l (record (header_at ps2 l) { next = numbered t }) ps3 → segs ≡ (header_at ps1 (numbered h)).segs + (header_at ps (numbered t)).segs → last ≡ (header_at ps (numbered t)).last → HeaderSet ps3 (numbered h) (record (header_at ps3 (numbered h)) { segs = segs; last = last }) ps4 → Sound ps4 × Chains v h t (shown ps4)
+  chained ps1 ps2 ps3 ps4 l segs last d1 d2 el d3 es ea d4 =
+      let a = tail_gone ps1 d1 in
+      let b = head_gone ps1 ps2 d1 d2 in
+      let sk = b.3 in
+      let sj = a.2 in
+      let slots2 : List (Option Packet) = set (set (slots_of ps) t None) h None in
+      let l_is : l ≡ last_mbuf (numbered h) k = el ∙ sk.last in
+      let c = joined ps2 ps3 k j slots2 (numbered h) (numbered t) b.0 sk.some b.1 b.2 (subst (λ m. HeaderSet ps2 m (record (header_at ps2 m) { next = numbered t }) ps3) l_is d3) in
+      let few' = few.2.2 in
+      let n1 = sk.segs in
+      let n2 = sj.segs in
+      let some = sk.some in
+      let d = hooked ps3 ps4 slots2 (numbered h) (k ++ j) (record (header_at ps3 (numbered h)) { segs = segs; last = last }) c.0 c.1
+      (omega (arith, some, length-append k j)) (omega (arith, few', length-append k j)) d4
+      (omega (arith, es, n1, n2, length-append k j))
+      (ea ∙ (sj.last ∙ sym (last_join (numbered h) (numbered t) k j (header_at ps1) sj.some a.1)))
+      refl (record { offset = refl; len = refl; next = refl; buffer = refl }) in
+      let slots : set slots2 (handle (numbered h)) (Some (k ++ j)) ≡ set (set (slots_of ps) h (Some (k ++ j))) t None =
+      ap (λ i. set slots2 i (Some (k ++ j))) (handle_back h)
+      ∙ (set-set (set (slots_of ps) t None) h None (Some (k ++ j))
+      ∙ set_comm (slots_of ps) t h None (Some (k ++ j)) (λ q. two (sym q))) in
+      let s = settled ps4 (set slots2 (handle (numbered h)) (Some (k ++ j))) d.0 in (
+        s.0,
+        λ k' has j' has'.
+            seen ps ps4 v v.buffers (slice_set (slice_set v.slots h (Some (k' ++ j'))) t None) e (d4.specs ∙ (d3.specs ∙ (d2.specs ∙ d1.specs)))
+            (d4.buffers ∙ (d3.buffers ∙ (d2.buffers ∙ (d1.buffers ∙ ap (λ s. s.buffers) e))))
+            (s.1 ∙ (slots
+            ∙ (ap (λ s. set (set s.slots h (Some (k ++ j))) t None) e
+            ∙ (ap (λ y. set (set v.slots h (Some (y ++ j))) t None) (has_same v h k k' few.1 has)
+            ∙ ap (λ y. set (set v.slots h (Some (k' ++ y))) t None) (has_same v t j j' few.2.1 has'))))),
+      )

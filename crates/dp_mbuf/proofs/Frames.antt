@@ -1,0 +1,162 @@
+-- What the headers show, when one packet changes and all others stay.
+use Rattle.std.proofs.Common.{◌≡◌, ◌≢◌, ℕ, zero, suc, ◌+◌, ◌*◌, ◌<◌, ◌≤◌, Bool, true, false, List, length, Option, Some, None, refl, sym, ◌∙◌, ap, subst, arith, ⊎_elim, get_or, set}
+use Rattle.std.specs.Prelude.{◌&&◌, if◌then◌else◌}
+use Rattle.std.specs.List.{AllByRecursion}
+use Rattle.std.proofs.lemmas.Bool.{cases_eq}
+use Rattle.std.proofs.lemmas.List.{length-set, get_or-set_other, get_or-set_same, ext_get_or}
+use Rattle.dp_model.specs.Buffers.{Number, same_number, IsNumber}
+use Rattle.dp_model.specs.Packets.{Segment, Packet, refs, Lies}
+use Rattle.dp_model.specs.Machine.{segments_held}
+use Rattle.dp_mbuf.specs.Pools.{PoolView}
+use Rattle.dp_mbuf.specs.Objects.{header_at, is_out, specs_of, HasObject, ArePools}
+use Rattle.dp_mbuf.specs.Steps.{Alike}
+use Rattle.dp_mbuf.specs.Mbufs.{handle, numbered, is_positive, walk, is_head, packet_at, slots_from, slots_of, mbufs, Stands, StandsAt, Shows, Counted}
+use Rattle.dp_mbuf.proofs.ObjectLemmas.{number_eq, count_is, object_pool, length_specs}
+use Rattle.dp_mbuf.proofs.Counting.{count_of, slot_among, SameCounts}
+use Rattle.dp_mbuf.proofs.Links.{linked_kept, first_in, walk_is}
+
+-- ---- handles
+
+pub handle_back : (h : ℕ) → handle (numbered h) ≡ h
+handle_back h = omega arith
+
+pub number_back : (n : Number) → n.index < 65536 → numbered (handle n) ≡ n
+number_back n b = number_eq (numbered (handle n)) n (omega (arith, b)) (omega (arith, b))
+
+pub numbered_apart : (i j : ℕ) → i ≢ j → numbered i ≡ numbered j → ⊥
+numbered_apart i j ne e = ne (sym (handle_back i) ∙ (ap handle e ∙ handle_back j))
+
+-- ---- numbers and objects
+
+pub object_of : (ps : List PoolView) (n : Number) → IsNumber (specs_of ps) n → HasObject ps n
+object_of ps n h = let e = count_is ps n.pool in omega (arith, h, e)
+
+pub number_of : (ps : List PoolView) (n : Number) → HasObject ps n → IsNumber (specs_of ps) n
+number_of ps n h = let e = count_is ps n.pool in omega (arith, h, e)
+
+pub number_small : (ps : List PoolView) (n : Number) → ArePools ps → HasObject ps n → (n.index < 65536) × (n.pool < length ps) × (handle n < 65536 * length ps)
+number_small ps n are h =
+    let there : n.pool < length ps = object_pool ps n h in
+    let count = (are.rooms n.pool there).pool.count in
+    let small : n.index < 65536 = omega (arith, h, count) in
+    (small, there, omega (arith, small, there))
+
+pub same_length : (ps ps' : List PoolView) → specs_of ps' ≡ specs_of ps → length ps' ≡ length ps
+same_length ps ps' e = sym (length_specs ps') ∙ (ap length e ∙ length_specs ps)
+
+-- ---- what a slot says
+
+pub positive : (n : ℕ) → 1 ≤ n → is_positive n ≡ true
+positive zero h = absurd (omega arith)
+positive (suc n) h = refl
+
+pub not_positive : (n : ℕ) → is_positive n ≡ false → n ≡ 0
+not_positive zero e = refl
+not_positive (suc n) e = cc
+
+and_true : (a b : Bool) → a ≡ true → b ≡ true → (a && b) ≡ true
+and_true a b e d = cc
+
+pub head_of : (ps : List PoolView) (n : Number) (k : Packet) → Stands ps n k → is_head ps n ≡ true
+head_of ps n k s =
+    and_true (is_out ps n) (is_positive (header_at ps n).segs) s.out
+    (ap is_positive s.segs ∙ positive (length k) s.some)
+
+pub packet_is : (ps : List PoolView) (n : Number) (o : Option Packet) → StandsAt ps n o → packet_at ps n ≡ o
+packet_is ps n None e =
+    ap (λ b. if b then Some (walk (header_at ps) (header_at ps n).segs n) else None) e
+packet_is ps n (Some k) s =
+    ap (λ b. if b then Some (walk (header_at ps) (header_at ps n).segs n) else None) (head_of ps n k s)
+    ∙ (ap (λ j. Some (walk (header_at ps) j n)) s.segs ∙ ap Some (walk_is (header_at ps) n k s.links))
+
+-- ---- the slots are determined by the headers
+
+length_from : (ps : List PoolView) (h k : ℕ) → length (slots_from ps h k) ≡ k
+length_from ps h zero = refl
+length_from ps h (suc k) = ap suc (length_from ps (suc h) k)
+
+get_from : (ps : List PoolView) (h k i : ℕ) → i < k → get_or (slots_from ps h k) i None ≡ packet_at ps (numbered (h + i))
+get_from ps h zero i b = absurd (omega arith)
+get_from ps h (suc k) zero b = let e : h ≡ h + 0 = omega arith in ap (λ x. packet_at ps (numbered x)) e
+get_from ps h (suc k) (suc i) b =
+    let e : suc h + i ≡ h + suc i = omega arith in
+    get_from ps (suc h) k i (omega arith) ∙ ap (λ x. packet_at ps (numbered x)) e
+
+pub same_slots : (ps : List PoolView) (slots : List (Option Packet)) → Shows ps slots → slots_of ps ≡ slots
+unfolding slots_of
+same_slots ps slots s =
+    let l = length_from ps 0 (65536 * length ps) in
+    ext_get_or None (slots_of ps) slots (l ∙ sym s.many)
+    (λ i b. let c : i < 65536 * length ps = omega (arith, b, l) in
+    let z : 0 + i ≡ i = omega arith in
+    get_from ps 0 (65536 * length ps) i c
+    ∙ (ap (λ x. packet_at ps (numbered x)) z ∙ packet_is ps (numbered i) (get_or slots i None) (s.each i)))
+
+-- ---- other packets stay
+
+-- a header and whether it is out are as before, references aside
+pub record Stays (ps ps' : List PoolView) (m : Number) : Type 0 where
+  pub out : is_out ps' m ≡ is_out ps m
+  pub header : Alike (header_at ps' m) (header_at ps m)
+
+pub head_stays : (ps ps' : List PoolView) (m : Number) → Stays ps ps' m → is_head ps' m ≡ is_head ps m
+head_stays ps ps' m s =
+    ap (λ b. b && is_positive (header_at ps' m).segs) s.out ∙ ap (λ j. is_out ps m && is_positive j) s.header.segs
+
+pub stands_kept : (ps ps' : List PoolView) (n : Number) (k : Packet) → Stands ps n k → ((m : Number) → 1 ≤ mbufs k m → Stays ps ps' m) → Stands ps' n k
+stands_kept ps ps' n k s e =
+    let here = e n (first_in (header_at ps) n k s.some s.links) in
+    record {
+      out = here.out ∙ s.out;
+      some = s.some;
+      few = s.few;
+      segs = here.header.segs ∙ s.segs;
+      last = here.header.last ∙ s.last;
+      links = linked_kept (header_at ps) (header_at ps') n k (λ m q. (e m q).header.link) s.links;
+    }
+
+-- all slots stay, where the mbufs of their packets do, and no other becomes a first one
+pub frame : (ps ps' : List PoolView) (slots : List (Option Packet)) → length ps' ≡ length ps → Shows ps slots → ((m : Number) → 1 ≤ mbufs (segments_held slots) m → Stays ps ps' m) → ((m : Number) → mbufs (segments_held slots) m ≡ 0 → is_head ps m ≡ false → is_head ps' m ≡ false) → Shows ps' slots
+frame ps ps' slots l s e none = record {
+  many = s.many ∙ sym (ap (λ x. 65536 * x) l);
+  each = λ h. stays (numbered h) (get_or slots h None)
+      (λ m q. let a = slot_among (λ t. same_number t.mbuf m) slots h in e m (omega (arith, a, q)))
+      (s.each h);
+}
+  where
+    no_mbufs : (m : Number) (c : ℕ) → mbufs (segments_held slots) m ≡ c → is_head ps m ≡ false → is_head ps' m ≡ false
+    no_mbufs m zero is f = none m is f
+    no_mbufs m (suc c) is f = head_stays ps ps' m (e m (omega (arith, is))) ∙ f
+
+    stays : (n : Number) (o : Option Packet) → ((m : Number) → 1 ≤ count_of (λ t. same_number t.mbuf m) o → Stays ps ps' m) → StandsAt ps n o → StandsAt ps' n o
+    stays n None among f = no_mbufs n (mbufs (segments_held slots) n) refl f
+    stays n (Some k) among t = stands_kept ps ps' n k t among
+
+-- one slot is set, and the packets of all others stay
+pub slot_frame : (ps ps' : List PoolView) (slots : List (Option Packet)) (h : ℕ) (o : Option Packet) → length ps' ≡ length ps → Shows ps slots → h < length slots → ((i : ℕ) → i ≢ h → (m : Number) → 1 ≤ count_of (λ t. same_number t.mbuf m) (get_or slots i None) → Stays ps ps' m) → ((i : ℕ) → i ≢ h → is_head ps (numbered i) ≡ false → is_head ps' (numbered i) ≡ false) → StandsAt ps' (numbered h) o → Shows ps' (set slots h o)
+slot_frame ps ps' slots h o l s b others none here = record {
+  many = length-set slots h o ∙ (s.many ∙ sym (ap (λ x. 65536 * x) l));
+  each = λ i. ⊎_elim
+      (λ e. subst (λ j. StandsAt ps' (numbered j) (get_or (set slots h o) j None)) (sym e)
+      (subst (StandsAt ps' (numbered h)) (sym (get_or-set_same slots h o None b)) here))
+      (λ ne. subst (StandsAt ps' (numbered i)) (sym (get_or-set_other slots h i o None ne)) (stays i (get_or slots i None) (others i ne) (none i ne) (s.each i)))
+      (cases_eq i h);
+}
+  where
+    stays : (i : ℕ) (x : Option Packet) → ((m : Number) → 1 ≤ count_of (λ t. same_number t.mbuf m) x → Stays ps ps' m) → (is_head ps (numbered i) ≡ false → is_head ps' (numbered i) ≡ false) → StandsAt ps (numbered i) x → StandsAt ps' (numbered i) x
+    stays i None among f t = f t
+    stays i (Some k) among f t = stands_kept ps ps' (numbered i) k t among
+
+-- ---- the counts stay
+
+pub counted_same : (ps ps' : List PoolView) (ss ss' : List Segment) → Counted ps ss → SameCounts ss ss' → specs_of ps' ≡ specs_of ps → ((n : Number) → is_out ps' n ≡ is_out ps n) → ((b : Number) → 1 ≤ refs ss b → (header_at ps' b).refs ≡ (header_at ps b).refs) → AllByRecursion (λ s. IsNumber (specs_of ps) s.mbuf) ss' → AllByRecursion (Lies (specs_of ps)) ss' → Counted ps' ss'
+counted_same ps ps' ss ss' c e specs outs stored numbers lie = record {
+  once = λ n. omega (arith, e.mbufs n, c.once n);
+  direct = λ n q. e.refs n ∙ c.direct n (omega (arith, e.indirects n, q));
+  numbers = subst (λ x. AllByRecursion (λ s. IsNumber x s.mbuf) ss') (sym specs) numbers;
+  lie = subst (λ x. AllByRecursion (Lies x) ss') (sym specs) lie;
+  stored = λ b q. stored b (omega (arith, e.refs b, q)) ∙ (c.stored b (omega (arith, e.refs b, q)) ∙ sym (e.refs b));
+  out = λ n h. outs n
+      ∙ (c.out n (subst (λ x. IsNumber x n) specs h)
+      ∙ (ap (λ x. is_positive (x + refs ss n)) (sym (e.mbufs n)) ∙ ap (λ x. is_positive (mbufs ss' n + x)) (sym (e.refs n))));
+}

@@ -1,0 +1,67 @@
+-- A packet given up, segment by segment.
+use Rattle.std.proofs.Common.{◌≡◌, ℕ, ◌+◌, ◌<◌, ◌≤◌, List, [], ◌∷◌, length, None, refl, sym, ◌∙◌, ap, subst, arith, set}
+use Rattle.dp_model.specs.Buffers.{Number}
+use Rattle.dp_model.specs.Packets.{Packet}
+use Rattle.dp_model.specs.Stores.{Store, IsLive, with_slot}
+use Rattle.dp_mbuf.specs.Pools.{PoolView}
+use Rattle.dp_mbuf.specs.Objects.{header_at, specs_of, buffers_of, HeaderSet}
+use Rattle.dp_mbuf.specs.Steps.{CanRelease, Released}
+use Rattle.dp_mbuf.specs.Mbufs.{numbered, slots_of, shown, Linked, Whole, Sound}
+use Rattle.dp_mbuf.proofs.Edits.{unhooked}
+use Rattle.dp_mbuf.proofs.Live.{opened, settled, store_eq}
+use Rattle.dp_mbuf.proofs.InHand.{can_release, release_done}
+
+-- the rest of the packet is in hand, and its slot is empty
+pub record Freeing (ps : List PoolView) (place : Number) (i many : ℕ) (v : Store) (h : ℕ) : Type 0 where
+  pub rest : Packet
+  pub left : length rest + i ≡ many
+  pub whole : Whole ps rest (set v.slots h None)
+  pub links : Linked (header_at ps) place rest
+  pub specs : specs_of ps ≡ v.pools
+  pub buffers : buffers_of ps ≡ v.buffers
+
+pub freeing_start : (ps ps' : List PoolView) (v : Store) (h : ℕ) → shown ps ≡ v → Sound ps → IsLive v h → HeaderSet ps (numbered h) (record (header_at ps (numbered h)) { segs = 0 }) ps' → Freeing ps' (numbered h) 0 (header_at ps (numbered h)).segs v h
+freeing_start ps ps' v h e sound live done =
+    let o = opened ps v h live.0 e sound live.1 in
+    let u = unhooked ps ps' (slots_of ps) h live.0 (record (header_at ps (numbered h)) { segs = 0 }) sound o.slot done refl refl (record { offset = refl; len = refl; next = refl; buffer = refl }) in
+    record {
+      rest = live.0;
+      left = let s = o.stands.segs in omega (arith, s);
+      whole = subst (λ s. Whole ps' live.0 (set s.slots h None)) e u.0;
+      links = u.1;
+      specs = done.specs ∙ ap (λ s. s.pools) e;
+      buffers = done.buffers ∙ ap (λ s. s.buffers) e;
+    }
+
+module _ (ps : List PoolView) (place : Number) (i many : ℕ) (v : Store) (h : ℕ) (f : Freeing ps place i many v h) where
+  pub freeing_can : i < many → CanRelease ps place (header_at ps place).buffer
+  freeing_can b = by f.rest f.left f.whole f.links
+    where
+      by : (rest : Packet) → length rest + i ≡ many → Whole ps rest (set v.slots h None) → Linked (header_at ps) place rest → CanRelease ps place (header_at ps place).buffer
+      by [] e w l = absurd (omega (arith, e, b))
+      by (s ∷ rest) e w l = can_release ps (set v.slots h None) place s rest w l
+
+  pub freeing_step : (ps' : List PoolView) (next : Number) → i < many → Released ps place (header_at ps place).buffer ps' → next ≡ (header_at ps place).next → Freeing ps' next (i + 1) many v h
+  freeing_step ps' next b r n = by f.rest f.left f.whole f.links
+    where
+      by : (rest : Packet) → length rest + i ≡ many → Whole ps rest (set v.slots h None) → Linked (header_at ps) place rest → Freeing ps' next (i + 1) many v h
+      by [] e w l = absurd (omega (arith, e, b))
+      by (s ∷ rest) e w l =
+          let d = release_done ps ps' (set v.slots h None) place s rest w l r in
+          record {
+            rest = rest;
+            left = omega (arith, e);
+            whole = d.0;
+            links = subst (λ m. Linked (header_at ps') m rest) (sym n) d.1;
+            specs = d.2 ∙ f.specs;
+            buffers = d.3 ∙ f.buffers;
+          }
+
+  pub freeing_end : many ≤ i → Sound ps × (shown ps ≡ with_slot h None v)
+  freeing_end b = by f.rest f.left f.whole
+    where
+      by : (rest : Packet) → length rest + i ≡ many → Whole ps rest (set v.slots h None) → Sound ps × (shown ps ≡ with_slot h None v)
+      by [] e w =
+          let d = settled ps (set v.slots h None) w in
+          (d.0, store_eq (shown ps) (with_slot h None v) f.specs f.buffers d.1)
+      by (s ∷ rest) e w = absurd (omega (arith, e, b))

@@ -1,0 +1,379 @@
+-- Segments in hand: given up, taken, and linked.
+use Rattle.std.proofs.Common.{◌≡◌, ◌≢◌, ◌⊎◌, ℕ, zero, suc, ◌+◌, ◌-◌, ◌≤◌, Bool, true, false, cond, List, [], ◌∷◌, ◌++◌, Option, refl, sym, ◌∙◌, ap, subst, arith, ⊎_elim}
+use Rattle.std.specs.Prelude.{◌&&◌, not}
+use Rattle.std.specs.List.{AllByRecursion}
+use Rattle.dp_model.specs.Buffers.{Number, same_number, IsNumber}
+use Rattle.dp_model.specs.Packets.{Segment, Packet, refs, Lies}
+use Rattle.dp_model.specs.Machine.{segments_held}
+use Rattle.dp_mbuf.specs.Pools.{PoolView}
+use Rattle.dp_mbuf.specs.Objects.{header_at, is_out, specs_of, buffers_of, HasObject, ArePools, HeaderSet}
+use Rattle.dp_mbuf.specs.Steps.{Alike, Fewer, MbufBack, BufferLess, CanRelease, Released}
+use Rattle.dp_mbuf.specs.Mbufs.{is_positive, is_head, mbufs, indirects, Linked, Whole}
+use Rattle.dp_mbuf.proofs.PoolLemmas.{one_if}
+use Rattle.dp_mbuf.proofs.ObjectLemmas.{same_or, same_self}
+use Rattle.dp_mbuf.proofs.Counting.{mbufs-cons, refs-cons, indirects-cons, mbufs-append, mbufs_first, refs_first, indirects_le, all_rest}
+use Rattle.dp_mbuf.proofs.Links.{alike, linked_kept, first_mbuf}
+use Rattle.dp_mbuf.proofs.Frames.{object_of, number_of, same_length, positive, head_stays, frame}
+use Rattle.dp_mbuf.proofs.Edits.{all_at}
+
+-- ---- counts of one more segment
+
+pub zero_at : (n m : Number) → same_number n m ≡ false → one_if (same_number n m) ≡ 0
+zero_at n m d = let one : ℕ = 1 in ap (λ b. cond b one 0) d
+
+-- each segment at a number is an indirect one, or has it as its buffer
+pub mbufs_split : (ss : List Segment) (n : Number) → mbufs ss n ≤ indirects ss n + refs ss n
+mbufs_split [] n = omega arith
+mbufs_split (s ∷ ss) n =
+    omega (arith, mbufs_split ss n, by (same_number s.mbuf n) (same_number s.buffer n), mbufs-cons s ss n, refs-cons s ss n, indirects-cons s ss n)
+  where
+    by : (a b : Bool) → one_if a ≤ one_if (a && not b) + one_if b
+    by true true = omega arith
+    by true false = omega arith
+    by false b = omega arith
+
+-- ---- one segment less
+
+and_false : (a : Bool) → (a && false) ≡ false
+and_false true = refl
+and_false false = refl
+
+pub less : (ps ps' : List PoolView) (slots : List (Option Packet)) (s : Segment) (more : Packet) → Whole ps (s ∷ more) slots → Fewer ps ps' → ((b : Number) → 1 ≤ refs (more ++ segments_held slots) b → (header_at ps' b).refs ≡ refs (more ++ segments_held slots) b) → ((n : Number) → IsNumber (specs_of ps) n → is_out ps' n ≡ is_positive (mbufs (more ++ segments_held slots) n + refs (more ++ segments_held slots) n)) → Whole ps' more slots
+less ps ps' slots s more w f stored outs =
+    let ss : List Segment = more ++ segments_held slots in
+    let c = w.counted in
+    record {
+      are = f.are;
+      counted = record {
+        once = λ n. let o = c.once n in omega (arith, o, mbufs-cons s ss n);
+        direct = λ n q. let d = c.direct n (omega (arith, q, indirects-cons s ss n)) in omega (arith, d, refs-cons s ss n);
+        numbers = subst (λ x. AllByRecursion (λ t. IsNumber x t.mbuf) ss) (sym f.specs) c.numbers.1;
+        lie = subst (λ x. AllByRecursion (Lies x) ss) (sym f.specs) c.lie.1;
+        stored = stored;
+        out = λ n h. outs n (subst (λ x. IsNumber x n) f.specs h);
+      };
+      shows = frame ps ps' slots (same_length ps ps' f.specs) w.shows
+          (λ m q. let e = mbufs-append more (segments_held slots) m in
+          let number : IsNumber (specs_of ps) m =
+          all_at (IsNumber (specs_of ps)) (segments_held slots) m (all_rest (λ t. IsNumber (specs_of ps) t.mbuf) (s ∷ more) (segments_held slots) c.numbers) q in
+          let new : is_out ps' m ≡ true =
+          outs m number ∙ positive (mbufs ss m + refs ss m) (omega (arith, e, q)) in
+          let old : is_out ps m ≡ true =
+          c.out m number
+          ∙ positive (mbufs (s ∷ ss) m + refs (s ∷ ss) m) (omega (arith, e, q, mbufs-cons s ss m)) in
+          record { out = new ∙ sym old; header = f.headers m })
+          (λ m _ none. down ps ps' m (is_out ps m) refl (f.outs m) (f.headers m).segs none);
+    }
+  where
+    down : (ps ps' : List PoolView) (m : Number) (b : Bool) → is_out ps m ≡ b → (is_out ps m ≡ false → is_out ps' m ≡ false) → (header_at ps' m).segs ≡ (header_at ps m).segs → is_head ps m ≡ false → is_head ps' m ≡ false
+    down ps ps' m false e f segs none = ap (λ v. v && is_positive (header_at ps' m).segs) (f e)
+    down ps ps' m true e f segs none =
+        let z : is_positive (header_at ps m).segs ≡ false =
+        sym (ap (λ v. v && is_positive (header_at ps m).segs) e) ∙ none in
+        ap (λ j. is_out ps' m && is_positive j) segs
+        ∙ (ap (λ v. is_out ps' m && v) z ∙ and_false (is_out ps' m))
+
+-- the links of what is left
+pub less_links : (ps ps' : List PoolView) (n : Number) (s : Segment) (more : Packet) → Linked (header_at ps) n (s ∷ more) → Fewer ps ps' → Linked (header_at ps') (header_at ps n).next more
+less_links ps ps' n s more l f =
+    linked_kept (header_at ps) (header_at ps') (header_at ps n).next more (λ m _. (f.headers m).link) l.1
+
+-- ---- what a segment in hand says
+
+module _ (ps : List PoolView) (slots : List (Option Packet)) (s : Segment) (more : Packet) (w : Whole ps (s ∷ more) slots) where
+  abbrev ss : List Segment
+  ss = more ++ segments_held slots
+
+  pub mbuf_number : IsNumber (specs_of ps) s.mbuf
+  mbuf_number = w.counted.numbers.0
+
+  pub buffer_number : IsNumber (specs_of ps) s.buffer
+  buffer_number = w.counted.lie.0.number
+
+  pub mbuf_out : is_out ps s.mbuf ≡ true
+  mbuf_out =
+      w.counted.out s.mbuf mbuf_number
+      ∙ positive (mbufs (s ∷ ss) s.mbuf + refs (s ∷ ss) s.mbuf) (omega (arith, mbufs_first s ss))
+
+  pub buffer_out : is_out ps s.buffer ≡ true
+  buffer_out =
+      w.counted.out s.buffer buffer_number
+      ∙ positive (mbufs (s ∷ ss) s.buffer + refs (s ∷ ss) s.buffer) (omega (arith, refs_first s ss))
+
+  pub buffer_refs : (header_at ps s.buffer).refs ≡ suc (refs ss s.buffer)
+  buffer_refs = w.counted.stored s.buffer (omega (arith, refs_first s ss)) ∙ refs_first s ss
+
+  -- no other segment has its mbuf
+  pub mbuf_gone : mbufs ss s.mbuf ≡ 0
+  mbuf_gone = let o = w.counted.once s.mbuf in omega (arith, o, mbufs_first s ss)
+
+  -- an indirect mbuf is no buffer
+  pub indirect_free : same_number s.mbuf s.buffer ≡ false → refs ss s.mbuf ≡ 0
+  indirect_free d =
+      let i : indirects (s ∷ ss) s.mbuf ≡ suc (indirects ss s.mbuf) =
+      (let t : one_if (same_number s.mbuf s.mbuf && not (same_number s.buffer s.mbuf)) ≡ 1 =
+      let one : ℕ = 1 in
+      ap (λ b. cond (b && not (same_number s.buffer s.mbuf)) one 0) (same_self s.mbuf)
+      ∙ ap (λ b. cond (not b) one 0) (turned d) in
+      omega (arith, t, indirects-cons s ss s.mbuf)) in
+      let z = w.counted.direct s.mbuf (omega (arith, i)) in
+      omega (arith, z, refs-cons s ss s.mbuf)
+    where
+      turned : same_number s.mbuf s.buffer ≡ false → same_number s.buffer s.mbuf ≡ false
+      turned f = ⊎_elim
+          (λ e. let t : same_number s.mbuf s.buffer ≡ true = ap (same_number s.mbuf) e ∙ same_self s.mbuf in absurd (cc))
+          (λ g. g)
+          (same_or s.buffer s.mbuf)
+
+  -- a buffer that nothing else has is no other mbuf
+  pub buffer_gone : refs ss s.buffer ≡ 0 → mbufs ss s.buffer ≡ 0
+  buffer_gone z = by (indirects (s ∷ ss) s.buffer) refl
+    where
+      by : (i : ℕ) → indirects (s ∷ ss) s.buffer ≡ i → mbufs ss s.buffer ≡ 0
+      by zero e =
+          omega (arith, e, z, mbufs_split ss s.buffer, indirects-cons s ss s.buffer)
+      by (suc i) e =
+          let d = w.counted.direct s.buffer (omega (arith, e)) in absurd (omega (arith, d, refs_first s ss))
+
+  -- at other numbers the counts are the same
+  pub elsewhere : (n : Number) → same_number s.mbuf n ≡ false → same_number s.buffer n ≡ false → (mbufs (s ∷ ss) n ≡ mbufs ss n) × (refs (s ∷ ss) n ≡ refs ss n)
+  elsewhere n d e = (omega (arith, zero_at s.mbuf n d, mbufs-cons s ss n), omega (arith, zero_at s.buffer n e, refs-cons s ss n))
+
+  pub out_elsewhere : (n : Number) → IsNumber (specs_of ps) n → same_number s.mbuf n ≡ false → same_number s.buffer n ≡ false → is_out ps n ≡ is_positive (mbufs ss n + refs ss n)
+  out_elsewhere n h d e =
+      let q = elsewhere n d e in
+      w.counted.out n h
+      ∙ (ap (λ x. is_positive (x + refs (s ∷ ss) n)) q.0 ∙ ap (λ x. is_positive (mbufs ss n + x)) q.1)
+
+-- ---- the mbuf of a segment in hand put back, where it is not its own buffer
+
+pub none_positive : (x y : ℕ) → x ≡ 0 → y ≡ 0 → is_positive (x + y) ≡ false
+none_positive x y a b = ap (λ i. is_positive (i + y)) a ∙ ap (λ i. is_positive (0 + i)) b
+
+fewer_fewer : (a b c : List PoolView) → Fewer a b → Fewer b c → Fewer a c
+fewer_fewer a b c f g = record {
+  are = g.are;
+  specs = g.specs ∙ f.specs;
+  buffers = g.buffers ∙ f.buffers;
+  headers = λ m. record {
+    segs = (g.headers m).segs ∙ (f.headers m).segs;
+    last = (g.headers m).last ∙ (f.headers m).last;
+    link = record {
+      offset = (g.headers m).link.offset ∙ (f.headers m).link.offset;
+      len = (g.headers m).link.len ∙ (f.headers m).link.len;
+      next = (g.headers m).link.next ∙ (f.headers m).link.next;
+      buffer = (g.headers m).link.buffer ∙ (f.headers m).link.buffer;
+    };
+  };
+  outs = λ m e. g.outs m (f.outs m e);
+}
+
+-- one segment given up: its mbuf is back if it is indirect, and its buffer has one reference less
+pub released : (ps ps1 ps' : List PoolView) (slots : List (Option Packet)) (s : Segment) (more : Packet) → Whole ps (s ∷ more) slots → MbufBack ps s.mbuf s.buffer ps1 → BufferLess ps1 s.buffer ps' → Whole ps' more slots × Fewer ps ps'
+released ps ps1 ps' slots s more w a b =
+    let ts : List Segment = more ++ segments_held slots in
+    let f : Fewer ps ps' = fewer_fewer ps ps1 ps' a.fewer b.fewer in (
+      less ps ps' slots s more w f
+          (λ n q. ⊎_elim
+          (λ e. let z : refs ts s.buffer ≡ refs ts n = ap (refs ts) e in
+          let t = at_buffer (refs ts s.buffer) refl in
+          subst (λ m. (header_at ps' m).refs ≡ refs ts m) e (t.0 (omega (arith, z, q))))
+          (λ d. b.refs n d ∙ (a.refs n ∙ (w.counted.stored n (omega (arith, q, refs-cons s ts n)) ∙ omega (arith, zero_at s.buffer n d, refs-cons s ts n))))
+          (same_or s.buffer n))
+          (λ n h. ⊎_elim
+          (λ e. subst (λ m. is_out ps' m ≡ is_positive (mbufs ts m + refs ts m)) e (at_buffer (refs ts s.buffer) refl).1)
+          (λ d. ⊎_elim
+          (λ e. subst (λ m. is_out ps' m ≡ is_positive (mbufs ts m + refs ts m)) e
+          (let ne : same_number s.mbuf s.buffer ≡ false = apart n e d in
+          let nb : same_number s.buffer s.mbuf ≡ false = subst (λ m. same_number s.buffer m ≡ false) (sym e) d in
+          b.others s.mbuf nb
+          ∙ (a.here ne
+          ∙ sym (none_positive (mbufs ts s.mbuf) (refs ts s.mbuf) (mbuf_gone ps slots s more w) (indirect_free ps slots s more w ne)))))
+          (λ ne. b.others n d ∙ (a.others n ne ∙ out_elsewhere ps slots s more w n h ne d))
+          (same_or s.mbuf n))
+          (same_or s.buffer n)),
+      f,
+    )
+  where
+    apart : (n : Number) → s.mbuf ≡ n → same_number s.buffer n ≡ false → same_number s.mbuf s.buffer ≡ false
+    apart n e d = ⊎_elim
+        (λ t. let x : same_number s.buffer n ≡ true = ap (λ m. same_number m n) (sym t ∙ e) ∙ same_self n in absurd (cc))
+        (λ f. f)
+        (same_or s.mbuf s.buffer)
+
+    still : is_out ps1 s.buffer ≡ is_out ps s.buffer
+    still = ⊎_elim
+        (λ e. subst (λ m. is_out ps1 m ≡ is_out ps m) e (a.own e))
+        (λ d. a.others s.buffer d)
+        (same_or s.mbuf s.buffer)
+
+    at_buffer : (r : ℕ) → refs (more ++ segments_held slots) s.buffer ≡ r → (1 ≤ r → (header_at ps' s.buffer).refs ≡ refs (more ++ segments_held slots) s.buffer) × (is_out ps' s.buffer ≡ is_positive (mbufs (more ++ segments_held slots) s.buffer + refs (more ++ segments_held slots) s.buffer))
+    at_buffer zero e = (
+      (λ q. absurd (omega arith)),
+      b.last (a.refs s.buffer ∙ (buffer_refs ps slots s more w ∙ ap suc e)) ∙ sym (none_positive (mbufs (more ++ segments_held slots) s.buffer) (refs (more ++ segments_held slots) s.buffer) (buffer_gone ps slots s more w e) e),
+    )
+    at_buffer (suc r) e =
+        let less = b.one_less r (a.refs s.buffer ∙ (buffer_refs ps slots s more w ∙ ap suc e)) in (
+          (λ _. less.0 ∙ sym e),
+          less.1
+              ∙ (still
+              ∙ (buffer_out ps slots s more w ∙ sym (positive (mbufs (more ++ segments_held slots) s.buffer + refs (more ++ segments_held slots) s.buffer) (omega (arith, e))))),
+        )
+
+pub released_whole : (ps ps' : List PoolView) (slots : List (Option Packet)) (s : Segment) (more : Packet) → Whole ps (s ∷ more) slots → Released ps s.mbuf s.buffer ps' → Whole ps' more slots × Fewer ps ps'
+released_whole ps ps' slots s more w r = released ps r.middle ps' slots s more w r.mbuf r.buffer
+
+-- ---- one segment more
+
+-- n, which was in, is out with a header of its own, and the other headers stay but for references
+pub record More (ps ps' : List PoolView) (n : Number) : Type 0 where
+  pub are : ArePools ps'
+  pub specs : specs_of ps' ≡ specs_of ps
+  pub number : IsNumber (specs_of ps) n
+  pub was : is_out ps n ≡ false
+  pub here : is_out ps' n ≡ true
+  pub no_head : (header_at ps' n).segs ≡ 0
+  pub outs : (m : Number) → same_number n m ≡ false → is_out ps' m ≡ is_out ps m
+  pub headers : (m : Number) → same_number n m ≡ false → Alike (header_at ps' m) (header_at ps m)
+
+none_of : (n : ℕ) → is_positive n ≡ false → n ≡ 0
+none_of zero e = refl
+none_of (suc n) e = cc
+
+-- what is in has no segment
+pub nothing_at : (ps : List PoolView) (hand : Packet) (slots : List (Option Packet)) (n : Number) → Whole ps hand slots → IsNumber (specs_of ps) n → is_out ps n ≡ false → mbufs (hand ++ segments_held slots) n + refs (hand ++ segments_held slots) n ≡ 0
+nothing_at ps hand slots n w number was =
+    none_of (mbufs (hand ++ segments_held slots) n + refs (hand ++ segments_held slots) n) (sym (w.counted.out n number) ∙ was)
+
+pub grown : (ps ps' : List PoolView) (hand : Packet) (slots : List (Option Packet)) (s : Segment) → Whole ps hand slots → More ps ps' s.mbuf → Lies (specs_of ps) s → ((b : Number) → 1 ≤ refs (s ∷ hand ++ segments_held slots) b → (header_at ps' b).refs ≡ refs (s ∷ hand ++ segments_held slots) b) → (s.mbuf ≡ s.buffer) ⊎ ((same_number s.mbuf s.buffer ≡ false) × (1 ≤ refs (hand ++ segments_held slots) s.buffer)) → Whole ps' (s ∷ hand) slots
+grown ps ps' hand slots s w f lies stored kind =
+    let ss : List Segment = hand ++ segments_held slots in
+    let n : Number = s.mbuf in
+    let c = w.counted in
+    let no = nothing_at ps hand slots n w f.number f.was in
+    record {
+      are = f.are;
+      counted = record {
+        once = λ m. ⊎_elim
+            (λ e. let z = ap (mbufs (s ∷ ss)) e in omega (arith, z, no, mbufs_first s ss))
+            (λ d. let o = c.once m in omega (arith, o, zero_at n m d, mbufs-cons s ss m))
+            (same_or n m);
+        direct = λ m q. ⊎_elim
+            (λ e. subst (λ j. refs (s ∷ ss) j ≡ 0) e
+            (⊎_elim
+            (λ own. absurd (let z = ap (indirects (s ∷ ss)) e in
+            let t : one_if (same_number n n && not (same_number s.buffer n)) ≡ 0 =
+            let one : ℕ = 1 in
+            ap (λ j. cond (same_number n n && not (same_number j n)) one 0) (sym own)
+            ∙ (ap (λ b. cond (b && not b) one 0) (same_self n)) in
+            omega (arith, q, z, t, no, indirects-cons s ss n, indirects_le ss n)))
+            (λ o. omega (arith, no, zero_at s.buffer n (turned n s.buffer o.0), refs-cons s ss n))
+            kind))
+            (λ d. ⊎_elim
+            (λ b. ⊎_elim
+            (λ own. absurd (let x : same_number n m ≡ true = ap (λ j. same_number j m) (own ∙ b) ∙ same_self m in cc))
+            (λ o. absurd (let z = ap (refs ss) b in
+            let r = c.direct m (omega (arith, q, and_le n s.buffer m, zero_at n m d, indirects-cons s ss m)) in
+            omega (arith, r, z, o.1)))
+            kind)
+            (λ b. let r = c.direct m (omega (arith, q, and_le n s.buffer m, zero_at n m d, indirects-cons s ss m)) in
+            omega (arith, r, zero_at s.buffer m b, refs-cons s ss m))
+            (same_or s.buffer m))
+            (same_or n m);
+        numbers = subst (λ x. AllByRecursion (λ t. IsNumber x t.mbuf) (s ∷ ss)) (sym f.specs) (f.number, c.numbers);
+        lie = subst (λ x. AllByRecursion (Lies x) (s ∷ ss)) (sym f.specs) (lies, c.lie);
+        stored = stored;
+        out = λ m h. ⊎_elim
+            (λ e. subst (λ j. is_out ps' j ≡ is_positive (mbufs (s ∷ ss) j + refs (s ∷ ss) j)) e
+            (f.here ∙ sym (positive (mbufs (s ∷ ss) n + refs (s ∷ ss) n) (omega (arith, mbufs_first s ss)))))
+            (λ d. let old = f.outs m d ∙ c.out m (subst (λ x. IsNumber x m) f.specs h) in
+            let mb : mbufs (s ∷ ss) m ≡ mbufs ss m = omega (arith, zero_at n m d, mbufs-cons s ss m) in
+            ⊎_elim
+            (λ b. ⊎_elim
+            (λ own. absurd (let x : same_number n m ≡ true = ap (λ j. same_number j m) (own ∙ b) ∙ same_self m in cc))
+            (λ o. let z = ap (refs ss) b in
+            old
+            ∙ (positive (mbufs ss m + refs ss m) (omega (arith, z, o.1))
+            ∙ sym (positive (mbufs (s ∷ ss) m + refs (s ∷ ss) m) (omega (arith, z, o.1, refs-cons s ss m)))))
+            kind)
+            (λ b. let rf : refs (s ∷ ss) m ≡ refs ss m = omega (arith, zero_at s.buffer m b, refs-cons s ss m) in
+            old
+            ∙ (ap (λ x. is_positive (x + refs ss m)) (sym mb) ∙ ap (λ x. is_positive (mbufs (s ∷ ss) m + x)) (sym rf)))
+            (same_or s.buffer m))
+            (same_or n m);
+      };
+      shows = frame ps ps' slots (same_length ps ps' f.specs) w.shows
+          (λ m q. ⊎_elim
+          (λ e. let z = ap (mbufs (segments_held slots)) e in absurd (omega (arith, z, q, no, mbufs-append hand (segments_held slots) n)))
+          (λ d. record { out = f.outs m d; header = f.headers m d })
+          (same_or n m))
+          (λ m _ none. ⊎_elim
+          (λ e. subst (λ j. is_head ps' j ≡ false) e (ap (λ j. is_out ps' n && is_positive j) f.no_head ∙ and_false (is_out ps' n)))
+          (λ d. head_stays ps ps' m (record { out = f.outs m d; header = f.headers m d }) ∙ none)
+          (same_or n m));
+    }
+  where
+    turned : (a b : Number) → same_number a b ≡ false → same_number b a ≡ false
+    turned a b f = ⊎_elim
+        (λ e. let t : same_number a b ≡ true = ap (same_number a) e ∙ same_self a in absurd (cc))
+        (λ g. g)
+        (same_or b a)
+
+    by_le : (a b : Bool) → one_if (a && b) ≤ one_if a
+    by_le true true = omega arith
+    by_le true false = omega arith
+    by_le false b = omega arith
+
+    and_le : (a b m : Number) → one_if (same_number a m && not (same_number b m)) ≤ one_if (same_number a m)
+    and_le a b m = by_le (same_number a m) (not (same_number b m))
+
+-- ---- the steps of the code
+
+pub object_after : (ps ps' : List PoolView) (n : Number) → specs_of ps' ≡ specs_of ps → HasObject ps n → HasObject ps' n
+object_after ps ps' n e h = object_of ps' n (subst (λ x. IsNumber x n) (sym e) (number_of ps n h))
+
+pub less_set : (ps ps' : List PoolView) (b : Number) (j : ℕ) → HeaderSet ps b (record (header_at ps b) { refs = j }) ps' → (header_at ps b).refs ≡ suc j → 1 ≤ j → BufferLess ps b ps'
+less_set ps ps' b j done was some = record {
+  fewer = record {
+    are = done.are;
+    specs = done.specs;
+    buffers = done.buffers;
+    headers = λ m. ⊎_elim
+        (λ e. subst (λ i. Alike (header_at ps' i) (header_at ps i)) e
+        (subst (λ h. Alike h (header_at ps b)) (sym done.here)
+        (record { segs = refl; last = refl; link = record { offset = refl; len = refl; next = refl; buffer = refl } })))
+        (λ d. alike (header_at ps' m) (header_at ps m) (done.others m d))
+        (same_or b m);
+    outs = λ m e. done.outs m ∙ e;
+  };
+  refs = λ m d. ap (λ h. h.refs) (done.others m d);
+  others = λ m _. done.outs m;
+  last = λ e. absurd (omega (arith, e, was, some));
+  one_less = λ r e. (ap (λ h. h.refs) done.here ∙ omega (arith, was, e), done.outs b);
+}
+
+pub can_release : (ps : List PoolView) (slots : List (Option Packet)) (n : Number) (s : Segment) (more : Packet) → Whole ps (s ∷ more) slots → Linked (header_at ps) n (s ∷ more) → CanRelease ps n (header_at ps n).buffer
+can_release ps slots n s more w l =
+    let mb : s.mbuf ≡ n = first_mbuf (header_at ps) n s more l in
+    let bf : s.buffer ≡ (header_at ps n).buffer = sym (ap (λ t. t.buffer) l.0) in
+    let at : CanRelease ps s.mbuf s.buffer = record {
+      are = w.are;
+      mbuf = object_of ps s.mbuf (mbuf_number ps slots s more w);
+      mbuf_out = mbuf_out ps slots s more w;
+      buffer = object_of ps s.buffer (buffer_number ps slots s more w);
+      buffer_out = buffer_out ps slots s more w;
+      some = let e = buffer_refs ps slots s more w in omega (arith, e);
+    } in
+    subst (λ b. CanRelease ps n b) bf (subst (λ m. CanRelease ps m s.buffer) mb at)
+
+pub release_done : (ps ps' : List PoolView) (slots : List (Option Packet)) (n : Number) (s : Segment) (more : Packet) → Whole ps (s ∷ more) slots → Linked (header_at ps) n (s ∷ more) → Released ps n (header_at ps n).buffer ps' → Whole ps' more slots × Linked (header_at ps') (header_at ps n).next more × (specs_of ps' ≡ specs_of ps) × (buffers_of ps' ≡ buffers_of ps)
+release_done ps ps' slots n s more w l r =
+    let mb : s.mbuf ≡ n = first_mbuf (header_at ps) n s more l in
+    let bf : s.buffer ≡ (header_at ps n).buffer = sym (ap (λ t. t.buffer) l.0) in
+    let d = released_whole ps ps' slots s more w
+    (subst (λ b. Released ps s.mbuf b ps') (sym bf) (subst (λ m. Released ps m (header_at ps n).buffer ps') (sym mb) r)) in
+    (d.0, less_links ps ps' n s more l d.1, d.1.specs, d.1.buffers)
+
+pub one_reference_less : (r x : ℕ) → r ≡ x → 1 ≤ x → (r ≡ 1 → ⊥) → (x ≡ suc (x - 1)) × (1 ≤ x - 1)
+one_reference_less r x e some ne =
+    let d : x ≢ 1 = λ i. ne (e ∙ i) in (omega (arith, some), omega (arith, some, d))

@@ -1,0 +1,147 @@
+-- The calls on objects: what they ask of a place for a pool, and what they leave.
+use Rattle.std.proofs.Common.{◌≡◌, ℕ, zero, suc, ◌+◌, ◌<◌, ◌≤◌, Bool, true, false, List, [], ◌∷◌, length, Option, Some, None, refl, sym, ◌∙◌, ap, subst, arith, get_or, set}
+use Rattle.std.specs.Prelude.{slice_get, count_by, not}
+use Rattle.std.proofs.lemmas.List.{length-set, get_or_past}
+use Rattle.std.specs.List.{AllByRecursion}
+use Rattle.dp_model.specs.Environments.{room_at}
+use Rattle.dp_model.specs.Buffers.{Number}
+use Rattle.dp_mbuf.specs.declared.header.Header.{Header}
+use Rattle.dp_mbuf.specs.Headers.{header_bytes}
+use Rattle.dp_mbuf.specs.Pools.{PoolView, with_written, with_out}
+use Rattle.dp_mbuf.specs.Objects.{present, pool_in, is_out, count_in, specs_of, HasObject, HasRooms, PoolsFirst, ArePools, HeaderSet, RoomWritten, Taken, Given, SlotHas, SlotFits, SlotIsOut, SlotBecomes, SlotGives, slot_out, no_pool}
+use Rattle.dp_mbuf.proofs.PoolLemmas.{Small, pool_out}
+use Rattle.dp_mbuf.proofs.ObjectLemmas.{are_pools, object_pool, room_is, header_set, room_written, rooms_written, taken, given, slot_is, slot_below, slot_set, slot_first}
+
+-- where an index is out, that is what stands in the row
+out_there : (row : List Bool) (i : ℕ) → get_or row i false ≡ true → slice_get row i ≡ Some true
+out_there [] i e = cc
+out_there (x ∷ row) zero e = ap Some e
+out_there (x ∷ row) (suc i) e = out_there row i e
+
+pub out_pool : (ps : List PoolView) (k i : ℕ) → get_or (pool_in ps k).out i false ≡ true → k < length ps
+out_pool [] k i e = cc
+out_pool (p ∷ ps) zero i e = omega arith
+out_pool (p ∷ ps) (suc k) i e = let q = out_pool ps k i e in omega (arith, q)
+
+module _ (pools : List (Option PoolView)) (ps : List PoolView) (e : present pools ≡ ps) (inv : (length pools ≡ 8) × PoolsFirst pools) where
+  pub are : ArePools ps
+  are = subst ArePools e (are_pools pools inv.0 inv.1)
+
+  pub listed : (k : ℕ) → k < length ps → (k < length pools) × (k < 8)
+  listed k h = let b = slot_below pools ps k e h in (b, omega (arith, b, inv.0))
+
+  pub has : (k : ℕ) (d : Option PoolView) → k < length ps → SlotHas (get_or pools k d)
+  has k d h = subst SlotHas (sym (slot_is pools ps k d e h)) (are.rooms k h)
+
+  pub fits : (n : Number) (k i m : ℕ) (d : Option PoolView) → k ≡ n.pool → i ≡ n.index → HasObject ps n → m ≤ (pool_in ps n.pool).size → SlotFits (get_or pools k d) i m
+  fits n k i m d ek ei object h =
+      let there : n.pool < length ps = object_pool ps n object in
+      subst (λ j. SlotFits (get_or pools j d) i m) (sym ek)
+      (subst (λ j. SlotFits (get_or pools n.pool d) j m) (sym ei)
+      (subst (λ o. SlotFits o n.index m) (sym (slot_is pools ps n.pool d e there))
+      (are.rooms n.pool there, object, h)))
+
+  pub is_out_there : (n : Number) (k i : ℕ) (d : Option PoolView) → k ≡ n.pool → i ≡ n.index → is_out ps n ≡ true → SlotIsOut (get_or pools k d) i
+  is_out_there n k i d ek ei out =
+      subst (λ j. SlotIsOut (get_or pools j d) i) (sym ek)
+      (subst (λ j. SlotIsOut (get_or pools n.pool d) j) (sym ei)
+      (subst (λ o. SlotIsOut o n.index) (sym (slot_is pools ps n.pool d e (out_pool ps n.pool n.index out)))
+      (out_there (pool_in ps n.pool).out n.index out)))
+
+  -- what is left at the place
+  becomes : (k : ℕ) (d o : Option PoolView) (f : PoolView → PoolView) → k < length ps → SlotBecomes f (get_or pools k d) o → o ≡ Some (f (pool_in ps k))
+  becomes k d o f h b = subst (λ x. SlotBecomes f x o) (slot_is pools ps k d e h) b
+
+  -- the pools with one of them replaced
+  replaced : (k : ℕ) (o : Option PoolView) (p : PoolView) → k < length ps → o ≡ Some p → HasRooms p → ((length (set pools k o) ≡ 8) × PoolsFirst (set pools k o)) × (present (set pools k o) ≡ set ps k p)
+  replaced k o p h eo rooms = (
+    (length-set pools k o ∙ inv.0, slot_first pools ps k o p e h eo inv.1 rooms),
+    slot_set pools ps k o p e h eo,
+  )
+
+  pub header_done : (n : Number) (h : Header) (k i : ℕ) (bytes : List ℕ) (d o : Option PoolView) → k ≡ n.pool → i ≡ n.index → bytes ≡ header_bytes h → Small bytes → HasObject ps n → SlotBecomes (λ p. with_written p i 0 bytes) (get_or pools k d) o → ((length (set pools k o) ≡ 8) × PoolsFirst (set pools k o)) × HeaderSet ps n h (present (set pools k o))
+  header_done n h k i bytes d o ek ei eb small object b =
+      let there : n.pool < length ps = object_pool ps n object in
+      let l : length bytes ≡ 22 = ap length eb in
+      let rooms = are.rooms n.pool there in
+      let fit : 0 + length bytes ≤ (pool_in ps n.pool).size = omega (arith, l, rooms.header) in
+      let left : o ≡ Some (with_written (pool_in ps n.pool) n.index 0 bytes) =
+      subst (λ j. o ≡ Some (with_written (pool_in ps n.pool) j 0 bytes)) ei
+      (subst (λ j. o ≡ Some (with_written (pool_in ps j) i 0 bytes)) ek (becomes k d o (λ p. with_written p i 0 bytes) (subst (λ j. j < length ps) (sym ek) there) b)) in
+      let r = replaced n.pool o (with_written (pool_in ps n.pool) n.index 0 bytes) there left (rooms_written ps n are object 0 bytes small fit) in
+      subst (λ j. ((length (set pools j o) ≡ 8) × PoolsFirst (set pools j o)) × HeaderSet ps n h (present (set pools j o))) (sym ek)
+      (r.0, subst (HeaderSet ps n h) (sym r.1) (header_set ps n h bytes are object eb small fit))
+
+  pub room_fits : (n : Number) (at m : ℕ) → HasObject ps n → at + m ≤ room_at (specs_of ps) n.pool → 128 + at + m ≤ (pool_in ps n.pool).size
+  room_fits n at m object h =
+      omega (arith, h, room_is ps n.pool, (are.rooms n.pool (object_pool ps n object)).header)
+
+  pub room_small : (n : Number) → HasObject ps n → room_at (specs_of ps) n.pool ≤ 4096
+  room_small n object = omega (arith, room_is ps n.pool, (are.rooms n.pool (object_pool ps n object)).room)
+
+  pub room_done : (n : Number) (k i at : ℕ) (bytes : List ℕ) (d o : Option PoolView) → k ≡ n.pool → i ≡ n.index → Small bytes → HasObject ps n → 128 + at + length bytes ≤ (pool_in ps n.pool).size → SlotBecomes (λ p. with_written p i (128 + at) bytes) (get_or pools k d) o → ((length (set pools k o) ≡ 8) × PoolsFirst (set pools k o)) × RoomWritten ps n at bytes (present (set pools k o))
+  room_done n k i at bytes d o ek ei small object fit b =
+      let there : n.pool < length ps = object_pool ps n object in
+      let left : o ≡ Some (with_written (pool_in ps n.pool) n.index (128 + at) bytes) =
+      subst (λ j. o ≡ Some (with_written (pool_in ps n.pool) j (128 + at) bytes)) ei
+      (subst (λ j. o ≡ Some (with_written (pool_in ps j) i (128 + at) bytes)) ek (becomes k d o (λ p. with_written p i (128 + at) bytes) (subst (λ j. j < length ps) (sym ek) there) b)) in
+      let r = replaced n.pool o (with_written (pool_in ps n.pool) n.index (128 + at) bytes) there left (rooms_written ps n are object (128 + at) bytes small fit) in
+      subst (λ j. ((length (set pools j o) ≡ 8) × PoolsFirst (set pools j o)) × RoomWritten ps n at bytes (present (set pools j o))) (sym ek)
+      (r.0, subst (RoomWritten ps n at bytes) (sym r.1) (room_written ps n at bytes are object small fit))
+
+  pub give_done : (n : Number) (k i : ℕ) (d o : Option PoolView) → k ≡ n.pool → i ≡ n.index → is_out ps n ≡ true → SlotBecomes (λ p. with_out p i false) (get_or pools k d) o → ((length (set pools k o) ≡ 8) × PoolsFirst (set pools k o)) × Given ps n (present (set pools k o))
+  give_done n k i d o ek ei out b =
+      let there : n.pool < length ps = out_pool ps n.pool n.index out in
+      let rooms = are.rooms n.pool there in
+      let left : o ≡ Some (with_out (pool_in ps n.pool) n.index false) =
+      subst (λ j. o ≡ Some (with_out (pool_in ps n.pool) j false)) ei
+      (subst (λ j. o ≡ Some (with_out (pool_in ps j) i false)) ek (becomes k d o (λ p. with_out p i false) (subst (λ j. j < length ps) (sym ek) there) b)) in
+      let r = replaced n.pool o (with_out (pool_in ps n.pool) n.index false) there left (record { pool = pool_out (pool_in ps n.pool) n.index false rooms.pool; header = rooms.header; room = rooms.room }) in
+      subst (λ j. ((length (set pools j o) ≡ 8) × PoolsFirst (set pools j o)) × Given ps n (present (set pools j o))) (sym ek)
+      (r.0, subst (Given ps n) (sym r.1) (given ps n are there (out_there (pool_in ps n.pool).out n.index out)))
+
+  -- an object handed out
+  pub take_some : (k i : ℕ) (d o : Option PoolView) → k < length ps → SlotGives (get_or pools k d) (Some i) o → ((length (set pools k o) ≡ 8) × PoolsFirst (set pools k o)) × Taken ps (record { pool = k; index = i }) (present (set pools k o))
+  take_some k i d o there b =
+      let rooms = are.rooms k there in
+      let g : (slice_get (pool_in ps k).out i ≡ Some false) × (o ≡ Some (with_out (pool_in ps k) i true)) =
+      subst (λ x. SlotGives x (Some i) o) (slot_is pools ps k d e there) b in
+      let r = replaced k o (with_out (pool_in ps k) i true) there g.1 (record { pool = pool_out (pool_in ps k) i true rooms.pool; header = rooms.header; room = rooms.room }) in
+      (r.0, subst (Taken ps (record { pool = k; index = i })) (sym r.1) (taken ps (record { pool = k; index = i }) are there g.0))
+
+  pub take_none : (k : ℕ) (d o : Option PoolView) → k < length ps → SlotGives (get_or pools k d) None o → ((length (set pools k o) ≡ 8) × PoolsFirst (set pools k o)) × (count_in ps k ≡ 0) × (present (set pools k o) ≡ ps)
+  take_none k d o there b =
+      let g : (count_by not (pool_in ps k).out ≡ 0) × (o ≡ Some (pool_in ps k)) =
+      subst (λ x. SlotGives x None o) (slot_is pools ps k d e there) b in
+      let r = replaced k o (pool_in ps k) there g.1 (are.rooms k there) in
+      (r.0, g.0, r.1 ∙ same ps k)
+    where
+      same : (ps : List PoolView) (k : ℕ) → set ps k (pool_in ps k) ≡ ps
+      same [] k = refl
+      same (p ∷ ps) zero = refl
+      same (p ∷ ps) (suc k) = ap (λ r. p ∷ r) (same ps k)
+
+-- ---- whether an object is out
+
+no_slot : (pools : List (Option PoolView)) (k i : ℕ) (d : Option PoolView) → AllByRecursion (λ o. o ≡ None) pools → k < length pools → slot_out (get_or pools k d) i ≡ false
+no_slot [] k i d all h = absurd (omega arith)
+no_slot (o ∷ pools) zero i d all h = ap (λ x. slot_out x i) all.0
+no_slot (o ∷ pools) (suc k) i d all h = no_slot pools k i d all.1 (omega arith)
+
+pub slot_out_is : (pools : List (Option PoolView)) (k i : ℕ) (d : Option PoolView) → PoolsFirst pools → k < length pools → slot_out (get_or pools k d) i ≡ get_or (pool_in (present pools) k).out i false
+slot_out_is [] k i d first h = absurd (omega arith)
+slot_out_is (None ∷ pools) zero i d first h = refl
+slot_out_is (None ∷ pools) (suc k) i d first h = no_slot pools k i d first (omega arith)
+slot_out_is (Some p ∷ pools) zero i d first h = refl
+slot_out_is (Some p ∷ pools) (suc k) i d first h = slot_out_is pools k i d first.1 (omega arith)
+
+pub out_is : (pools : List (Option PoolView)) (ps : List PoolView) (n : Number) (k i : ℕ) (d : Option PoolView) → present pools ≡ ps → (length pools ≡ 8) × PoolsFirst pools → k ≡ n.pool → i ≡ n.index → n.pool < 8 → slot_out (get_or pools k d) i ≡ is_out ps n
+out_is pools ps n k i d e inv ek ei h =
+    ap (λ j. slot_out (get_or pools j d) i) ek
+    ∙ (ap (λ j. slot_out (get_or pools n.pool d) j) ei
+    ∙ (slot_out_is pools n.pool n.index d inv.1 (omega (arith, h, inv.0)) ∙ ap (λ q. is_out q n) e))
+
+pub no_pool_out : (pools : List (Option PoolView)) (ps : List PoolView) (n : Number) → present pools ≡ ps → (length pools ≡ 8) × PoolsFirst pools → 8 ≤ n.pool → is_out ps n ≡ false
+no_pool_out pools ps n e inv h =
+    let few = (are pools ps e inv).few in
+    ap (λ p. get_or p.out n.index false) (get_or_past ps n.pool no_pool (omega (arith, few, h)))

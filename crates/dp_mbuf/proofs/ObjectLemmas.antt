@@ -1,0 +1,395 @@
+-- The pools of mbufs after a write into one.
+use Rattle.std.proofs.Common.{◌≡◌, ◌≢◌, ◌⊎◌, ℕ, zero, suc, ◌+◌, ◌-◌, ◌*◌, ◌/◌, ◌%◌, ◌<◌, ◌≤◌, Bool, true, false, List, [], ◌∷◌, ◌++◌, length, take, drop, Option, Some, None, refl, sym, ◌∙◌, ap, subst, arith, inl, inr, ⊎_elim, get_or, set, map}
+use Rattle.std.specs.Prelude.{count_by, not, slice_get, ◌&&◌}
+use Rattle.std.proofs.lemmas.Bool.{cases_eq, cases_Bool, eq-eqb, eqb-true, and_from}
+use Rattle.std.proofs.lemmas.List.{length-set, length-take-le, get_or-set_same, get_or-set_other, get_or_append_left, get_or-take, drop-drop, drop-take, drop-append-le}
+use Rattle.std.proofs.lemmas.Option.{same_Some}
+use Rattle.dp_model.specs.declared.env.PoolSpec.{PoolSpec}
+use Rattle.dp_model.specs.Environments.{room_at, count_at}
+use Rattle.dp_model.specs.Buffers.{Number, same_number, bytes_of, overwritten}
+use Rattle.dp_mbuf.specs.declared.header.Header.{Header}
+use Rattle.dp_mbuf.specs.Headers.{header_of, header_bytes, word, place}
+use Rattle.dp_mbuf.specs.Pools.{PoolView, object_in, with_written, with_out}
+use Rattle.dp_mbuf.specs.Objects.{present, no_pool, pool_in, header_at, is_out, count_in, spec_of, specs_of, rooms_of, buffers_of, HasObject, HasRooms, PoolsFirst, ArePools, HeaderSet, RoomWritten, Taken, Given}
+use Rattle.dp_mbuf.proofs.PoolLemmas.{one_if, count_set, some_below, Small, pool_out, pool_written, map_set, length_map}
+
+-- ---- numbers
+
+and_left : (a b : Bool) → (a && b) ≡ true → a ≡ true
+and_left true b e = refl
+and_left false b e = cc
+
+and_right : (a b : Bool) → (a && b) ≡ true → b ≡ true
+and_right true b e = e
+and_right false b e = cc
+
+pub number_eq : (a b : Number) → a.pool ≡ b.pool → a.index ≡ b.index → a ≡ b
+number_eq a b e d =
+    let f : ℕ → Number = λ x. record { pool = x; index = a.index } in
+    let g : ℕ → Number = λ y. record { pool = b.pool; index = y } in
+    ap f e ∙ ap g d
+
+pub same_is : (n m : Number) → same_number n m ≡ true → n ≡ m
+same_is n m e = number_eq n m (eqb-true n.pool m.pool (and_left _ _ e)) (eqb-true n.index m.index (and_right _ _ e))
+
+pub same_self : (n : Number) → same_number n n ≡ true
+same_self n = and_from _ _ (eq-eqb n.pool n.pool refl) (eq-eqb n.index n.index refl)
+
+-- either the same, or not
+pub same_or : (n m : Number) → (n ≡ m) ⊎ (same_number n m ≡ false)
+same_or n m = ⊎_elim (λ t. inl (same_is n m t)) (λ f. inr f) (cases_Bool (same_number n m))
+
+pub other_index : (n m : Number) → same_number n m ≡ false → n.pool ≡ m.pool → m.index ≢ n.index
+other_index n m f e i =
+    let t : same_number n m ≡ true = and_from _ _ (eq-eqb n.pool m.pool e) (eq-eqb n.index m.index (sym i)) in cc
+
+-- ---- reading a header back
+
+pub header_eq : (g h : Header) → g.segs ≡ h.segs → g.refs ≡ h.refs → g.offset ≡ h.offset → g.len ≡ h.len → g.next ≡ h.next → g.last ≡ h.last → g.buffer ≡ h.buffer → g ≡ h
+header_eq g h a b c d e f i =
+    let m : (s r o l : ℕ) (x y z : Number) → Header =
+    λ s r o l x y z. record { segs = s; refs = r; offset = o; len = l; next = x; last = y; buffer = z } in
+    ap (λ s. m s g.refs g.offset g.len g.next g.last g.buffer) a
+    ∙ (ap (λ r. m h.segs r g.offset g.len g.next g.last g.buffer) b
+    ∙ (ap (λ o. m h.segs h.refs o g.len g.next g.last g.buffer) c
+    ∙ (ap (λ l. m h.segs h.refs h.offset l g.next g.last g.buffer) d
+    ∙ (ap (λ x. m h.segs h.refs h.offset h.len x g.last g.buffer) e
+    ∙ (ap (λ y. m h.segs h.refs h.offset h.len h.next y g.buffer) f
+    ∙ ap (λ z. m h.segs h.refs h.offset h.len h.next h.last z) i)))))
+
+word_back : (x : ℕ) → x % 256 + (x / 256) * 256 ≡ x
+word_back x = omega arith
+
+place_back : (n : Number) → record { pool = n.pool % 256 + (n.pool / 256) * 256; index = n.index % 256 + (n.index / 256) * 256 } ≡ n
+place_back n = number_eq _ n (word_back n.pool) (word_back n.index)
+
+pub header_back : (h : Header) (rest : List ℕ) → header_of (header_bytes h ++ rest) ≡ h
+unfolding header_of
+header_back h rest =
+    header_eq _ h (word_back h.segs) (omega (arith, word_back (h.refs % 65536), word_back (h.refs / 65536))) (word_back h.offset) (word_back h.len) (place_back h.next) (place_back h.last) (place_back h.buffer)
+
+word_same : (xs ys : List ℕ) (a : ℕ) → ((k : ℕ) → k < 128 → get_or xs k 0 ≡ get_or ys k 0) → a + 1 < 128 → word xs a ≡ word ys a
+word_same xs ys a e h = omega (arith, e a (omega arith), e (a + 1) h)
+
+place_same : (xs ys : List ℕ) (a : ℕ) → ((k : ℕ) → k < 128 → get_or xs k 0 ≡ get_or ys k 0) → a + 3 < 128 → place xs a ≡ place ys a
+place_same xs ys a e h = number_eq _ _ (word_same xs ys a e (omega arith)) (word_same xs ys (a + 2) e (omega arith))
+
+-- a header depends on the first bytes alone
+pub header_same : (xs ys : List ℕ) → ((k : ℕ) → k < 128 → get_or xs k 0 ≡ get_or ys k 0) → header_of xs ≡ header_of ys
+unfolding header_of
+header_same xs ys e =
+    header_eq (header_of xs) (header_of ys) (word_same xs ys 0 e (omega arith)) (omega (arith, word_same xs ys 2 e (omega arith), word_same xs ys 4 e (omega arith))) (word_same xs ys 6 e (omega arith)) (word_same xs ys 8 e (omega arith)) (place_same xs ys 10 e (omega arith)) (place_same xs ys 14 e (omega arith)) (place_same xs ys 18 e (omega arith))
+
+-- ---- tables
+
+pub map_get : {V W : Type 0} (f : V → W) (xs : List V) (i : ℕ) (d : V) → get_or (map f xs) i (f d) ≡ f (get_or xs i d)
+map_get f [] i d = refl
+map_get f (x ∷ xs) zero d = refl
+map_get f (x ∷ xs) (suc i) d = map_get f xs i d
+
+pub map_kept : {V W : Type 0} (f : V → W) (xs : List V) (i : ℕ) (x d : V) → f x ≡ f (get_or xs i d) → map f (set xs i x) ≡ map f xs
+map_kept f [] i x d e = refl
+map_kept f (y ∷ xs) zero x d e = ap (λ z. z ∷ map f xs) e
+map_kept f (y ∷ xs) (suc i) x d e = ap (λ r. f y ∷ r) (map_kept f xs i x d e)
+
+-- ---- what is first
+
+pub present_below : (pools : List (Option PoolView)) → length (present pools) ≤ length pools
+present_below [] = omega arith
+present_below (None ∷ pools) = omega arith
+present_below (Some p ∷ pools) = let q = present_below pools in omega (arith, q)
+
+pub present_at : (pools : List (Option PoolView)) (k : ℕ) (d : Option PoolView) → k < length (present pools) → get_or pools k d ≡ Some (pool_in (present pools) k)
+present_at [] k d h = absurd (omega arith)
+present_at (None ∷ pools) k d h = absurd (omega arith)
+present_at (Some p ∷ pools) zero d h = refl
+present_at (Some p ∷ pools) (suc k) d h = present_at pools k d (omega arith)
+
+pub present_set : (pools : List (Option PoolView)) (k : ℕ) (p : PoolView) → k < length (present pools) → present (set pools k (Some p)) ≡ set (present pools) k p
+present_set [] k p h = absurd (omega arith)
+present_set (None ∷ pools) k p h = absurd (omega arith)
+present_set (Some q ∷ pools) zero p h = refl
+present_set (Some q ∷ pools) (suc k) p h = ap (λ ps. q ∷ ps) (present_set pools k p (omega arith))
+
+pub first_at : (pools : List (Option PoolView)) (k : ℕ) → PoolsFirst pools → k < length (present pools) → HasRooms (pool_in (present pools) k)
+first_at [] k f h = absurd (omega arith)
+first_at (None ∷ pools) k f h = absurd (omega arith)
+first_at (Some p ∷ pools) zero f h = f.0
+first_at (Some p ∷ pools) (suc k) f h = first_at pools k f.1 (omega arith)
+
+pub first_set : (pools : List (Option PoolView)) (k : ℕ) (p : PoolView) → PoolsFirst pools → k < length (present pools) → HasRooms p → PoolsFirst (set pools k (Some p))
+first_set [] k p f h r = absurd (omega arith)
+first_set (None ∷ pools) k p f h r = absurd (omega arith)
+first_set (Some q ∷ pools) zero p f h r = (r, f.1)
+first_set (Some q ∷ pools) (suc k) p f h r = (f.0, first_set pools k p f.1 (omega arith) r)
+
+pub are_pools : (pools : List (Option PoolView)) → length pools ≡ 8 → PoolsFirst pools → ArePools (present pools)
+are_pools pools e f = record { few = omega (arith, e, present_below pools); rooms = λ k h. first_at pools k f h }
+
+-- an object's pool is there
+pub object_pool : (ps : List PoolView) (n : Number) → HasObject ps n → n.pool < length ps
+object_pool ps n h = below ps n.pool n.index h
+  where
+    below : (ps : List PoolView) (k i : ℕ) → i < length (pool_in ps k).objects → k < length ps
+    below [] k i h = absurd (omega arith)
+    below (p ∷ ps) zero i h = omega arith
+    below (p ∷ ps) (suc k) i h = let q = below ps k i h in omega (arith, q)
+
+-- ---- one pool written
+
+module _ (ps : List PoolView) (k : ℕ) (there : k < length ps) (p' : PoolView) where
+  abbrev after : List PoolView
+  after = set ps k p'
+
+  pub here : pool_in after k ≡ p'
+  here = get_or-set_same ps k p' no_pool there
+
+  pub elsewhere : (j : ℕ) → j ≢ k → pool_in after j ≡ pool_in ps j
+  elsewhere j ne = get_or-set_other ps k j p' no_pool ne
+
+  -- what the pool keeps, all keep
+  pub field_kept : {X : Type 0} (g : PoolView → X) → g p' ≡ g (pool_in ps k) → (j : ℕ) → g (pool_in (set ps k p') j) ≡ g (pool_in ps j)
+  field_kept g e j = ⊎_elim
+      (λ s. subst (λ i. g (pool_in (set ps k p') i) ≡ g (pool_in ps i)) (sym s) (ap g here ∙ e))
+      (λ ne. ap g (elsewhere j ne))
+      (cases_eq j k)
+
+  pub specs_kept : spec_of p' ≡ spec_of (pool_in ps k) → specs_of (set ps k p') ≡ specs_of ps
+  specs_kept e = map_kept spec_of ps k p' no_pool e
+
+  pub buffers_kept : rooms_of p' ≡ rooms_of (pool_in ps k) → buffers_of (set ps k p') ≡ buffers_of ps
+  buffers_kept e = map_kept rooms_of ps k p' no_pool e
+
+  pub pools_kept : ArePools ps → HasRooms p' → ArePools (set ps k p')
+  pools_kept a r = record {
+    few = omega (arith, a.few, length-set ps k p');
+    rooms = λ j h. ⊎_elim
+        (λ s. subst (λ i. HasRooms (pool_in (set ps k p') i)) (sym s) (subst HasRooms (sym here) r))
+        (λ ne. subst HasRooms (sym (elsewhere j ne)) (a.rooms j (omega (arith, h, length-set ps k p'))))
+        (cases_eq j k);
+  }
+
+-- ---- rooms and counts
+
+pub room_is : (ps : List PoolView) (k : ℕ) → room_at (specs_of ps) k ≡ (pool_in ps k).size - 128
+room_is [] k = refl
+room_is (p ∷ ps) zero = refl
+room_is (p ∷ ps) (suc k) = room_is ps k
+
+pub count_is : (ps : List PoolView) (k : ℕ) → count_at (specs_of ps) k ≡ length (pool_in ps k).objects
+count_is [] k = refl
+count_is (p ∷ ps) zero = refl
+count_is (p ∷ ps) (suc k) = count_is ps k
+
+pub length_specs : (ps : List PoolView) → length (specs_of ps) ≡ length ps
+length_specs ps = length_map spec_of ps
+
+pub bytes_are : (ps : List PoolView) (n : Number) → bytes_of (buffers_of ps) n ≡ drop 128 (object_in (pool_in ps n.pool) n.index)
+bytes_are ps n =
+    ap (λ r. get_or r n.index []) (map_get rooms_of ps n.pool no_pool) ∙ map_get (drop 128) (pool_in ps n.pool).objects n.index []
+
+-- ---- an object written
+
+module _ (ps : List PoolView) (n : Number) (are : ArePools ps) (object : HasObject ps n) (at : ℕ) (bytes : List ℕ) (small : Small bytes) (fits : at + length bytes ≤ (pool_in ps n.pool).size) where
+  abbrev p : PoolView
+  p = pool_in ps n.pool
+
+  abbrev old : List ℕ
+  old = object_in p n.index
+
+  abbrev now : List ℕ
+  now = overwritten old at bytes
+
+  abbrev pub written_pools : List PoolView
+  written_pools = set ps n.pool (with_written p n.index at bytes)
+
+  there : n.pool < length ps
+  there = object_pool ps n object
+
+  rooms : HasRooms p
+  rooms = are.rooms n.pool there
+
+  pub rooms_written : HasRooms (with_written p n.index at bytes)
+  rooms_written = record { pool = pool_written p n.index at bytes rooms.pool object fits small; header = rooms.header; room = rooms.room }
+
+  pub are_written : ArePools written_pools
+  are_written = pools_kept ps n.pool there (with_written p n.index at bytes) are rooms_written
+
+  pub specs_written : specs_of written_pools ≡ specs_of ps
+  specs_written =
+      let f : ℕ → PoolSpec = λ c. record { count = c; cache = p.cache; room = p.size - 128 } in
+      specs_kept ps n.pool there (with_written p n.index at bytes) (ap f (length-set p.objects n.index now))
+
+  pub outs_written : (m : Number) → is_out written_pools m ≡ is_out ps m
+  outs_written m =
+      field_kept ps n.pool there (with_written p n.index at bytes) (λ q. get_or q.out m.index false) refl m.pool
+
+  pub ins_written : (k : ℕ) → count_in written_pools k ≡ count_in ps k
+  ins_written k = field_kept ps n.pool there (with_written p n.index at bytes) (λ q. count_by not q.out) refl k
+
+  pub object_written : object_in (pool_in written_pools n.pool) n.index ≡ now
+  object_written =
+      ap (λ q. object_in q n.index) (here ps n.pool there (with_written p n.index at bytes))
+      ∙ get_or-set_same p.objects n.index now [] object
+
+  pub object_kept : (m : Number) → same_number n m ≡ false → object_in (pool_in written_pools m.pool) m.index ≡ object_in (pool_in ps m.pool) m.index
+  object_kept m ne = ⊎_elim
+      (λ e. ap (λ k. object_in (pool_in written_pools k) m.index) (sym e)
+      ∙ (ap (λ q. object_in q m.index) (here ps n.pool there (with_written p n.index at bytes))
+      ∙ (get_or-set_other p.objects n.index m.index now [] (other_index n m ne e)
+      ∙ ap (λ k. object_in (pool_in ps k) m.index) e)))
+      (λ d. ap (λ q. object_in q m.index) (elsewhere ps n.pool there (with_written p n.index at bytes) m.pool (λ e. d (sym e))))
+      (cases_eq n.pool m.pool)
+
+-- ---- a header set
+
+behind_header : (h : Header) (old : List ℕ) → drop 128 (header_bytes h ++ drop 22 old) ≡ drop 128 old
+behind_header h old = drop-drop 106 22 old
+
+pub header_set : (ps : List PoolView) (n : Number) (h : Header) (bytes : List ℕ) → ArePools ps → HasObject ps n → bytes ≡ header_bytes h → Small bytes → 0 + length bytes ≤ (pool_in ps n.pool).size → HeaderSet ps n h (set ps n.pool (with_written (pool_in ps n.pool) n.index 0 bytes))
+header_set ps n h bytes are object e small fits =
+    let p : PoolView = pool_in ps n.pool in
+    let old : List ℕ = object_in p n.index in
+    let is : overwritten old 0 bytes ≡ header_bytes h ++ drop 22 old = ap (overwritten old 0) e in
+    record {
+      are = are_written ps n are object 0 bytes small fits;
+      specs = specs_written ps n are object 0 bytes small fits;
+      buffers =
+          buffers_kept ps n.pool (object_pool ps n object) (with_written p n.index 0 bytes)
+          (map_kept (drop 128) p.objects n.index (overwritten old 0 bytes) [] (ap (drop 128) is ∙ behind_header h old));
+      outs = outs_written ps n are object 0 bytes small fits;
+      ins = ins_written ps n are object 0 bytes small fits;
+      here =
+          ap header_of (object_written ps n are object 0 bytes small fits ∙ is) ∙ header_back h (drop 22 old);
+      others = λ m ne. ap header_of (object_kept ps n are object 0 bytes small fits m ne);
+    }
+
+-- ---- a room written
+
+head_kept : (old : List ℕ) (at : ℕ) (new : List ℕ) (k : ℕ) → 128 + at + length new ≤ length old → k < 128 → get_or (overwritten old (128 + at) new) k 0 ≡ get_or old k 0
+head_kept old at new k h b =
+    let l : length (take (128 + at) old) ≡ 128 + at = length-take-le (128 + at) old (omega arith) in
+    get_or_append_left (take (128 + at) old) (new ++ drop (128 + at + length new) old) 0 k (omega (arith, l, b))
+    ∙ get_or-take (128 + at) old k 0 (omega arith)
+
+rest_written : (old : List ℕ) (at : ℕ) (new : List ℕ) → 128 + at + length new ≤ length old → drop 128 (overwritten old (128 + at) new) ≡ overwritten (drop 128 old) at new
+rest_written old at new h =
+    let l : length (take (128 + at) old) ≡ 128 + at = length-take-le (128 + at) old (omega arith) in
+    let s : 128 + (at + length new) ≡ 128 + at + length new = omega arith in
+    drop-append-le 128 (take (128 + at) old) (new ++ drop (128 + at + length new) old) (omega (arith, l))
+    ∙ (ap (λ x. x ++ (new ++ drop (128 + at + length new) old)) (drop-take 128 at old)
+    ∙ ap (λ y. take at (drop 128 old) ++ (new ++ y)) (sym (drop-drop (at + length new) 128 old ∙ ap (λ i. drop i old) s)))
+
+pub room_written : (ps : List PoolView) (n : Number) (at : ℕ) (bytes : List ℕ) → ArePools ps → HasObject ps n → Small bytes → 128 + at + length bytes ≤ (pool_in ps n.pool).size → RoomWritten ps n at bytes (set ps n.pool (with_written (pool_in ps n.pool) n.index (128 + at) bytes))
+room_written ps n at bytes are object small fits =
+    let p : PoolView = pool_in ps n.pool in
+    let old : List ℕ = object_in p n.index in
+    let there : n.pool < length ps = object_pool ps n object in
+    let size : length old ≡ p.size = (are.rooms n.pool there).pool.sizes n.index object in
+    let fit : 128 + at + length bytes ≤ length old = omega (arith, size, fits) in
+    record {
+      are = are_written ps n are object (128 + at) bytes small fits;
+      specs = specs_written ps n are object (128 + at) bytes small fits;
+      buffers =
+          map_set rooms_of ps n.pool (with_written p n.index (128 + at) bytes)
+          ∙ (ap (λ r. set (buffers_of ps) n.pool r) (map_set (drop 128) p.objects n.index (overwritten old (128 + at) bytes))
+          ∙ (ap (λ o. set (buffers_of ps) n.pool (set (rooms_of p) n.index o)) (rest_written old at bytes fit)
+          ∙ (ap (λ o. set (buffers_of ps) n.pool (set (rooms_of p) n.index (overwritten o at bytes))) (sym (bytes_are ps n))
+          ∙ ap (λ r. set (buffers_of ps) n.pool (set r n.index (overwritten (bytes_of (buffers_of ps) n) at bytes))) (sym (map_get rooms_of ps n.pool no_pool)))));
+      outs = outs_written ps n are object (128 + at) bytes small fits;
+      ins = ins_written ps n are object (128 + at) bytes small fits;
+      headers = λ m. ⊎_elim
+          (λ e. subst (λ i. header_at (set ps n.pool (with_written p n.index (128 + at) bytes)) i ≡ header_at ps i) e
+          (ap header_of (object_written ps n are object (128 + at) bytes small fits)
+          ∙ header_same (overwritten old (128 + at) bytes) old (λ k b. head_kept old at bytes k fit b)))
+          (λ ne. ap header_of (object_kept ps n are object (128 + at) bytes small fits m ne))
+          (same_or n m);
+    }
+
+-- ---- in and out
+
+out_at : (row : List Bool) (i : ℕ) (b : Bool) → slice_get row i ≡ Some b → get_or row i false ≡ b
+out_at [] i b h = cc
+out_at (x ∷ row) zero b h = same_Some x b h
+out_at (x ∷ row) (suc i) b h = out_at row i b h
+
+module _ (ps : List PoolView) (n : Number) (are : ArePools ps) (there : n.pool < length ps) (b : Bool) (was : Bool) (is : slice_get (pool_in ps n.pool).out n.index ≡ Some was) where
+  abbrev q : PoolView
+  q = pool_in ps n.pool
+
+  abbrev moved : List PoolView
+  moved = set ps n.pool (with_out q n.index b)
+
+  abbrev below : n.index < length q.out
+  below = some_below q.out n.index was is
+
+  are_moved : ArePools moved
+  are_moved =
+      let r = are.rooms n.pool there in
+      pools_kept ps n.pool there (with_out q n.index b) are
+      (record { pool = pool_out q n.index b r.pool; header = r.header; room = r.room })
+
+  header_moved : (m : Number) → header_at moved m ≡ header_at ps m
+  header_moved m =
+      field_kept ps n.pool there (with_out q n.index b) (λ x. header_of (object_in x m.index)) refl m.pool
+
+  here_moved : is_out moved n ≡ b
+  here_moved =
+      ap (λ x. get_or x.out n.index false) (here ps n.pool there (with_out q n.index b))
+      ∙ get_or-set_same q.out n.index b false below
+
+  others_moved : (m : Number) → same_number n m ≡ false → is_out moved m ≡ is_out ps m
+  others_moved m ne = ⊎_elim
+      (λ e. ap (λ k. get_or (pool_in moved k).out m.index false) (sym e)
+      ∙ (ap (λ x. get_or x.out m.index false) (here ps n.pool there (with_out q n.index b))
+      ∙ (get_or-set_other q.out n.index m.index b false (other_index n m ne e)
+      ∙ ap (λ k. get_or (pool_in ps k).out m.index false) e)))
+      (λ d. ap (λ x. get_or x.out m.index false) (elsewhere ps n.pool there (with_out q n.index b) m.pool (λ e. d (sym e))))
+      (cases_eq n.pool m.pool)
+
+  counted_moved : count_in moved n.pool + one_if (not was) ≡ count_in ps n.pool + one_if (not b)
+  counted_moved =
+      let e = ap (λ x. count_by not x.out) (here ps n.pool there (with_out q n.index b)) in
+      omega (arith, e, count_set q.out n.index was b is)
+
+pub taken : (ps : List PoolView) (n : Number) → ArePools ps → n.pool < length ps → slice_get (pool_in ps n.pool).out n.index ≡ Some false → Taken ps n (set ps n.pool (with_out (pool_in ps n.pool) n.index true))
+taken ps n are there is = record {
+  are = are_moved ps n are there true false is;
+  specs = specs_kept ps n.pool there (with_out (pool_in ps n.pool) n.index true) refl;
+  buffers = buffers_kept ps n.pool there (with_out (pool_in ps n.pool) n.index true) refl;
+  headers = header_moved ps n are there true false is;
+  object = omega (arith, some_below (pool_in ps n.pool).out n.index false is, (are.rooms n.pool there).pool.out);
+  was = out_at (pool_in ps n.pool).out n.index false is;
+  here = here_moved ps n are there true false is;
+  others = others_moved ps n are there true false is;
+  ins = omega (arith, counted_moved ps n are there true false is);
+}
+
+pub given : (ps : List PoolView) (n : Number) → ArePools ps → n.pool < length ps → slice_get (pool_in ps n.pool).out n.index ≡ Some true → Given ps n (set ps n.pool (with_out (pool_in ps n.pool) n.index false))
+given ps n are there is = record {
+  are = are_moved ps n are there false true is;
+  specs = specs_kept ps n.pool there (with_out (pool_in ps n.pool) n.index false) refl;
+  buffers = buffers_kept ps n.pool there (with_out (pool_in ps n.pool) n.index false) refl;
+  headers = header_moved ps n are there false true is;
+  here = here_moved ps n are there false true is;
+  others = others_moved ps n are there false true is;
+}
+
+-- ---- places for pools
+
+pub slot_is : (pools : List (Option PoolView)) (ps : List PoolView) (k : ℕ) (d : Option PoolView) → present pools ≡ ps → k < length ps → get_or pools k d ≡ Some (pool_in ps k)
+slot_is pools ps k d e h =
+    subst (λ q. get_or pools k d ≡ Some (pool_in q k)) e (present_at pools k d (subst (λ q. k < length q) (sym e) h))
+
+pub slot_below : (pools : List (Option PoolView)) (ps : List PoolView) (k : ℕ) → present pools ≡ ps → k < length ps → k < length pools
+slot_below pools ps k e h =
+    let b : k < length (present pools) = subst (λ q. k < length q) (sym e) h in omega (arith, b, present_below pools)
+
+pub slot_set : (pools : List (Option PoolView)) (ps : List PoolView) (k : ℕ) (o : Option PoolView) (p : PoolView) → present pools ≡ ps → k < length ps → o ≡ Some p → present (set pools k o) ≡ set ps k p
+slot_set pools ps k o p e h eo =
+    ap (λ x. present (set pools k x)) eo
+    ∙ (present_set pools k p (subst (λ q. k < length q) (sym e) h) ∙ ap (λ q. set q k p) e)
+
+pub slot_first : (pools : List (Option PoolView)) (ps : List PoolView) (k : ℕ) (o : Option PoolView) (p : PoolView) → present pools ≡ ps → k < length ps → o ≡ Some p → PoolsFirst pools → HasRooms p → PoolsFirst (set pools k o)
+slot_first pools ps k o p e h eo first rooms =
+    subst (λ x. PoolsFirst (set pools k x)) (sym eo) (first_set pools k p first (subst (λ q. k < length q) (sym e) h) rooms)

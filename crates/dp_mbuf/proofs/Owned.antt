@@ -1,0 +1,157 @@
+-- The world of an `Mbufs` is well formed.
+use Rattle.std.proofs.Common.{◌≡◌, ℕ, zero, suc, ◌+◌, ◌<◌, ◌≤◌, Bool, true, false, cond, List, [], ◌∷◌, length, sym, ◌∙◌, ap, subst, arith, ⊎_elim, map}
+use Rattle.std.specs.Prelude.{◌&&◌, not}
+use Rattle.std.specs.List.{AllByRecursion}
+use Rattle.std.proofs.lemmas.Bool.{cases_eq}
+use Rattle.std.proofs.lemmas.List.Sums.{sum_by-cons}
+use Rattle.dp_model.specs.declared.env.PoolSpec.{PoolSpec}
+use Rattle.dp_model.specs.Environments.{count_at}
+use Rattle.dp_model.specs.Buffers.{Number, same_number, IsNumber, AreDistinct}
+use Rattle.dp_model.specs.Packets.{Segment, refs, AreOwned, IsWithin}
+use Rattle.dp_model.specs.Machine.{segments_held}
+use Rattle.dp_model.specs.Stores.{Store, segments_of}
+use Rattle.dp_mbuf.specs.Pools.{PoolView}
+use Rattle.dp_mbuf.specs.Objects.{specs_of}
+use Rattle.dp_mbuf.specs.Mbufs.{mbufs, indirects, slots_of, shown, Sound, mbufs_in_all}
+use Rattle.dp_mbuf.proofs.PoolLemmas.{one_if}
+use Rattle.dp_mbuf.proofs.ObjectLemmas.{same_or, same_self}
+use Rattle.dp_mbuf.proofs.Counting.{mbufs-cons, mbufs_first, refs-cons, refs_le, indirects-cons}
+use Rattle.dp_mbuf.proofs.Receiving.{buffer_long, are_bytes}
+
+apart_from : (n : Number) (ss : List Segment) → mbufs ss n ≡ 0 → AllByRecursion (λ m. same_number n m ≡ false) (map (λ s. s.mbuf) ss)
+apart_from n [] z = tt
+apart_from n (s ∷ ss) z = (
+  ⊎_elim
+      (λ e. absurd (let y = ap (mbufs (s ∷ ss)) e in omega (arith, z, y, mbufs_first s ss)))
+      (λ d. d)
+      (same_or n s.mbuf),
+  apart_from n ss (omega (arith, z, mbufs-cons s ss n)),
+)
+
+distinct : (ss : List Segment) → ((n : Number) → mbufs ss n ≤ 1) → AreDistinct (map (λ s. s.mbuf) ss)
+distinct [] once = tt
+distinct (s ∷ ss) once = (
+  apart_from s.mbuf ss (let o = once s.mbuf in omega (arith, o, mbufs_first s ss)),
+  distinct ss (λ n. let o = once n in omega (arith, o, mbufs-cons s ss n)),
+)
+
+-- each of some segments, with its counts among all
+each_of : (P : Segment → Type 0) (all ss : List Segment) → ((s : Segment) → ((n : Number) → one_if (same_number s.buffer n) ≤ refs all n) → ((n : Number) → one_if (same_number s.mbuf n && not (same_number s.buffer n)) ≤ indirects all n) → P s) → ((n : Number) → refs ss n ≤ refs all n) → ((n : Number) → indirects ss n ≤ indirects all n) → AllByRecursion P ss
+each_of P all [] f r i = tt
+each_of P all (s ∷ ss) f r i = (
+  f s (λ n. let q = r n in omega (arith, q, refs-cons s ss n)) (λ n. let q = i n in omega (arith, q, indirects-cons s ss n)),
+  each_of P all ss f (λ n. let q = r n in omega (arith, q, refs-cons s ss n)) (λ n. let q = i n in omega (arith, q, indirects-cons s ss n)),
+)
+
+one_true : (b : Bool) → b ≡ true → one_if b ≡ 1
+one_true b e = let one : ℕ = 1 in ap (λ x. cond x one 0) e
+
+directs : (ss : List Segment) → ((n : Number) → 1 ≤ indirects ss n → refs ss n ≡ 0) → AllByRecursion (λ s. AllByRecursion (λ t. s.buffer ≡ t.mbuf → t.buffer ≡ t.mbuf) ss) ss
+directs ss direct =
+    each_of (λ s. AllByRecursion (λ t. s.buffer ≡ t.mbuf → t.buffer ≡ t.mbuf) ss) ss ss
+    (λ s rs _. each_of (λ t. s.buffer ≡ t.mbuf → t.buffer ≡ t.mbuf) ss ss
+    (λ t _ it e. ⊎_elim
+    (λ own. own)
+    (λ d. absurd (let some = it t.mbuf in
+    let is : one_if (same_number t.mbuf t.mbuf && not (same_number t.buffer t.mbuf)) ≡ 1 =
+    one_true (same_number t.mbuf t.mbuf && not (same_number t.buffer t.mbuf)) (ap (λ b. b && not (same_number t.buffer t.mbuf)) (same_self t.mbuf) ∙ ap not d) in
+    let none = direct t.mbuf (omega (arith, some, is)) in
+    let has = rs t.mbuf in
+    let at : one_if (same_number s.buffer t.mbuf) ≡ 1 = one_true (same_number s.buffer t.mbuf) (ap (λ m. same_number m t.mbuf) e ∙ same_self t.mbuf) in
+    omega (arith, none, has, at)))
+    (same_or t.buffer t.mbuf))
+    (λ n. omega arith) (λ n. omega arith))
+    (λ n. omega arith) (λ n. omega arith)
+
+pub owned : (ps : List PoolView) (v : Store) → shown ps ≡ v → Sound ps → AreOwned v.pools (segments_of v)
+owned ps v e sound =
+    subst (λ s. AreOwned s.pools (segments_of s)) e
+    (record {
+      mbufs = sound.counted.numbers;
+      once = distinct (segments_held (slots_of ps)) sound.counted.once;
+      direct = directs (segments_held (slots_of ps)) sound.counted.direct;
+    })
+
+pub within : (ps : List PoolView) (v : Store) → shown ps ≡ v → Sound ps → IsWithin v.pools v.buffers (segments_of v)
+within ps v e sound =
+    subst (λ s. IsWithin s.pools s.buffers (segments_of s)) e
+    (record {
+      rooms = λ b h. buffer_long ps b sound.are h;
+      bytes = are_bytes ps sound.are;
+      lie = sound.counted.lie;
+    })
+
+-- ---- no more segments than mbufs
+
+row : (Number → ℕ) → ℕ → ℕ → ℕ
+row f k zero = 0
+row f k (suc i) = f (record { pool = k; index = i }) + row f k i
+
+rows : (Number → ℕ) → ℕ → List PoolSpec → ℕ
+rows f k [] = 0
+rows f k (s ∷ specs) = row f k s.count + rows f (suc k) specs
+
+row_few : (f : Number → ℕ) (k i : ℕ) → ((n : Number) → f n ≤ 1) → row f k i ≤ i
+unfolding row
+row_few f k zero h = omega arith
+row_few f k (suc i) h = let q = row_few f k i h in let o = h (record { pool = k; index = i }) in omega (arith, q, o)
+
+rows_few : (f : Number → ℕ) (k : ℕ) (specs : List PoolSpec) → ((n : Number) → f n ≤ 1) → rows f k specs ≤ mbufs_in_all specs
+unfolding rows
+rows_few f k [] h = omega arith
+rows_few f k (s ∷ specs) h =
+    let q = rows_few f (suc k) specs h in
+    omega (arith, q, row_few f k s.count h, sum_by-cons (λ x. x.count) s specs)
+
+row_more : (f g : Number → ℕ) (k i : ℕ) → ((n : Number) → f n ≤ g n) → row f k i ≤ row g k i
+unfolding row
+row_more f g k zero h = omega arith
+row_more f g k (suc i) h =
+    let q = row_more f g k i h in let o = h (record { pool = k; index = i }) in omega (arith, q, o)
+
+rows_more : (f g : Number → ℕ) (k : ℕ) (specs : List PoolSpec) → ((n : Number) → f n ≤ g n) → rows f k specs ≤ rows g k specs
+unfolding rows
+rows_more f g k [] h = omega arith
+rows_more f g k (s ∷ specs) h =
+    let q = rows_more f g (suc k) specs h in omega (arith, q, row_more f g k s.count h)
+
+row_one : (f g : Number → ℕ) (k i j : ℕ) → j < i → ((n : Number) → f n ≤ g n) → f (record { pool = k; index = j }) + 1 ≤ g (record { pool = k; index = j }) → row f k i + 1 ≤ row g k i
+unfolding row
+row_one f g k zero j b h o = absurd (omega arith)
+row_one f g k (suc i) j b h o = ⊎_elim
+    (λ e. let x = ap (λ y. f (record { pool = k; index = y })) e in
+    let y = ap (λ y. g (record { pool = k; index = y })) e in
+    omega (arith, row_more f g k i h, o, x, y))
+    (λ ne. let q = row_one f g k i j (omega (arith, b, ne)) h o in let c = h (record { pool = k; index = i }) in omega (arith, q, c))
+    (cases_eq j i)
+
+rows_one : (f g : Number → ℕ) (k p j : ℕ) (specs : List PoolSpec) → j < count_at specs p → ((n : Number) → f n ≤ g n) → f (record { pool = k + p; index = j }) + 1 ≤ g (record { pool = k + p; index = j }) → rows f k specs + 1 ≤ rows g k specs
+unfolding rows
+rows_one f g k p j [] b h o = absurd (omega arith)
+rows_one f g k zero j (s ∷ specs) b h o =
+    let e : k + 0 ≡ k = omega arith in
+    let o' : f (record { pool = k; index = j }) + 1 ≤ g (record { pool = k; index = j }) = subst (λ x. f (record { pool = x; index = j }) + 1 ≤ g (record { pool = x; index = j })) e o in
+    omega (arith, row_one f g k s.count j b h o', rows_more f g (suc k) specs h)
+rows_one f g k (suc p) j (s ∷ specs) b h o =
+    let e : k + suc p ≡ suc k + p = omega arith in
+    let o' : f (record { pool = suc k + p; index = j }) + 1 ≤ g (record { pool = suc k + p; index = j }) = subst (λ x. f (record { pool = x; index = j }) + 1 ≤ g (record { pool = x; index = j })) e o in
+    omega (arith, rows_one f g (suc k) p j specs b h o', row_more f g k s.count h)
+
+nothing_rows : (k : ℕ) (specs : List PoolSpec) → 0 ≤ rows (mbufs []) k specs
+nothing_rows k specs = omega arith
+
+all_counted : (specs : List PoolSpec) (ss : List Segment) → AllByRecursion (λ s. IsNumber specs s.mbuf) ss → length ss ≤ rows (mbufs ss) 0 specs
+all_counted specs [] a = omega arith
+all_counted specs (s ∷ ss) a =
+    let q = all_counted specs ss a.1 in
+    let e : 0 + s.mbuf.pool ≡ s.mbuf.pool = omega arith in
+    let o : mbufs ss s.mbuf + 1 ≤ mbufs (s ∷ ss) s.mbuf = omega (arith, mbufs_first s ss) in
+    let o' : mbufs ss (record { pool = 0 + s.mbuf.pool; index = s.mbuf.index }) + 1 ≤ mbufs (s ∷ ss) (record { pool = 0 + s.mbuf.pool; index = s.mbuf.index }) =
+    subst (λ x. mbufs ss (record { pool = x; index = s.mbuf.index }) + 1 ≤ mbufs (s ∷ ss) (record { pool = x; index = s.mbuf.index })) (sym e) o in
+    let one = rows_one (mbufs ss) (mbufs (s ∷ ss)) 0 s.mbuf.pool s.mbuf.index specs a.0 (λ n. omega (arith, mbufs-cons s ss n)) o' in
+    omega (arith, q, one)
+
+pub few_refs : (ps : List PoolView) (v : Store) → shown ps ≡ v → Sound ps → (b : Number) → refs (segments_of v) b ≤ mbufs_in_all v.pools
+few_refs ps v e sound b =
+    subst (λ s. refs (segments_of s) b ≤ mbufs_in_all s.pools) e
+    (omega (arith, refs_le (segments_held (slots_of ps)) b, all_counted (specs_of ps) (segments_held (slots_of ps)) sound.counted.numbers, rows_few (mbufs (segments_held (slots_of ps))) 0 (specs_of ps) sound.counted.once))

@@ -1,0 +1,144 @@
+-- Pools stay pools, and what is read of them after a write.
+use Rattle.std.proofs.Common.{◌≡◌, ℕ, zero, suc, ◌+◌, ◌<◌, ◌≤◌, Bool, false, cond, List, [], ◌∷◌, ◌++◌, length, take, drop, Some, refl, sym, ◌∙◌, ap, subst, arith, ⊎_elim, get_or, set, map}
+use Rattle.std.specs.Prelude.{count_by, not, slice_get, replicate}
+use Rattle.std.proofs.lemmas.Bool.{cases_eq}
+use Rattle.std.proofs.lemmas.List.{length-set, length-append, length-take-le, length-drop, get_or-set_same, get_or-set_other, length-replicate}
+use Rattle.std.proofs.lemmas.List.Sums.{sum_by-cons}
+use Rattle.std.proofs.lemmas.Option.{same_Some}
+use Rattle.dp_model.specs.Buffers.{overwritten}
+use Rattle.dp_mbuf.specs.Pools.{PoolView, IsPool, object_in, unused, with_written, with_out}
+
+abbrev pub one_if : Bool → ℕ
+one_if b = cond b 1 0
+
+-- ---- how many are in
+
+pub count_set : (row : List Bool) (i : ℕ) (a b : Bool) → slice_get row i ≡ Some a → count_by not (set row i b) + one_if (not a) ≡ count_by not row + one_if (not b)
+count_set [] i a b h = cc
+count_set (x ∷ row) zero a b h =
+    let e : one_if (not x) ≡ one_if (not a) = ap (λ v. one_if (not v)) (same_Some x a h) in
+    omega (arith, e, sum_by-cons (λ s. one_if (not s)) x row, sum_by-cons (λ s. one_if (not s)) b row)
+count_set (x ∷ row) (suc i) a b h =
+    omega (arith, count_set row i a b h, sum_by-cons (λ s. one_if (not s)) x row, sum_by-cons (λ s. one_if (not s)) x (set row i b))
+
+pub some_below : {X : Type 0} (xs : List X) (i : ℕ) (x : X) → slice_get xs i ≡ Some x → i < length xs
+some_below [] i x h = cc
+some_below (y ∷ xs) zero x h = omega arith
+some_below (y ∷ xs) (suc i) x h = let q = some_below xs i x h in omega (arith, q)
+
+-- ---- bytes
+
+abbrev pub Small : List ℕ → Type 0
+Small xs = (k : ℕ) → get_or xs k 0 < 256
+
+small_append : (xs ys : List ℕ) → Small xs → Small ys → Small (xs ++ ys)
+small_append [] ys hx hy k = hy k
+small_append (x ∷ xs) ys hx hy zero = hx 0
+small_append (x ∷ xs) ys hx hy (suc k) = small_append xs ys (λ j. hx (suc j)) hy k
+
+small_take : (n : ℕ) (xs : List ℕ) → Small xs → Small (take n xs)
+small_take zero xs h k = omega arith
+small_take (suc n) [] h k = omega arith
+small_take (suc n) (x ∷ xs) h zero = h 0
+small_take (suc n) (x ∷ xs) h (suc k) = small_take n xs (λ j. h (suc j)) k
+
+pub small_drop : (n : ℕ) (xs : List ℕ) → Small xs → Small (drop n xs)
+small_drop zero xs h k = h k
+small_drop (suc n) [] h k = omega arith
+small_drop (suc n) (x ∷ xs) h k = small_drop n xs (λ j. h (suc j)) k
+
+pub small_zeros : (n : ℕ) → Small (replicate n 0)
+small_zeros zero k = omega arith
+small_zeros (suc n) zero = omega arith
+small_zeros (suc n) (suc k) = small_zeros n k
+
+pub small_overwritten : (old : List ℕ) (at : ℕ) (new : List ℕ) → Small old → Small new → Small (overwritten old at new)
+small_overwritten old at new ho hn =
+    small_append (take at old) (new ++ drop (at + length new) old) (small_take at old ho)
+    (small_append new (drop (at + length new) old) hn (small_drop (at + length new) old ho))
+
+pub length_overwritten : (old : List ℕ) (at : ℕ) (new : List ℕ) → at + length new ≤ length old → length (overwritten old at new) ≡ length old
+length_overwritten old at new h =
+    omega (arith, length-append (take at old) (new ++ drop (at + length new) old), length-append new (drop (at + length new) old), length-take-le at old (omega arith), length-drop (at + length new) old)
+
+-- ---- pools stay pools
+
+pub pool_out : (p : PoolView) (i : ℕ) (b : Bool) → IsPool p → IsPool (with_out p i b)
+pool_out p i b h = record {
+  count = h.count;
+  out = length-set p.out i b ∙ h.out;
+  sizes = h.sizes;
+  bytes = h.bytes;
+}
+
+pub pool_written : (p : PoolView) (i at : ℕ) (new : List ℕ) → IsPool p → i < length p.objects → at + length new ≤ p.size → Small new → IsPool (with_written p i at new)
+pool_written p i at new h there fits small =
+    let now : List ℕ = overwritten (object_in p i) at new in
+    let size : length (object_in p i) ≡ p.size = h.sizes i there in
+    record {
+      count = omega (arith, h.count, length-set p.objects i now);
+      out = h.out ∙ sym (length-set p.objects i now);
+      sizes = λ j b. ⊎_elim
+          (λ e. subst (λ k. length (get_or (set p.objects i now) k []) ≡ p.size) (sym e)
+          (ap length (get_or-set_same p.objects i now [] there) ∙ (length_overwritten (object_in p i) at new (omega (arith, size, fits)) ∙ size)))
+          (λ ne. ap length (get_or-set_other p.objects i j now [] ne) ∙ h.sizes j (omega (arith, b, length-set p.objects i now)))
+          (cases_eq j i);
+      bytes = λ j. ⊎_elim
+          (λ e. subst (λ k. Small (get_or (set p.objects i now) k [])) (sym e)
+          (subst Small (sym (get_or-set_same p.objects i now [] there)) (small_overwritten (object_in p i) at new (h.bytes i) small)))
+          (λ ne. subst Small (sym (get_or-set_other p.objects i j now [] ne)) (h.bytes j))
+          (cases_eq j i);
+    }
+
+-- ---- the objects as vectors
+
+pub map_read : {V W : Type 0} (f : V → W) (xs : List V) (i : ℕ) (x : V) (d : W) → i < length xs → x ≡ get_or xs i x → get_or (map f xs) i d ≡ f x
+map_read f [] i x d h e = absurd (omega arith)
+map_read f (y ∷ xs) zero x d h e = sym (ap f e)
+map_read f (y ∷ xs) (suc i) x d h e = map_read f xs i x d (omega arith) e
+
+pub length_map : {V W : Type 0} (f : V → W) (xs : List V) → length (map f xs) ≡ length xs
+length_map f [] = refl
+length_map f (x ∷ xs) = ap suc (length_map f xs)
+
+pub map_set : {V W : Type 0} (f : V → W) (xs : List V) (i : ℕ) (x : V) → map f (set xs i x) ≡ set (map f xs) i (f x)
+map_set f [] i x = refl
+map_set f (y ∷ xs) zero x = refl
+map_set f (y ∷ xs) (suc i) x = ap (λ r. f y ∷ r) (map_set f xs i x)
+
+pub objects_written : {V : Type 0} (f : V → List ℕ) (xs : List V) (i at : ℕ) (new : List ℕ) (old x : V) → i < length xs → old ≡ get_or xs i old → f x ≡ overwritten (f old) at new → map f (set xs i x) ≡ set (map f xs) i (overwritten (get_or (map f xs) i []) at new)
+objects_written f xs i at new old x h e w =
+    map_set f xs i x
+    ∙ ap (λ o. set (map f xs) i o) (w ∙ ap (λ o. overwritten o at new) (sym (map_read f xs i old [] h e)))
+
+pub same_objects : (p : PoolView) (os os' : List (List ℕ)) → os ≡ os' → record p { objects = os } ≡ record p { objects = os' }
+same_objects p os os' e = let f : List (List ℕ) → PoolView = λ o. record p { objects = o } in ap f e
+
+-- ---- a new pool
+
+count_none : (n : ℕ) → count_by not (replicate n false) ≡ n
+count_none zero = refl
+count_none (suc n) = let q = count_none n in omega (arith, q, sum_by-cons (λ s. one_if (not s)) false (replicate n false))
+
+object_there : (n i : ℕ) (x : List ℕ) → i < n → get_or (replicate n x) i [] ≡ x
+object_there zero i x h = absurd (omega arith)
+object_there (suc n) zero x h = refl
+object_there (suc n) (suc i) x h = object_there n i x (omega arith)
+
+object_small : (n i m : ℕ) → Small (get_or (replicate n (replicate m 0)) i [])
+object_small zero i m k = omega arith
+object_small (suc n) zero m k = small_zeros m k
+object_small (suc n) (suc i) m k = object_small n i m k
+
+pub unused_pool : (count size cache : ℕ) → count ≤ 65535 → IsPool (unused count size cache) × (count ≡ count_by not (replicate count false))
+unused_pool count size cache few =
+    let zeros : List ℕ = replicate size 0 in
+    let l : length (replicate count zeros) ≡ count = length-replicate count zeros in (
+      record {
+        count = omega (arith, few, l);
+        out = length-replicate count false ∙ sym l;
+        sizes = λ i b. ap length (object_there count i zeros (omega (arith, b, l))) ∙ length-replicate size 0;
+        bytes = λ i. object_small count i size;
+      },
+      sym (count_none count),
+    )

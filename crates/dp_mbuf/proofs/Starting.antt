@@ -1,0 +1,124 @@
+-- Packets over pools at their start, and pools whole again.
+use Rattle.std.proofs.Common.{◌≡◌, ℕ, zero, suc, ◌+◌, ◌*◌, ◌<◌, ◌≤◌, Bool, true, false, List, [], ◌∷◌, length, Option, Some, None, refl, sym, ◌∙◌, ap, subst, arith, ⊎_elim, get_or}
+use Rattle.std.specs.Prelude.{replicate, slice_get, ◌&&◌, not, nat_eq, IsTrue, ◌↔◌}
+use Rattle.std.proofs.lemmas.Bool.{cases_lt, cases_Bool, eqb-true}
+use Rattle.std.proofs.lemmas.List.{length-replicate, get_or_past}
+use Rattle.dp_model.specs.Environments.{count_at}
+use Rattle.dp_model.specs.Buffers.{Number}
+use Rattle.dp_model.specs.Packets.{Packet, refs}
+use Rattle.dp_model.specs.Machine.{segments_held}
+use Rattle.dp_model.specs.Stores.{Store, IsLive}
+use Rattle.dp_mbuf.specs.Pools.{PoolView}
+use Rattle.dp_mbuf.specs.Objects.{header_at, is_out, specs_of, buffers_of, present, pool_in, PoolsFirst, HasObject, ArePools}
+use Rattle.dp_mbuf.specs.Mbufs.{numbered, is_positive, is_head, mbufs, slots_of, shown, StandsAt, Counted, Whole, Sound, AreReady, IsNew, AreAllIn, HasNone, AreBack}
+use Rattle.dp_mbuf.proofs.ObjectLemmas.{length_specs, count_is}
+use Rattle.dp_mbuf.proofs.Frames.{head_of}
+use Rattle.dp_mbuf.proofs.Live.{settled, opened}
+use Rattle.dp_mbuf.proofs.Allocs.{get_there}
+
+none_held : (n : ℕ) → segments_held (replicate n None) ≡ []
+none_held zero = refl
+none_held (suc n) = none_held n
+
+none_there : (n h : ℕ) → get_or {A = Option Packet} (replicate n None) h None ≡ None
+none_there zero h = refl
+none_there (suc n) zero = refl
+none_there (suc n) (suc h) = none_there n h
+
+pub whole_new : (ps : List PoolView) → ArePools ps → AreAllIn ps → Whole ps [] (replicate (65536 * length ps) None)
+whole_new ps are all_in = record {
+  are = are;
+  counted = subst (Counted ps) (sym (none_held (65536 * length ps))) (record {
+    once = λ n. omega arith;
+    direct = λ n q. refl;
+    numbers = tt;
+    lie = tt;
+    stored = λ b q. absurd (omega (arith, q));
+    out = λ n h. all_in n;
+  });
+  shows = record {
+    many = length-replicate (65536 * length ps) None;
+    each = λ h. none (get_or (replicate (65536 * length ps) None) h None) (numbered h) (none_there (65536 * length ps) h);
+  };
+}
+  where
+    none : (o : Option Packet) (n : Number) → o ≡ None → StandsAt ps n o
+    none None n e = ap (λ b. b && is_positive (header_at ps n).segs) (all_in n)
+    none (Some k) n e = absurd (cc)
+
+pub new_is : (pools : List (Option PoolView)) (ps : List PoolView) → ps ≡ present pools → ArePools ps → AreReady pools → Sound ps × IsNew pools (shown ps)
+new_is pools ps e are ready =
+    let d = settled ps (replicate (65536 * length ps) None) (whole_new ps are (subst AreAllIn (sym e) ready.all_in)) in (
+      d.0,
+      record {
+        pools_are = ap specs_of e;
+        buffers = ap buffers_of e;
+        empty = d.1 ∙ ap (λ n. replicate (65536 * n) None) (sym (length_specs ps));
+      },
+    )
+
+-- ---- without a packet all is in
+
+all_none : (slots : List (Option Packet)) → ((h : ℕ) → get_or slots h None ≡ None) → segments_held slots ≡ []
+all_none [] e = refl
+all_none (None ∷ slots) e = all_none slots (λ h. e (suc h))
+all_none (Some k ∷ slots) e = absurd (let q = e 0 in cc)
+
+past_out : (ps : List PoolView) (n : Number) → ArePools ps → count_at (specs_of ps) n.pool ≤ n.index → is_out ps n ≡ false
+past_out ps n are past = ⊎_elim
+    (λ b. get_or_past (pool_in ps n.pool).out n.index false (omega (arith, past, count_is ps n.pool, (are.rooms n.pool b).pool.out)))
+    (λ far. ap (λ p. get_or p.out n.index false) (get_or_past ps n.pool _ far))
+    (cases_lt n.pool (length ps))
+
+pub all_in_is : (ps : List PoolView) (slots : List (Option Packet)) → Whole ps [] slots → ((h : ℕ) → get_or slots h None ≡ None) → AreAllIn ps
+all_in_is ps slots w e n = ⊎_elim
+    (λ b. w.counted.out n b ∙ ap (λ ss. is_positive (mbufs ss n + refs ss n)) (all_none slots e))
+    (λ past. past_out ps n w.are past)
+    (cases_lt n.index (count_at (specs_of ps) n.pool))
+
+pub back_is : (ps : List PoolView) (v : Store) (pools : List (Option PoolView)) → shown ps ≡ v → Sound ps → HasNone v → present pools ≡ ps → PoolsFirst pools → AreBack v pools
+back_is ps v pools e sound none same first = record {
+  first = first;
+  all_in = subst AreAllIn (sym same) (all_in_is ps (slots_of ps) sound (λ h. ap (λ s. get_or s.slots h None) e ∙ none h));
+  pools_are = ap specs_of same ∙ ap (λ s. s.pools) e;
+  buffers = ap buffers_of same ∙ ap (λ s. s.buffers) e;
+}
+
+-- ---- whether a packet is there
+
+and_parts : (a b : Bool) → (a && b) ≡ true → (a ≡ true) × (b ≡ true)
+and_parts true b e = (refl, e)
+and_parts false b e = absurd (cc)
+
+pub live_from_head : (ps : List PoolView) (v : Store) (h : ℕ) → shown ps ≡ v → Sound ps → is_head ps (numbered h) ≡ true → IsLive v h
+live_from_head ps v h e sound head =
+    by (get_or (slots_of ps) h None) refl (sound.shows.each h)
+  where
+    by : (o : Option Packet) → get_or (slots_of ps) h None ≡ o → StandsAt ps (numbered h) o → IsLive v h
+    by None eo s = absurd (cc)
+    by (Some k) eo s =
+        let there = slot_in (slots_of ps) h k eo in
+        (k, ap (λ s. slice_get s.slots h) (sym e) ∙ (get_there (slots_of ps) h None there ∙ ap Some eo), tt)
+      where
+        slot_in : (slots : List (Option Packet)) (h : ℕ) (k : Packet) → get_or slots h None ≡ Some k → h < length slots
+        slot_in slots h k x = ⊎_elim (λ b. b) (λ past. let n = get_or_past slots h None past in absurd (cc)) (cases_lt h (length slots))
+
+pub head_from_live : (ps : List PoolView) (v : Store) (h : ℕ) → shown ps ≡ v → Sound ps → IsLive v h → is_head ps (numbered h) ≡ true
+head_from_live ps v h e sound live =
+    head_of ps (numbered h) live.0 (opened ps v h live.0 e sound live.1).stands
+
+pub out_object : (ps : List PoolView) (n : Number) → ArePools ps → is_out ps n ≡ true → HasObject ps n
+out_object ps n are out = ⊎_elim
+    (λ b. let c = count_is ps n.pool in omega (arith, b, c))
+    (λ past. let f = past_out ps n are past in absurd (cc))
+    (cases_lt n.index (count_at (specs_of ps) n.pool))
+
+pub positive_is : (n : ℕ) → is_positive n ≡ not (nat_eq n 0)
+positive_is zero = refl
+positive_is (suc n) = ⊎_elim
+    (λ t. absurd (let z = eqb-true (suc n) 0 t in omega (arith, z)))
+    (λ f. sym (ap not f))
+    (cases_Bool (nat_eq (suc n) 0))
+
+pub live_iff : (ps : List PoolView) (v : Store) (h : ℕ) (b : Bool) → shown ps ≡ v → Sound ps → b ≡ is_head ps (numbered h) → IsTrue b ↔ IsLive v h
+live_iff ps v h b e sound eb = (λ t. live_from_head ps v h e sound (sym eb ∙ t), λ l. eb ∙ head_from_live ps v h e sound l)

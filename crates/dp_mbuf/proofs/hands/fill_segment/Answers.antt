@@ -1,0 +1,19 @@
+use Rattle.std.proofs.Common.{◌≡◌, ◌∙◌, ap, subst, take, length}
+use Rattle.std.proofs.lemmas.List.{take_min}
+use Rattle.dp_mbuf.specs.Steps.{FilledBy}
+use Rattle.dp_mbuf.proofs.Allocs.{same_min}
+use Rattle.dp_mbuf.proofs.hands.fill_segment.Goals as goal
+
+pub returns-clause-filled : goal.returns-clause-filled
+returns-clause-filled c =
+    let chunk : take c.min-count.result c.args.bytes.now ≡ take c.args.full c.args.bytes.now =
+    ap (λ n. take n c.args.bytes.now) (c.min-count.ensures ∙ same_min (length c.args.bytes.now) c.args.full)
+    ∙ take_min c.args.full c.args.bytes.now in
+    subst (λ b. FilledBy c.args.objects.now c.take_one-n.result b c.write.new.self) chunk
+    (record {
+      first = c.take_one-n.new.objects;
+      second = c.set_header.new.self;
+      taken = c.take_one-n.ensures.taken;
+      header = rw c.fresh_header-header.ensures at c.set_header.ensures;
+      bytes_in = c.write.ensures;
+    })

@@ -1,0 +1,7 @@
+use Rattle.std.proofs.Common.{rules}
+use Rattle.dp_mbuf.specs.Headers.{header_of}
+use Rattle.dp_mbuf.proofs.header.read_header.Goals as goal
+
+pub returns : goal.returns
+unfolding header_of
+returns c = search rules

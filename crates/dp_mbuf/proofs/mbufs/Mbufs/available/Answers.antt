@@ -1,0 +1,6 @@
+use Rattle.std.proofs.Common.{sym, ◌∙◌}
+use Rattle.dp_mbuf.proofs.Allocs.{free_in}
+use Rattle.dp_mbuf.proofs.mbufs.Mbufs.available.Goals as goal
+
+pub returns : goal.returns
+returns c = c.available.ensures ∙ sym (free_in _ _ c.args.pool c.self.view_is c.self.invariant c.requires)

@@ -1,0 +1,10 @@
+use Rattle.std.proofs.Common.{drop}
+use Rattle.dp_model.specs.Packets.{Packet, IsSole}
+use Rattle.dp_model.specs.Stores.{Has, segments_of}
+use Rattle.dp_mbuf.specs.Objects.{header_at}
+use Rattle.dp_mbuf.specs.Mbufs.{Linked}
+use Rattle.dp_mbuf.proofs.mbufs.Mbufs.is_sole.Given as goal
+
+abbrev pub invariant-loop-i : goal.invariant-loop-i
+invariant-loop-i l =
+    (p : Packet) → Has l.fn.self l.packet p → Linked (header_at l.self-inside.objects) l.place (drop l.i p) × (IsSole (segments_of l.fn.self) (drop l.i p) → IsSole (segments_of l.fn.self) p)

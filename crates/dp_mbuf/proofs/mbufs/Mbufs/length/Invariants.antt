@@ -1,0 +1,10 @@
+use Rattle.std.proofs.Common.{◌≡◌, ◌+◌, length, drop}
+use Rattle.dp_model.specs.Packets.{Packet, packet_bytes}
+use Rattle.dp_model.specs.Stores.{Has}
+use Rattle.dp_mbuf.specs.Objects.{header_at}
+use Rattle.dp_mbuf.specs.Mbufs.{Linked}
+use Rattle.dp_mbuf.proofs.mbufs.Mbufs.length.Given as goal
+
+abbrev pub invariant-loop-i : goal.invariant-loop-i
+invariant-loop-i l =
+    (p : Packet) → Has l.fn.self l.packet p → Linked (header_at l.self-inside.objects) l.place (drop l.i p) × (l.total + length (packet_bytes l.fn.self.buffers (drop l.i p)) ≡ length (packet_bytes l.fn.self.buffers p))

@@ -1,0 +1,8 @@
+use Rattle.dp_mbuf.proofs.Live.{live_object, segments_is}
+use Rattle.dp_mbuf.proofs.mbufs.Mbufs.segments.Goals as goal
+
+pub first_header-requires : goal.first_header-requires
+first_header-requires c = live_object _ _ c.args.packet.now c.self.view_is c.self.invariant c.requires
+
+pub returns : goal.returns
+returns c = segments_is _ _ c.args.packet.now c.self.view_is c.self.invariant _ c.first_header.ensures

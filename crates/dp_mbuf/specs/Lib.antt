@@ -1,0 +1,5 @@
+pub mod Pools
+pub mod Headers
+pub mod Objects
+pub mod Mbufs
+pub mod Steps

@@ -1,0 +1,150 @@
+-- Packets in objects: what `Mbufs` shows of them, and what is true of every `Mbufs`.
+use Rattle.std.specs.Prelude.{◌≡◌, ℕ, zero, suc, ◌+◌, ◌*◌, ◌/◌, ◌%◌, ◌<◌, ◌≤◌, Bool, true, false, not, ◌&&◌, if◌then◌else◌, List, [], ◌∷◌, ◌++◌, length, count_by, sum_by, replicate, Option, Some, None, slice_index_or}
+use Rattle.std.specs.List.{AllByRecursion}
+use Rattle.dp_model.specs.declared.env.PoolSpec.{PoolSpec}
+use Rattle.dp_model.specs.Buffers.{Number, same_number, IsNumber}
+use Rattle.dp_model.specs.Packets.{Segment, Packet, refs, Lies}
+use Rattle.dp_model.specs.Machine.{segments_held}
+use Rattle.dp_model.specs.Stores.{Store}
+use Rattle.dp_mbuf.specs.declared.header.Header.{Header}
+use Rattle.dp_mbuf.specs.Pools.{PoolView}
+use Rattle.dp_mbuf.specs.Objects.{header_at, is_out, specs_of, buffers_of, present, PoolsFirst, ArePools}
+
+-- ---- what contracts see: a packet's handle is the number of its first mbuf
+
+abbrev pub handle : Number → ℕ
+handle n = n.pool * 65536 + n.index
+
+abbrev pub numbered : ℕ → Number
+numbered h = record { pool = h / 65536; index = h % 65536 }
+
+-- whether there is one at all
+abbrev pub is_positive : ℕ → Bool
+is_positive zero = false
+is_positive (suc n) = true
+
+-- the segment that a header tells of
+abbrev pub segment_at : (Number → Header) → Number → Segment
+segment_at h n = record { mbuf = n; buffer = (h n).buffer; offset = (h n).offset; len = (h n).len }
+
+-- so many segments along the links
+abbrev pub walk : (Number → Header) → ℕ → Number → Packet
+walk h zero n = []
+walk h (suc k) n = segment_at h n ∷ walk h k (h n).next
+
+-- whether a packet begins there
+abbrev pub is_head : List PoolView → Number → Bool
+is_head ps n = is_out ps n && is_positive (header_at ps n).segs
+
+abbrev pub packet_at : List PoolView → Number → Option Packet
+packet_at ps n = if is_head ps n then Some (walk (header_at ps) (header_at ps n).segs n) else None
+
+-- the packets of so many handles from one on
+abbrev pub slots_from : List PoolView → ℕ → ℕ → List (Option Packet)
+slots_from ps h zero = []
+slots_from ps h (suc k) = packet_at ps (numbered h) ∷ slots_from ps (suc h) k
+
+unfoldable pub slots_of : List PoolView → List (Option Packet)
+slots_of ps = slots_from ps 0 (65536 * length ps)
+
+abbrev pub shown : List PoolView → Store
+shown ps = record { pools = specs_of ps; buffers = buffers_of ps; slots = slots_of ps }
+
+-- ---- a packet in its headers
+
+-- the segments stand along the links from n on
+abbrev pub Linked : (Number → Header) → Number → Packet → Type 0
+Linked h n [] = Unit {0}
+Linked h n (s ∷ rest) = (segment_at h n ≡ s) × Linked h (h n).next rest
+
+-- the mbuf of the last segment
+abbrev pub last_mbuf : Number → Packet → Number
+last_mbuf n [] = n
+last_mbuf n (s ∷ rest) = last_mbuf s.mbuf rest
+
+-- the first header tells how many segments there are and which is the last
+pub record Stands (ps : List PoolView) (n : Number) (k : Packet) : Type 0 where
+  pub out : is_out ps n ≡ true
+  pub some : 1 ≤ length k
+  pub few : length k ≤ 64
+  pub segs : (header_at ps n).segs ≡ length k
+  pub last : (header_at ps n).last ≡ last_mbuf n k
+  pub links : Linked (header_at ps) n k
+
+abbrev pub StandsAt : List PoolView → Number → Option Packet → Type 0
+StandsAt ps n None = is_head ps n ≡ false
+StandsAt ps n (Some k) = Stands ps n k
+
+-- the headers tell of these packets, and of no others
+pub record Shows (ps : List PoolView) (slots : List (Option Packet)) : Type 0 where
+  pub many : length slots ≡ 65536 * length ps
+  pub each : (h : ℕ) → StandsAt ps (numbered h) (slice_index_or slots h None)
+
+-- the links from n on reach a k-th mbuf, and each mbuf before it is an object
+abbrev pub HasWalk : List PoolView → Number → ℕ → Type 0
+HasWalk ps n k =
+    (p : Packet) × Linked (header_at ps) n p × AllByRecursion (λ s. IsNumber (specs_of ps) s.mbuf) p × (k < length p)
+
+-- ---- the counts
+
+-- how many segments have this number as their mbuf, and how many of these are indirect
+abbrev pub mbufs : List Segment → Number → ℕ
+mbufs ss n = count_by (λ s. same_number s.mbuf n) ss
+
+abbrev pub indirects : List Segment → Number → ℕ
+indirects ss n = count_by (λ s. same_number s.mbuf n && not (same_number s.buffer n)) ss
+
+-- The segments are those of a well-formed world, each buffer's header has their references, and what is handed out
+-- is exactly what some segment has as its mbuf or as its buffer.
+pub record Counted (ps : List PoolView) (ss : List Segment) : Type 0 where
+  pub once : (n : Number) → mbufs ss n ≤ 1
+  pub direct : (n : Number) → 1 ≤ indirects ss n → refs ss n ≡ 0
+  pub numbers : AllByRecursion (λ s. IsNumber (specs_of ps) s.mbuf) ss
+  pub lie : AllByRecursion (Lies (specs_of ps)) ss
+  pub stored : (b : Number) → 1 ≤ refs ss b → (header_at ps b).refs ≡ refs ss b
+  pub out : (n : Number) → IsNumber (specs_of ps) n → is_out ps n ≡ is_positive (mbufs ss n + refs ss n)
+
+-- ---- what is true while a call runs: these packets, and these segments in hand
+pub record Whole (ps : List PoolView) (hand : Packet) (slots : List (Option Packet)) : Type 0 where
+  pub are : ArePools ps
+  pub counted : Counted ps (hand ++ segments_held slots)
+  pub shows : Shows ps slots
+
+-- and of every `Mbufs`
+abbrev pub Sound : List PoolView → Type 0
+Sound ps = Whole ps [] (slots_of ps)
+
+-- how many mbufs the pools have in all
+abbrev pub mbufs_in_all : List PoolSpec → ℕ
+mbufs_in_all pools = sum_by (λ p. p.count) pools
+
+-- ---- making and unmaking
+
+-- no object is handed out
+abbrev pub AreAllIn : List PoolView → Type 0
+AreAllIn ps = (n : Number) → is_out ps n ≡ false
+
+-- one to eight pools, of at most 65,535 objects in all, all of them in
+pub record AreReady (pools : List (Option PoolView)) : Type 0 where
+  pub first : PoolsFirst pools
+  pub some : 1 ≤ length (present pools)
+  pub few : length (present pools) ≤ 8
+  pub mbufs : sum_by (λ p. length p.objects) (present pools) ≤ 65535
+  pub all_in : AreAllIn (present pools)
+
+-- over these pools, with the bytes that stand behind the headers, and no packet
+pub record IsNew (pools : List (Option PoolView)) (s : Store) : Type 0 where
+  pub pools_are : s.pools ≡ specs_of (present pools)
+  pub buffers : s.buffers ≡ buffers_of (present pools)
+  pub empty : s.slots ≡ replicate (65536 * length s.pools) None
+
+-- no packet, live or parked
+abbrev pub HasNone : Store → Type 0
+HasNone s = (h : ℕ) → slice_index_or s.slots h None ≡ None
+
+-- the same pools again, whole: all objects are in, with the bytes that they have
+pub record AreBack (s : Store) (pools : List (Option PoolView)) : Type 0 where
+  pub first : PoolsFirst pools
+  pub all_in : AreAllIn (present pools)
+  pub pools_are : specs_of (present pools) ≡ s.pools
+  pub buffers : buffers_of (present pools) ≡ s.buffers

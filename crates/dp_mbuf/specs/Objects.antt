@@ -1,0 +1,146 @@
+-- What the objects of all pools hold: a header each, and the bytes behind it.
+use Rattle.std.specs.Prelude.{◌≡◌, ℕ, ◌+◌, ◌-◌, ◌<◌, ◌≤◌, Bool, true, false, not, List, [], ◌∷◌, length, map, drop, count_by, Option, Some, None, slice_get, slice_index_or}
+use Rattle.std.specs.List.{AllByRecursion}
+use Rattle.dp_model.specs.declared.env.PoolSpec.{PoolSpec}
+use Rattle.dp_model.specs.Buffers.{Number, same_number, Buffers, written}
+use Rattle.dp_mbuf.specs.declared.header.Header.{Header}
+use Rattle.dp_mbuf.specs.Pools.{PoolView, IsPool, object_in, with_out}
+use Rattle.dp_mbuf.specs.Headers.{header_of}
+
+-- ---- what is read of pools
+
+-- the pools of a list of places for pools, of which the first are filled
+abbrev pub present : List (Option PoolView) → List PoolView
+present [] = []
+present (None ∷ pools) = []
+present (Some p ∷ pools) = p ∷ present pools
+
+-- where there is no pool
+abbrev pub no_pool : PoolView
+no_pool = record { size = 0; cache = 0; objects = []; out = [] }
+
+abbrev pub pool_in : List PoolView → ℕ → PoolView
+pool_in pools k = slice_index_or pools k no_pool
+
+abbrev pub header_at : List PoolView → Number → Header
+header_at pools n = header_of (object_in (pool_in pools n.pool) n.index)
+
+-- whether the object is handed out
+abbrev pub is_out : List PoolView → Number → Bool
+is_out pools n = slice_index_or (pool_in pools n.pool).out n.index false
+
+-- how many objects of the pool are in
+abbrev pub count_in : List PoolView → ℕ → ℕ
+count_in pools k = count_by not (pool_in pools k).out
+
+-- an object is a header of 128 bytes and a data room
+abbrev pub spec_of : PoolView → PoolSpec
+spec_of p = record { count = length p.objects; cache = p.cache; room = p.size - 128 }
+
+abbrev pub specs_of : List PoolView → List PoolSpec
+specs_of pools = map spec_of pools
+
+-- the bytes behind the headers
+abbrev pub rooms_of : PoolView → List (List ℕ)
+rooms_of p = map (drop 128) p.objects
+
+abbrev pub buffers_of : List PoolView → Buffers
+buffers_of pools = map rooms_of pools
+
+-- there is such an object
+abbrev pub HasObject : List PoolView → Number → Type 0
+HasObject pools n = n.index < length (pool_in pools n.pool).objects
+
+-- ---- what is true of all pools of mbufs
+
+-- a pool of objects with room for a header, and at most 4,096 bytes behind it
+pub record HasRooms (p : PoolView) : Type 0 where
+  pub pool : IsPool p
+  pub header : 128 ≤ p.size
+  pub room : p.size ≤ 4224
+
+-- the filled places come first
+abbrev pub PoolsFirst : List (Option PoolView) → Type 0
+PoolsFirst [] = Unit {0}
+PoolsFirst (None ∷ pools) = AllByRecursion (λ o. o ≡ None) pools
+PoolsFirst (Some p ∷ pools) = HasRooms p × PoolsFirst pools
+
+-- at most eight pools of mbufs
+pub record ArePools (pools : List PoolView) : Type 0 where
+  pub few : length pools ≤ 8
+  pub rooms : (k : ℕ) → k < length pools → HasRooms (pool_in pools k)
+
+-- ---- what the calls on objects do: what is not named stays, and these are pools of mbufs afterwards
+
+-- the header of n has become h
+pub record HeaderSet (pools : List PoolView) (n : Number) (h : Header) (pools' : List PoolView) : Type 0 where
+  pub are : ArePools pools'
+  pub specs : specs_of pools' ≡ specs_of pools
+  pub buffers : buffers_of pools' ≡ buffers_of pools
+  pub outs : (m : Number) → is_out pools' m ≡ is_out pools m
+  pub ins : (k : ℕ) → count_in pools' k ≡ count_in pools k
+  pub here : header_at pools' n ≡ h
+  pub others : (m : Number) → same_number n m ≡ false → header_at pools' m ≡ header_at pools m
+
+-- bytes have been written into n's room from a place on
+pub record RoomWritten (pools : List PoolView) (n : Number) (at : ℕ) (bytes : List ℕ) (pools' : List PoolView) : Type 0 where
+  pub are : ArePools pools'
+  pub specs : specs_of pools' ≡ specs_of pools
+  pub buffers : buffers_of pools' ≡ written (buffers_of pools) n at bytes
+  pub outs : (m : Number) → is_out pools' m ≡ is_out pools m
+  pub ins : (k : ℕ) → count_in pools' k ≡ count_in pools k
+  pub headers : (m : Number) → header_at pools' m ≡ header_at pools m
+
+-- n has been handed out, which was in
+pub record Taken (pools : List PoolView) (n : Number) (pools' : List PoolView) : Type 0 where
+  pub are : ArePools pools'
+  pub specs : specs_of pools' ≡ specs_of pools
+  pub buffers : buffers_of pools' ≡ buffers_of pools
+  pub headers : (m : Number) → header_at pools' m ≡ header_at pools m
+  pub object : HasObject pools n
+  pub was : is_out pools n ≡ false
+  pub here : is_out pools' n ≡ true
+  pub others : (m : Number) → same_number n m ≡ false → is_out pools' m ≡ is_out pools m
+  pub ins : count_in pools' n.pool + 1 ≡ count_in pools n.pool
+
+-- n has been put back
+pub record Given (pools : List PoolView) (n : Number) (pools' : List PoolView) : Type 0 where
+  pub are : ArePools pools'
+  pub specs : specs_of pools' ≡ specs_of pools
+  pub buffers : buffers_of pools' ≡ buffers_of pools
+  pub headers : (m : Number) → header_at pools' m ≡ header_at pools m
+  pub here : is_out pools' n ≡ false
+  pub others : (m : Number) → same_number n m ≡ false → is_out pools' m ≡ is_out pools m
+
+-- ---- one place for a pool
+
+-- the place has a pool of mbufs
+abbrev pub SlotHas : Option PoolView → Type 0
+SlotHas None = ⊥
+SlotHas (Some p) = HasRooms p
+
+-- and the object has that many bytes
+abbrev pub SlotFits : Option PoolView → ℕ → ℕ → Type 0
+SlotFits None i n = ⊥
+SlotFits (Some p) i n = HasRooms p × (i < length p.objects) × (n ≤ p.size)
+
+-- whether the object is handed out, and false where there is none
+abbrev pub slot_out : Option PoolView → ℕ → Bool
+slot_out None i = false
+slot_out (Some p) i = slice_index_or p.out i false
+
+-- and the object is handed out
+abbrev pub SlotIsOut : Option PoolView → ℕ → Type 0
+SlotIsOut None i = ⊥
+SlotIsOut (Some p) i = slice_get p.out i ≡ Some true
+
+-- what the place's pool becomes
+abbrev pub SlotBecomes : (PoolView → PoolView) → Option PoolView → Option PoolView → Type 0
+SlotBecomes f None o = ⊥
+SlotBecomes f (Some p) o = o ≡ Some (f p)
+
+-- an object of the place's pool has been handed out, or none is in
+abbrev pub SlotGives : Option PoolView → Option ℕ → Option PoolView → Type 0
+SlotGives None result o = ⊥
+SlotGives (Some p) None o = (count_by not p.out ≡ 0) × (o ≡ Some p)
+SlotGives (Some p) (Some i) o = (slice_get p.out i ≡ Some false) × (o ≡ Some (with_out p i true))

@@ -1,0 +1,167 @@
+// Segments in hand: the small steps that calls are made of.
+
+ghost use Rattle.std.specs.Prelude.{◌≡◌, ◌+◌, ◌<◌, ◌≤◌, true, length, take, drop};
+ghost use Rattle.dp_model.specs.Environments.{room_at};
+ghost use Rattle.dp_mbuf.specs.Objects.{header_at, is_out, specs_of, HasObject, count_in, ArePools, HeaderSet, Taken};
+ghost use Rattle.dp_mbuf.specs.Steps.{MbufBack, BufferLess, CanRelease, Released, CanClone, Cloned, FilledBy};
+
+use crate::header::{Header, Place};
+use crate::objects::Objects;
+
+/// Makes a packet's first header none, and gives what it was.
+pub(crate) fn unhook(objects: &mut Objects, n: Place) -> Header
+    requires { HasObject objects.old n }
+    ensures was { result ≡ header_at objects.old n }
+    ensures now { HeaderSet objects.old n (record (header_at objects.old n) { segs = 0 }) objects.new }
+{
+    let header = objects.header(n);
+    objects.set_header(n, Header { segs: 0, ..header });
+    header
+}
+
+/// Makes a packet's first header of an mbuf: how many segments the packet has, and which is the last.
+pub(crate) fn hook(objects: &mut Objects, n: Place, segs: u16, last: Place)
+    requires { HasObject objects.old n }
+    ensures { HeaderSet objects.old n (record (header_at objects.old n) { segs = segs; last = last }) objects.new }
+{
+    let header = objects.header(n);
+    objects.set_header(
+        n,
+        Header {
+            segs,
+            last,
+            ..header
+        },
+    );
+}
+
+/// Sets the mbuf that comes next.
+pub(crate) fn relink(objects: &mut Objects, n: Place, next: Place)
+    requires { HasObject objects.old n }
+    ensures { HeaderSet objects.old n (record (header_at objects.old n) { next = next }) objects.new }
+{
+    let header = objects.header(n);
+    objects.set_header(n, Header { next, ..header });
+}
+
+// Puts an mbuf back, where it is not its own buffer.
+fn put_mbuf(objects: &mut Objects, n: Place, b: Place)
+    requires are { ArePools objects.old }
+    requires out { is_out objects.old n ≡ true }
+    ensures { MbufBack objects.old n b objects.new }
+{
+    if !n.is(b) {
+        objects.give(n);
+    }
+}
+
+// Gives up one reference of a buffer.
+fn drop_reference(objects: &mut Objects, b: Place)
+    requires are { ArePools objects.old }
+    requires object { HasObject objects.old b }
+    requires out { is_out objects.old b ≡ true }
+    requires some { 1 ≤ (header_at objects.old b).refs }
+    ensures { BufferLess objects.old b objects.new }
+{
+    let header = objects.header(b);
+    if header.refs == 1 {
+        objects.give(b);
+    } else {
+        let refs = header.refs - 1;
+        objects.set_header(b, Header { refs, ..header });
+    }
+}
+
+/// Gives up one segment, and gives the number of the next one.
+pub(crate) fn release(objects: &mut Objects, n: Place) -> Place
+    requires { CanRelease objects.old n (header_at objects.old n).buffer }
+    ensures gone { Released objects.old n (header_at objects.old n).buffer objects.new }
+    ensures next { result ≡ (header_at objects.old n).next }
+{
+    let header = objects.header(n);
+    put_mbuf(objects, n, header.buffer);
+    drop_reference(objects, header.buffer);
+    header.next
+}
+
+/// The header of a new mbuf that is its own buffer, of no packet yet.
+pub(crate) fn fresh_header(n: Place, offset: u16, len: u16) -> Header
+    ensures { result ≡ record { segs = 0; refs = 1; offset = offset; len = len; next = n; last = n; buffer = n } }
+{
+    Header {
+        segs: 0,
+        refs: 1,
+        offset,
+        len,
+        next: n,
+        last: n,
+        buffer: n,
+    }
+}
+
+/// Hands out an object of a pool that has one in.
+pub(crate) fn take_one(objects: &mut Objects, pool: u16) -> Place
+    requires there { pool < length objects.old }
+    requires some { 1 ≤ count_in objects.old pool }
+    ensures pool { result.pool ≡ pool }
+    ensures taken { Taken objects.old result objects.new }
+{
+    match objects.take(pool) {
+        Some(place) => place,
+        None => unreachable!(),
+    }
+}
+
+/// Takes an mbuf of a pool for the segment of another mbuf: the same part of the same buffer, also where that is an
+/// indirect one.
+pub(crate) fn clone_segment(objects: &mut Objects, from: Place, pool: u16) -> Place
+    requires { CanClone objects.old from pool }
+    ensures pool { result.pool ≡ pool }
+    ensures cloned { Cloned objects.old from result objects.new }
+{
+    let source = objects.header(from);
+    let n = take_one(objects, pool);
+    objects.set_header(
+        n,
+        Header {
+            segs: 0,
+            refs: 0,
+            next: n,
+            last: n,
+            ..source
+        },
+    );
+    let shared = objects.header(source.buffer);
+    let refs = shared.refs + 1;
+    objects.set_header(source.buffer, Header { refs, ..shared });
+    n
+}
+
+/// What is left of bytes behind so many of them.
+pub(crate) fn behind(bytes: &[u8], n: usize) -> &[u8]
+    ensures { result.now ≡ drop n bytes.now }
+{
+    if n < bytes.len() {
+        &bytes[n..]
+    } else {
+        &bytes[bytes.len()..]
+    }
+}
+
+/// Takes an mbuf of a pool and fills its buffer with the first of the bytes, at most `full` of them.
+pub(crate) fn fill_segment(objects: &mut Objects, pool: u16, full: u16, bytes: &[u8]) -> Place
+    requires are { ArePools objects.old }
+    requires there { pool < length objects.old }
+    requires some { 1 ≤ count_in objects.old pool }
+    requires room { 128 + full ≤ room_at (specs_of objects.old) pool }
+    ensures pool { result.pool ≡ pool }
+    ensures filled { FilledBy objects.old result (take full bytes.now) objects.new }
+{
+    let count = bytes.len().min(full as usize);
+    let chunk = &bytes[..count];
+    let n = take_one(objects, pool);
+    let header = fresh_header(n, 128, chunk.len() as u16);
+    objects.set_header(n, header);
+    objects.write(n, 128, chunk);
+    n
+}

@@ -1,0 +1,134 @@
+// What stands in the first bytes of each object.
+
+ghost use Rattle.std.specs.Prelude.{◌≡◌, ◌<◌, ◌≤◌, ◌+◌, ◌/◌, ◌%◌, length};
+ghost use Rattle.dp_model.specs.Buffers.{same_number};
+ghost use Rattle.dp_mbuf.specs.Headers.{header_of, word, header_bytes};
+
+use std::marker::Model;
+
+/// A buffer: its pool, and its index there.
+#[derive(Clone, Copy)]
+pub(crate) struct Place {
+    pub pool: u16,
+    pub index: u16,
+}
+
+impl Model for Place {
+    ghost use Rattle.dp_model.specs.Buffers.{Number};
+
+    ghost Value = { Number };
+
+    ghost view = { λ p. record { pool = p.pool; index = p.index } };
+
+    ghost inverse = { λ n. record { pool = n.pool; index = n.index } };
+}
+
+impl Place {
+    pub fn new(pool: u16, index: u16) -> Place
+        ensures { result ≡ record { pool = pool; index = index } }
+    {
+        Place { pool, index }
+    }
+
+    /// Whether two are the same.
+    pub fn is(self, other: Place) -> bool
+        ensures { result ≡ same_number self other }
+    {
+        self.pool == other.pool && self.index == other.index
+    }
+
+    pub fn pool(self) -> u16
+        ensures { result ≡ self.pool }
+    {
+        self.pool
+    }
+
+    pub fn index(self) -> u16
+        ensures { result ≡ self.index }
+    {
+        self.index
+    }
+}
+
+/// What an object says of itself. As an mbuf: its part of a buffer and the next mbuf; as a packet's first one also how
+/// many segments the packet has (0 where it is no first one) and which is the last. As a buffer: how many segments have
+/// it as theirs.
+#[derive(Clone, Copy)]
+pub(crate) struct Header {
+    pub segs: u16,
+    pub refs: u32,
+    pub offset: u16,
+    pub len: u16,
+    pub next: Place,
+    pub last: Place,
+    pub buffer: Place,
+}
+
+// The number that two bytes spell, the lower one first.
+fn read_word(bytes: &[u8], at: usize) -> u16
+    requires { at + 2 ≤ length bytes.now }
+    ensures { result ≡ word bytes.now at }
+{
+    bytes[at] as u16 + bytes[at + 1] as u16 * 256
+}
+
+/// The header of an object.
+pub(crate) fn read_header(object: &[u8]) -> Header
+    requires { 128 ≤ length object.now }
+    ensures { result ≡ header_of object.now }
+{
+    Header {
+        segs: read_word(object, 0),
+        refs: read_word(object, 2) as u32 + read_word(object, 4) as u32 * 65536,
+        offset: read_word(object, 6),
+        len: read_word(object, 8),
+        next: Place::new(read_word(object, 10), read_word(object, 12)),
+        last: Place::new(read_word(object, 14), read_word(object, 16)),
+        buffer: Place::new(read_word(object, 18), read_word(object, 20)),
+    }
+}
+
+fn low(x: u16) -> u8
+    ensures { result ≡ x % 256 }
+{
+    (x % 256) as u8
+}
+
+fn high(x: u16) -> u8
+    ensures { result ≡ x / 256 }
+{
+    (x / 256) as u8
+}
+
+/// The bytes of a header.
+pub(crate) fn bytes_of_header(h: Header) -> [u8; 22]
+    ensures bytes { result ≡ header_bytes h }
+    ensures many { length result ≡ 22 }
+{
+    let refs_low = (h.refs % 65536) as u16;
+    let refs_high = (h.refs / 65536) as u16;
+    [
+        low(h.segs),
+        high(h.segs),
+        low(refs_low),
+        high(refs_low),
+        low(refs_high),
+        high(refs_high),
+        low(h.offset),
+        high(h.offset),
+        low(h.len),
+        high(h.len),
+        low(h.next.pool()),
+        high(h.next.pool()),
+        low(h.next.index()),
+        high(h.next.index()),
+        low(h.last.pool()),
+        high(h.last.pool()),
+        low(h.last.index()),
+        high(h.last.index()),
+        low(h.buffer.pool()),
+        high(h.buffer.pool()),
+        low(h.buffer.index()),
+        high(h.buffer.index()),
+    ]
+}

@@ -1,0 +1,458 @@
+// Packets over the objects of pools.
+
+ghost use Rattle.std.specs.Prelude.{◌≡◌, ◌≢◌, ℕ, ◌+◌, ◌*◌, ◌<◌, ◌≤◌, [], None, length, drop, slice_get, slice_range, IsTrue, ◌↔◌, List, Some, max, ◌-◌, ◌/◌, ◌^◌};
+ghost use Rattle.dp_model.specs.Packets.{Segment, needed, refs, IsSole, segment_bytes, packet_bytes, headroom, tailroom, first_len, last_len, at_front, at_end, more_before, less_before, more_behind, less_behind, zeroed_before, zeroed_behind, available, loaded, stored, IsHeadSole, IsTailSole};
+ghost use Rattle.dp_model.specs.Arithmetic.{bytes_in};
+ghost use Rattle.dp_model.specs.Buffers.{Number, bytes_of};
+ghost use Rattle.dp_model.specs.Environments.{room_at};
+ghost use Rattle.dp_model.specs.Stores.{segments_of, Has, HasSome, IsLive, Of, Becomes, unwritten, with_slot, Allocates, Chains, Clones, ReceivesInto, IsWellFormedStore};
+ghost use Rattle.dp_mbuf.specs.Objects.{header_at, specs_of, buffers_of, HasObject};
+ghost use Rattle.dp_mbuf.specs.Mbufs.{numbered, handle, AreReady, IsNew, HasNone, AreBack, Linked, HasWalk, mbufs_in_all};
+
+use crate::hands::{
+    behind, clone_segment, fill_segment, fresh_header, hook, release, relink, unhook,
+};
+use crate::header::{Header, Place};
+use crate::numbers::{bytes_of_number, read_number};
+use crate::objects::Objects;
+use crate::pool::Pool;
+use dp_model::{Packet, Width};
+use std::marker::Model;
+
+/// Packets as chains of segments over the buffers of pools.
+#[derive(Drop)]
+pub struct Mbufs {
+    objects: Objects,
+}
+
+impl Model for Mbufs {
+    ghost use Rattle.dp_model.specs.Stores.{Store};
+    ghost use Rattle.dp_mbuf.specs.Mbufs.{shown, Sound};
+
+    ghost Value = { Store };
+
+    ghost view = { λ m. shown m.objects };
+
+    ghost invariant = { λ m. Sound m.objects };
+}
+
+// The number of a packet's first mbuf.
+fn place_of(packet: &Packet) -> Place
+    ensures { result ≡ numbered packet.now }
+{
+    let number = packet.number();
+    Place::new((number / 65536) as u16, (number % 65536) as u16)
+}
+
+// The packet whose first mbuf this is.
+fn packet_of(place: Place) -> Packet
+    ensures { result ≡ handle place }
+{
+    Packet::of(place.pool() as u32 * 65536 + place.index() as u32)
+}
+
+// The header of a packet's first mbuf.
+fn first_header(objects: &Objects, packet: &Packet) -> Header
+    requires { HasObject objects.now (numbered packet.now) }
+    ensures { result ≡ header_at objects.now (numbered packet.now) }
+{
+    objects.header(place_of(packet))
+}
+
+// The header of a packet's last mbuf.
+fn last_header(objects: &Objects, packet: &Packet) -> Header
+    requires first { HasObject objects.now (numbered packet.now) }
+    requires last { HasObject objects.now (header_at objects.now (numbered packet.now)).last }
+    ensures { result ≡ header_at objects.now (header_at objects.now (numbered packet.now)).last }
+{
+    objects.header(first_header(objects, packet).last)
+}
+
+// How many parts of at most `full` bytes there are, and one where there are no bytes.
+fn count_needed(len: usize, full: u16) -> usize
+    requires some { 1 ≤ full }
+    requires fits { len < 2 ^ 63 }
+    ensures { result ≡ max 1 ((len + (full - 1)) / full) }
+{
+    ((len + (full as usize - 1)) / full as usize).max(1)
+}
+
+// The number of a packet's `k`-th mbuf.
+fn place_at(objects: &Objects, first: Place, k: u32) -> Place
+    requires { HasWalk objects.now first k }
+    ensures { (p : List Segment) → Linked (header_at objects.now) first p → k < length p → Linked (header_at objects.now) result (drop k p) }
+{
+    let mut place = first;
+    for i in 0..k {
+        place = objects.header(place).next;
+    }
+    place
+}
+
+// The bytes of the segment that a header tells of.
+fn bytes_in_segment(objects: &Objects, header: Header) -> &[u8]
+    requires object { HasObject objects.now header.buffer }
+    requires fits { header.offset + header.len ≤ room_at (specs_of objects.now) header.buffer.pool }
+    ensures value { result.now ≡ slice_range (bytes_of (buffers_of objects.now) header.buffer) header.offset (header.offset + header.len) }
+    ensures many { length result.now ≡ header.len }
+{
+    let from = header.offset as usize;
+    &objects.bytes(header.buffer)[from..from + header.len as usize]
+}
+
+impl Mbufs {
+    /// Packets over these pools, which are at their start; none yet.
+    pub fn over(pools: [Option<Pool>; 8]) -> Mbufs
+        requires { AreReady pools }
+        ensures { IsNew pools result }
+    {
+        Mbufs {
+            objects: Objects::over(pools),
+        }
+    }
+
+    /// The pools again, each of them whole.
+    pub fn into_pools(self) -> [Option<Pool>; 8]
+        requires { HasNone self }
+        ensures { AreBack self result }
+    {
+        let Mbufs { objects } = self;
+        objects.into_pools()
+    }
+
+    /// Keeps a packet under a number, as for a ring; the packet is used again after `unpark`. Its segments stay.
+    pub fn park(&mut self, packet: Packet) -> u32
+        requires { IsLive self.old packet }
+        ensures number { result ≡ packet }
+        ensures same { self.new ≡ self.old }
+    {
+        packet.number()
+    }
+
+    /// The packet that was parked under this number.
+    pub fn unpark(&mut self, number: u32) -> Packet
+        requires { IsLive self.old number }
+        ensures packet { result ≡ number }
+        ensures same { self.new ≡ self.old }
+    {
+        Packet::of(number)
+    }
+
+    /// Whether the packet is one of these, live or parked.
+    pub fn is_live(&self, packet: &Packet) -> bool
+        ensures { IsTrue result ↔ IsLive self.now packet.now }
+    {
+        let place = place_of(packet);
+        self.objects.is_out(place) && self.objects.header(place).segs != 0
+    }
+
+    /// The room before the first segment's bytes.
+    pub fn headroom(&self, packet: &Packet) -> u16
+        requires { IsLive self.now packet.now }
+        ensures { Of self.now packet.now (λ k. result ≡ headroom k) }
+    {
+        first_header(&self.objects, packet).offset
+    }
+
+    /// The length of the first segment.
+    pub fn first_len(&self, packet: &Packet) -> u16
+        requires { IsLive self.now packet.now }
+        ensures { Of self.now packet.now (λ k. result ≡ first_len k) }
+    {
+        first_header(&self.objects, packet).len
+    }
+
+    /// How many segments there are.
+    pub fn segments(&self, packet: &Packet) -> u32
+        requires { IsLive self.now packet.now }
+        ensures { Of self.now packet.now (λ k. result ≡ length k) }
+    {
+        first_header(&self.objects, packet).segs as u32
+    }
+
+    /// The length of the last segment.
+    pub fn last_len(&self, packet: &Packet) -> u16
+        requires { IsLive self.now packet.now }
+        ensures { Of self.now packet.now (λ k. result ≡ last_len k) }
+    {
+        last_header(&self.objects, packet).len
+    }
+
+    /// The room behind the last segment's bytes.
+    pub fn tailroom(&self, packet: &Packet) -> u16
+        requires { IsLive self.now packet.now }
+        ensures { Of self.now packet.now (λ k. result ≡ tailroom self.now.pools k) }
+    {
+        let tail = last_header(&self.objects, packet);
+        self.objects.room(tail.buffer.pool()) - tail.offset - tail.len
+    }
+
+    /// Makes the first segment `n` bytes shorter at its front.
+    pub fn adj(&mut self, packet: &Packet, n: u16)
+        requires { HasSome self.old packet.now (λ k. n ≤ first_len k) }
+        ensures { Becomes self.old self.new packet.now (at_front (less_before n)) unwritten }
+    {
+        let head = first_header(&self.objects, packet);
+        self.objects.set_header(
+            place_of(packet),
+            Header {
+                offset: head.offset + n,
+                len: head.len - n,
+                ..head
+            },
+        );
+    }
+
+    /// Makes the last segment `n` bytes shorter.
+    pub fn trim(&mut self, packet: &Packet, n: u16)
+        requires { HasSome self.old packet.now (λ k. n ≤ last_len k) }
+        ensures { Becomes self.old self.new packet.now (at_end (less_behind n)) unwritten }
+    {
+        let last = first_header(&self.objects, packet).last;
+        let tail = self.objects.header(last);
+        self.objects.set_header(
+            last,
+            Header {
+                len: tail.len - n,
+                ..tail
+            },
+        );
+    }
+
+    /// Gives a packet up: one reference of each segment's buffer. An mbuf is back in its pool when no live segment has
+    /// it as its mbuf or as its buffer.
+    pub fn free(&mut self, packet: Packet)
+        requires { IsLive self.old packet }
+        ensures { self.new ≡ with_slot packet None self.old }
+    {
+        let head = unhook(&mut self.objects, place_of(&packet));
+        let mut place = place_of(&packet);
+        for i in 0..head.segs {
+            place = release(&mut self.objects, place);
+        }
+    }
+
+    /// How many buffers of a pool are free.
+    pub fn available(&self, pool: u32) -> u32
+        requires { pool < length self.now.pools }
+        ensures { result ≡ available self.now.pools (segments_of self.now) pool }
+    {
+        self.objects.available(pool as u16)
+    }
+
+    /// A packet of one segment without bytes; `None` exactly where no buffer of the pool is free.
+    pub fn alloc(&mut self, pool: u32) -> Option<Packet>
+        requires { pool < length self.old.pools }
+        ensures { Allocates self.old pool self.new result }
+    {
+        let place = self.objects.take(pool as u16)?;
+        let offset = self.objects.room(place.pool()).min(128);
+        let header = fresh_header(place, offset, 0);
+        self.objects.set_header(place, Header { segs: 1, ..header });
+        Some(packet_of(place))
+    }
+
+    /// The number in `width` bytes at a place of the first segment, the highest byte first.
+    pub fn load(&self, packet: &Packet, place: u64, width: Width) -> u64
+        requires { HasSome self.now packet.now (λ k. place + bytes_in width ≤ first_len k) }
+        ensures { Of self.now packet.now (λ k. result ≡ loaded place (bytes_in width) k self.now.buffers) }
+    {
+        let head = first_header(&self.objects, packet);
+        let bytes = bytes_in_segment(&self.objects, head);
+        read_number(&bytes[place as usize..], width)
+    }
+
+    /// Writes the low bytes of a number at a place of the first segment, the highest byte first.
+    pub fn store(&mut self, packet: &Packet, place: u64, width: Width, n: u64)
+        requires { HasSome self.old packet.now (λ k. (place + bytes_in width ≤ first_len k) × IsHeadSole (segments_of self.old) k) }
+        ensures { Becomes self.old self.new packet.now (λ k. k) (stored place (bytes_in width) n) }
+    {
+        let head = first_header(&self.objects, packet);
+        let at = head.offset as usize + place as usize;
+        let bytes = bytes_of_number(n);
+        let from = 8 - width.bytes() as usize;
+        self.objects.write(head.buffer, at, &bytes[from..]);
+    }
+
+    /// Makes the first segment `n` bytes longer at its front; the new bytes are 0.
+    pub fn prepend(&mut self, packet: &Packet, n: u16)
+        requires { HasSome self.old packet.now (λ k. (n ≤ headroom k) × IsHeadSole (segments_of self.old) k) }
+        ensures { Becomes self.old self.new packet.now (at_front (more_before n)) (zeroed_before n) }
+    {
+        let head = first_header(&self.objects, packet);
+        let offset = head.offset - n;
+        self.objects.zero(head.buffer, offset as usize, n as usize);
+        self.objects.set_header(
+            place_of(packet),
+            Header {
+                offset,
+                len: head.len + n,
+                ..head
+            },
+        );
+    }
+
+    /// Makes the last segment `n` bytes longer; the new bytes are 0.
+    pub fn append(&mut self, packet: &Packet, n: u16)
+        requires { HasSome self.old packet.now (λ k. (n ≤ tailroom self.old.pools k) × IsTailSole (segments_of self.old) k) }
+        ensures { Becomes self.old self.new packet.now (at_end (more_behind n)) (zeroed_behind n) }
+    {
+        let last = first_header(&self.objects, packet).last;
+        let tail = self.objects.header(last);
+        self.objects.zero(
+            tail.buffer,
+            tail.offset as usize + tail.len as usize,
+            n as usize,
+        );
+        self.objects.set_header(
+            last,
+            Header {
+                len: tail.len + n,
+                ..tail
+            },
+        );
+    }
+
+    /// Puts the second packet's segments behind the first's.
+    pub fn chain(&mut self, head: &Packet, tail: Packet)
+        requires two { head.now ≢ tail }
+        requires few { HasSome self.old head.now (λ k. HasSome self.old tail (λ t. length k + length t ≤ 64)) }
+        ensures { Chains self.old head.now tail self.new }
+    {
+        let second = place_of(&tail);
+        let behind = unhook(&mut self.objects, second);
+        let first = place_of(head);
+        let front = unhook(&mut self.objects, first);
+        relink(&mut self.objects, front.last, second);
+        hook(
+            &mut self.objects,
+            first,
+            front.segs + behind.segs,
+            behind.last,
+        );
+    }
+
+    /// A packet that shares the buffers of another: one indirect mbuf of the pool for each segment, with the same buffer,
+    /// offset and length. `None` exactly where fewer are free, and then nothing has changed.
+    pub fn clone_of(&mut self, packet: &Packet, pool: u32) -> Option<Packet>
+        requires live { IsLive self.old packet.now }
+        requires exists { pool < length self.old.pools }
+        ensures { Clones self.old packet.now pool self.new result }
+    {
+        let source = first_header(&self.objects, packet);
+        if self.objects.available(pool as u16) < source.segs as u32 {
+            return None;
+        }
+        let first = clone_segment(&mut self.objects, place_of(packet), pool as u16);
+        let mut last = first;
+        let mut from = source.next;
+        for i in 1..source.segs {
+            let place = clone_segment(&mut self.objects, from, pool as u16);
+            relink(&mut self.objects, last, place);
+            last = place;
+            from = self.objects.header(from).next;
+        }
+        hook(&mut self.objects, first, source.segs, last);
+        Some(packet_of(first))
+    }
+
+    /// How many live segments have the buffer of the `k`-th segment.
+    pub fn refs(&self, packet: &Packet, k: u32) -> u32
+        requires { HasSome self.now packet.now (λ p. k < length p) }
+        ensures { Of self.now packet.now (λ p. (s : Segment) → slice_get p k ≡ Some s → result ≡ refs (segments_of self.now) s.buffer) }
+    {
+        let segment = self
+            .objects
+            .header(place_at(&self.objects, place_of(packet), k));
+        self.objects.header(segment.buffer).refs
+    }
+
+    /// The bytes of the `k`-th segment.
+    pub fn segment_bytes(&self, packet: &Packet, k: u32) -> &[u8]
+        requires { HasSome self.now packet.now (λ p. k < length p) }
+        ensures { Of self.now packet.now (λ p. (s : Segment) → slice_get p k ≡ Some s → result.now ≡ segment_bytes self.now.buffers s) }
+    {
+        let segment = self
+            .objects
+            .header(place_at(&self.objects, place_of(packet), k));
+        bytes_in_segment(&self.objects, segment)
+    }
+
+    /// Whether the buffer of each segment has one reference.
+    pub fn is_sole(&self, packet: &Packet) -> bool
+        requires { IsLive self.now packet.now }
+        ensures { Of self.now packet.now (λ p. IsTrue result ↔ IsSole (segments_of self.now) p) }
+    {
+        let segs = first_header(&self.objects, packet).segs;
+        let mut place = place_of(packet);
+        for i in 0..segs {
+            let segment = self.objects.header(place);
+            let buffer = self.objects.header(segment.buffer);
+            if buffer.refs != 1 {
+                return false;
+            }
+            place = segment.next;
+        }
+        true
+    }
+
+    /// How many bytes the packet has.
+    pub fn length(&self, packet: &Packet) -> u32
+        requires { IsLive self.now packet.now }
+        ensures value { Of self.now packet.now (λ p. result ≡ length (packet_bytes self.now.buffers p)) }
+        ensures bound { result ≤ 262144 }
+    {
+        let segs = first_header(&self.objects, packet).segs;
+        let mut place = place_of(packet);
+        let mut total = 0u32;
+        for i in 0..segs {
+            let segment = self.objects.header(place);
+            total += segment.len as u32;
+            place = segment.next;
+        }
+        total
+    }
+
+    /// A packet with these bytes: each segment at offset 128, all full but the last. `None` exactly where fewer buffers
+    /// of the pool are free than it needs, and then nothing has changed.
+    pub fn receive(&mut self, pool: u32, bytes: &[u8]) -> Option<Packet>
+        requires room { 129 ≤ room_at self.old.pools pool }
+        requires fits { needed self.old.pools pool (length bytes.now) ≤ 64 }
+        ensures { ReceivesInto self.old pool bytes.now self.new result }
+    {
+        let full = self.objects.room(pool as u16) - 128;
+        let need = count_needed(bytes.len(), full);
+        if (self.objects.available(pool as u16) as usize) < need {
+            return None;
+        }
+        let first = fill_segment(&mut self.objects, pool as u16, full, bytes);
+        let mut last = first;
+        let mut rest = behind(bytes, full as usize);
+        for i in 1..need {
+            let place = fill_segment(&mut self.objects, pool as u16, full, rest);
+            relink(&mut self.objects, last, place);
+            last = place;
+            rest = behind(rest, full as usize);
+        }
+        hook(&mut self.objects, first, need as u16, last);
+        Some(packet_of(first))
+    }
+
+    /// How many buffers of the pool a packet of so many bytes needs.
+    pub fn needed(&self, pool: u32, len: u32) -> u32
+        requires { 129 ≤ room_at self.now.pools pool }
+        ensures { result ≡ needed self.now.pools pool len }
+    {
+        let full = self.objects.room(pool as u16) - 128;
+        count_needed(len as usize, full) as u32
+    }
+
+    /// What is true of every `Mbufs`, a law: the world of its packets is well formed, the segments lie within their
+    /// buffers, and no buffer has more references than there are mbufs.
+    pub fn is_well_formed(&self)
+        ensures world { IsWellFormedStore self.now }
+        ensures few { (b : Number) → refs (segments_of self.now) b ≤ mbufs_in_all self.now.pools }
+    {
+        let _ = &self.objects;
+    }
+}

@@ -1,0 +1,212 @@
+// The objects of all pools, each with a header and with bytes behind it.
+
+ghost use Rattle.std.specs.Prelude.{◌≡◌, ℕ, ◌<◌, ◌≤◌, ◌+◌, [], true, false, length, Some, None, slice_get, slice_index, replicate, MatchOption};
+ghost use Rattle.dp_model.specs.Buffers.{bytes_of};
+ghost use Rattle.dp_model.specs.Environments.{room_at};
+ghost use Rattle.dp_mbuf.specs.Pools.{with_written, with_out};
+ghost use Rattle.dp_mbuf.specs.Objects.{present, pool_in, header_at, is_out, count_in, specs_of, buffers_of, HasObject, HasRooms, PoolsFirst, ArePools, HeaderSet, RoomWritten, Taken, Given, SlotHas, SlotFits, SlotIsOut, SlotBecomes, SlotGives, slot_out};
+
+use crate::header::{Header, Place, bytes_of_header, read_header};
+use crate::pool::Pool;
+use std::marker::Model;
+
+/// The objects of at most eight pools.
+#[derive(Drop)]
+pub(crate) struct Objects {
+    pools: [Option<Pool>; 8],
+}
+
+impl Model for Objects {
+    ghost use Rattle.std.specs.Prelude.{◌≡◌, List, length};
+    ghost use Rattle.dp_mbuf.specs.Pools.{PoolView};
+    ghost use Rattle.dp_mbuf.specs.Objects.{PoolsFirst, present};
+
+    ghost Value = { List PoolView };
+
+    ghost view = { λ o. present o.pools };
+
+    ghost invariant = { λ o. (length o.pools ≡ 8) × PoolsFirst o.pools };
+}
+
+// The pool of this number.
+fn pool_at(pools: &[Option<Pool>; 8], k: u16) -> &Pool
+    requires first { PoolsFirst pools.now }
+    requires there { k < length (present pools.now) }
+    ensures value { result.now ≡ pool_in (present pools.now) k }
+    ensures rooms { HasRooms result.now }
+{
+    match &pools[k as usize] {
+        Some(pool) => pool,
+        None => unreachable!(),
+    }
+}
+
+// Writes into an object of a place's pool.
+fn write_in(slot: &mut Option<Pool>, index: u16, at: usize, bytes: &[u8])
+    requires { SlotFits slot.old index (at + length bytes.now) }
+    ensures becomes { SlotBecomes (λ p. with_written p index at bytes.now) slot.old slot.new }
+    ensures small { (k : ℕ) → slice_index bytes.now k < 256 }
+{
+    if let Some(pool) = slot {
+        pool.write(index as u32, at, bytes);
+    }
+}
+
+// Writes zeros into an object of a place's pool.
+fn zero_in(slot: &mut Option<Pool>, index: u16, at: usize, len: usize)
+    requires { SlotFits slot.old index (at + len) }
+    ensures { SlotBecomes (λ p. with_written p index at (replicate len 0)) slot.old slot.new }
+{
+    if let Some(pool) = slot {
+        pool.zero(index as u32, at, len);
+    }
+}
+
+// Puts an object of a place's pool back.
+fn put_in(slot: &mut Option<Pool>, index: u16)
+    requires { SlotIsOut slot.old index }
+    ensures { SlotBecomes (λ p. with_out p index false) slot.old slot.new }
+{
+    if let Some(pool) = slot {
+        pool.put(index as u32);
+    }
+}
+
+// Whether an object of a place's pool is handed out.
+fn is_out_in(slot: &Option<Pool>, index: u16) -> bool
+    ensures { result ≡ slot_out slot.now index }
+{
+    match slot {
+        Some(pool) => pool.is_out(index as u32),
+        None => false,
+    }
+}
+
+// Hands out an object of a place's pool.
+fn get_in(slot: &mut Option<Pool>) -> Option<u16>
+    requires { SlotHas slot.old }
+    ensures { SlotGives slot.old result slot.new }
+{
+    match slot {
+        Some(pool) => {
+            let index = pool.get()?;
+            Some(index as u16)
+        }
+        None => None,
+    }
+}
+
+impl Objects {
+    /// The objects of these pools.
+    pub fn over(pools: [Option<Pool>; 8]) -> Objects
+        requires first { PoolsFirst pools }
+        requires few { length (present pools) ≤ 8 }
+        ensures value { result ≡ present pools }
+        ensures pools { ArePools result }
+    {
+        Objects { pools }
+    }
+
+    /// The header of an object.
+    pub fn header(&self, n: Place) -> Header
+        requires { HasObject self.now n }
+        ensures { result ≡ header_at self.now n }
+    {
+        read_header(pool_at(&self.pools, n.pool()).object(n.index() as u32))
+    }
+
+    /// Whether an object is handed out; `false` where there is no such object.
+    pub fn is_out(&self, n: Place) -> bool
+        ensures { result ≡ is_out self.now n }
+    {
+        let pools = &self.pools;
+        let k = n.pool() as usize;
+        if k >= 8 {
+            return false;
+        }
+        is_out_in(&pools[k], n.index())
+    }
+
+    /// The data room of a pool's objects.
+    pub fn room(&self, pool: u16) -> u16
+        requires { pool < length self.now }
+        ensures { result ≡ room_at (specs_of self.now) pool }
+    {
+        (pool_at(&self.pools, pool).size() - 128) as u16
+    }
+
+    /// The bytes behind a header.
+    pub fn bytes(&self, n: Place) -> &[u8]
+        requires { HasObject self.now n }
+        ensures value { result.now ≡ bytes_of (buffers_of self.now) n }
+        ensures room { length result.now ≡ room_at (specs_of self.now) n.pool }
+    {
+        &pool_at(&self.pools, n.pool()).object(n.index() as u32)[128..]
+    }
+
+    /// How many objects of a pool are in.
+    pub fn available(&self, pool: u16) -> u32
+        requires { pool < length self.now }
+        ensures { result ≡ count_in self.now pool }
+    {
+        pool_at(&self.pools, pool).available()
+    }
+
+    /// Writes a header.
+    pub fn set_header(&mut self, n: Place, h: Header)
+        requires { HasObject self.old n }
+        ensures { HeaderSet self.old n h self.new }
+    {
+        let bytes = bytes_of_header(h);
+        write_in(&mut self.pools[n.pool() as usize], n.index(), 0, &bytes);
+    }
+
+    /// Writes bytes behind a header from a place on.
+    pub fn write(&mut self, n: Place, at: usize, bytes: &[u8])
+        requires object { HasObject self.old n }
+        requires fits { at + length bytes.now ≤ room_at (specs_of self.old) n.pool }
+        ensures { RoomWritten self.old n at bytes.now self.new }
+    {
+        write_in(
+            &mut self.pools[n.pool() as usize],
+            n.index(),
+            128 + at,
+            bytes,
+        );
+    }
+
+    /// Writes zeros behind a header from a place on.
+    pub fn zero(&mut self, n: Place, at: usize, len: usize)
+        requires object { HasObject self.old n }
+        requires fits { at + len ≤ room_at (specs_of self.old) n.pool }
+        ensures { RoomWritten self.old n at (replicate len 0) self.new }
+    {
+        zero_in(&mut self.pools[n.pool() as usize], n.index(), 128 + at, len);
+    }
+
+    /// Hands out an object of a pool; `None` where none is in.
+    pub fn take(&mut self, pool: u16) -> Option<Place>
+        requires { pool < length self.old }
+        ensures { MatchOption result ((count_in self.old pool ≡ 0) × (self.new ≡ self.old)) (λ n. (n.pool ≡ pool) × Taken self.old n self.new) }
+    {
+        let index = get_in(&mut self.pools[pool as usize])?;
+        Some(Place::new(pool, index))
+    }
+
+    /// Puts an object back.
+    pub fn give(&mut self, n: Place)
+        requires { is_out self.old n ≡ true }
+        ensures { Given self.old n self.new }
+    {
+        put_in(&mut self.pools[n.pool() as usize], n.index());
+    }
+
+    /// The pools again.
+    pub fn into_pools(self) -> [Option<Pool>; 8]
+        ensures same { present result ≡ self }
+        ensures first { PoolsFirst result }
+    {
+        let Objects { pools } = self;
+        pools
+    }
+}
