@@ -28,3 +28,8 @@ in_count_taken (b ∷ out) (suc i) is =
 pub are_got_more : (old mid : PoolView) (is : List ℕ) (i : ℕ) → AreGot old is mid → slice_get mid.out i ≡ Some false → AreGot old (is ++ i ∷ []) (got mid i)
 are_got_more old mid [] i same was_in = (ap (λ v. slice_get v.out i) (sym same) ∙ was_in, ap (λ v. got v i) same)
 are_got_more old mid (j ∷ is) i more was_in = (more.0, are_got_more (got old j) mid is i more.1 was_in)
+
+-- what stays as they are handed out
+pub got_keeps : (is : List ℕ) (old new : PoolView) → AreGot old is new → (new.zones ≡ old.zones) × (new.objects ≡ old.objects) × (new.size ≡ old.size) × (new.cache ≡ old.cache)
+got_keeps [] old new same = (ap (λ v. v.zones) same, ap (λ v. v.objects) same, ap (λ v. v.size) same, ap (λ v. v.cache) same)
+got_keeps (i ∷ is) old new more = got_keeps is (got old i) new more.1

@@ -52,6 +52,13 @@ IsPoolRefused (Zone error) name n size cache table es =
     ⊎ ((len place : ℕ) × (mid : List Reserved) × (left : List Element) × IsQueueLen n len
     × Reserves (object_name name) (object_len n size) table es place mid left × IsZoneRefused error (queue_name name) len 0 mid left))
 
+-- the number of a reason
+abbrev pub number_of : PoolError → ℕ
+number_of BadCount = 1
+number_of BadSize = 2
+number_of BadCache = 3
+number_of (Zone error) = 4
+
 -- a pool of n objects is made, all of them in: its zones are taken, the objects' first
 pub record IsMade (name : List ℕ) (n size cache : ℕ) (home : Home) (old : List Reserved) (before : List Element) (p : PoolView) (new : List Reserved) (after : List Element) : Type 0 where
   pub count : IsPoolCount n

@@ -1,4 +1,6 @@
 //! Why a pool is not made.
+ghost use Rattle.std.specs.Prelude.{◌≡◌};
+ghost use Rattle.dp_pool.specs.Making.{number_of};
 
 use dp_zone::ZoneError;
 use thiserror::Error;
@@ -22,7 +24,9 @@ pub enum PoolError {
 
 impl PoolError {
     /// Its number, from 1, in the order in which the causes are looked for.
-    pub fn number(self) -> u8 {
+    pub fn number(self) -> u8
+        ensures { result ≡ number_of self }
+    {
         match self {
             PoolError::BadCount => 1,
             PoolError::BadSize => 2,

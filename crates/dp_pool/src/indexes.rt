@@ -128,7 +128,8 @@ impl Indexes {
 
     /// How many stand in the cache.
     pub(crate) fn cached(&self) -> u32
-        ensures { result ≡ self.now.cached }
+        ensures value { result ≡ self.now.cached }
+        ensures there { result ≤ in_count self.now.out }
     {
         self.cached.len() as u32
     }

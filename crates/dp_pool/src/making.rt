@@ -1,9 +1,9 @@
 //! Pools that are made, and taken apart.
 
-ghost use Rattle.std.specs.Prelude.{◌≡◌, ◌+◌, ◌*◌, ◌<◌, ◌≤◌, ◌++◌, true, false, codes, length, replicate, IfOk, IfErr, IfSome, IfNone, OnErr, count_by, not, max};
+ghost use Rattle.std.specs.Prelude.{◌≡◌, ◌+◌, ◌*◌, ◌<◌, ◌≤◌, ◌++◌, true, false, codes, length, replicate, IfOk, IfErr, IfSome, IfNone, OnErr, MatchResult, count_by, not, max};
 ghost use Rattle.std.specs.Prelude.{◌⊎◌};
 ghost use Rattle.std.specs.Int.{IsNextPowerOfTwo};
-ghost use Rattle.dp_heap.specs.Elements.{rounded, merged, IsOut};
+ghost use Rattle.dp_heap.specs.Elements.{rounded, merged, IsOut, count_of, is_busy};
 ghost use Rattle.dp_zone.specs.Zones.{IsZoneRefused, without_name};
 ghost use Rattle.dp_pool.specs.Pools.{stride_of};
 ghost use Rattle.dp_pool.specs.Making.{IsPoolCount, IsObjectSize, IsCacheSize, object_name, queue_name, Reserves, IsPoolRefused, IsMade};
@@ -77,6 +77,7 @@ pub(crate) fn reserve(
     ensures home { heap.new.home ≡ heap.old.home }
     ensures refused { IfErr result (λ e. IsZoneRefused e (name.now ++ suffix.now) len 0 zones.old heap.old.elements) }
     ensures kept { OnErr result ((zones.new ≡ zones.old) × (heap.new ≡ heap.old)) }
+    ensures counted { MatchResult result (λ _. count_of is_busy heap.new.elements ≡ count_of is_busy heap.old.elements + 1) (λ _. count_of is_busy heap.new.elements ≡ count_of is_busy heap.old.elements) }
 {
     match with_suffix(name, suffix) {
         Some(text) => zones.reserve(heap, text.as_str(), len, 0),

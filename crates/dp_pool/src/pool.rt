@@ -1,7 +1,7 @@
 //! A mempool.
 
-ghost use Rattle.std.specs.Prelude.{◌≡◌, ◌+◌, ◌*◌, ◌<◌, ◌≤◌, true, false, not, Some, length, replicate, slice_get, count_by, nat_le, MatchOption, IfOk, IfErr, OnErr};
-ghost use Rattle.dp_heap.specs.Elements.{merged};
+ghost use Rattle.std.specs.Prelude.{◌≡◌, ◌+◌, ◌*◌, ◌<◌, ◌≤◌, true, false, not, Some, length, replicate, slice_get, count_by, nat_le, MatchOption, IfOk, IfErr, OnErr, MatchResult};
+ghost use Rattle.dp_heap.specs.Elements.{merged, count_of, is_busy};
 ghost use Rattle.dp_zone.specs.Zones.{without_name};
 ghost use Rattle.dp_pool.specs.Making.{IsPoolCount, IsObjectSize, IsCacheSize, IsPoolRefused, IsMade};
 ghost use Rattle.dp_pool.specs.Queues.{in_count};
@@ -103,6 +103,7 @@ impl Pool {
         ensures home { heap.new.home ≡ heap.old.home }
         ensures refused { IfErr result (λ e. IsPoolRefused e name.now count size cache zones.old heap.old.elements) }
         ensures kept { OnErr result ((zones.new ≡ zones.old) × (heap.new ≡ heap.old)) }
+        ensures counted { MatchResult result (λ _. count_of is_busy heap.new.elements ≡ count_of is_busy heap.old.elements + 2) (λ _. count_of is_busy heap.new.elements ≡ count_of is_busy heap.old.elements) }
     {
         if let Some(error) = refused_numbers(count, size, cache) {
             return Err(error);
@@ -133,6 +134,7 @@ impl Pool {
         requires { self.zones.home ≡ heap.old.home }
         ensures table { zones.new ≡ without_name self.zones.object_name (without_name self.zones.queue_name zones.old) }
         ensures heap { heap.new ≡ record { home = heap.old.home; elements = merged self.zones.object_place (merged self.zones.queue_place heap.old.elements) } }
+        ensures counted { count_of is_busy heap.new.elements + 2 ≡ count_of is_busy heap.old.elements }
     {
         let Pool {
             objects,
@@ -170,7 +172,8 @@ impl Pool {
 
     /// How many indexes stand in the cache.
     pub fn cached(&self) -> u32
-        ensures { result ≡ self.now.cached }
+        ensures value { result ≡ self.now.cached }
+        ensures there { result ≤ in_count self.now.out }
     {
         self.indexes.cached()
     }
@@ -204,10 +207,12 @@ impl Pool {
     }
 
     /// Hands out an object for each place of the list, as so many gets, or none and answers false where fewer are in.
+    #[tactic(auto, using(crate::proofs::Bulk::got_keeps))]
     pub fn get_bulk(&mut self, indexes: &mut [u32]) -> bool
         ensures taken { result ≡ nat_le (length indexes.old) (in_count self.old.out) }
         ensures got { result ≡ true → AreGot self.old indexes.new self.new }
         ensures kept { result ≡ false → (self.new ≡ self.old) × (indexes.new ≡ indexes.old) }
+        ensures same { (self.new.zones ≡ self.old.zones) × (self.new.objects ≡ self.old.objects) × (self.new.size ≡ self.old.size) × (self.new.cache ≡ self.old.cache) }
         ensures len { length indexes.new ≡ length indexes.old }
     {
         if indexes.len() > self.available() as usize {

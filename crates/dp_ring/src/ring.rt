@@ -74,7 +74,8 @@ impl Ring {
     /// How many entries there are.
     #[tactic(auto, using(crate::proofs::Entries::counted))]
     pub fn count(&self) -> u32
-        ensures { result ≡ length self.now.entries }
+        ensures value { result ≡ length self.now.entries }
+        ensures bound { result < self.now.count }
     {
         self.used
     }

@@ -74,6 +74,15 @@ IsZoneRefused NoRoom name len align table es =
     (is_name name ≡ true) × IsLength len × IsAlign align × (has_name name table ≡ false) × (length table < 64)
     × NothingFits (rounded len) (alignment align) es
 
+-- the number of a cause
+abbrev pub number_of : ZoneError → ℕ
+number_of BadName = 1
+number_of BadLength = 2
+number_of BadAlign = 3
+number_of Exists = 4
+number_of Full = 5
+number_of NoRoom = 6
+
 -- a request that no error but NoRoom applies to
 pub record IsReservable (name : List ℕ) (len align : ℕ) (table : List Reserved) : Type 0 where
   pub named : is_name name ≡ true

@@ -1,4 +1,6 @@
 //! Why a zone is not reserved.
+ghost use Rattle.std.specs.Prelude.{◌≡◌};
+ghost use Rattle.dp_zone.specs.Zones.{number_of};
 
 use thiserror::Error;
 
@@ -27,7 +29,9 @@ pub enum ZoneError {
 
 impl ZoneError {
     /// Its number, from 1, in the order in which the causes are looked for.
-    pub fn number(self) -> u8 {
+    pub fn number(self) -> u8
+        ensures { result ≡ number_of self }
+    {
         match self {
             ZoneError::BadName => 1,
             ZoneError::BadLength => 2,

@@ -1,9 +1,9 @@
 //! The table of zones.
 
-ghost use Rattle.std.specs.Prelude.{◌≡◌, ◌<◌, ◌≤◌, ◌&&◌, List, [], ◌∷◌, ◌++◌, length, Contains, IfOk, IfErr, IfSome, IfNone, OnOk, OnErr, MatchResult, find, position, option_map, true, false};
+ghost use Rattle.std.specs.Prelude.{◌≡◌, ◌+◌, ◌<◌, ◌≤◌, ◌&&◌, List, [], ◌∷◌, ◌++◌, length, Contains, IfOk, IfErr, IfSome, IfNone, OnOk, OnErr, MatchResult, find, position, option_map, true, false};
 ghost use Rattle.std.specs.List.{list_any};
 ghost use Rattle.dp_heap.specs.declared.elements.Element.{Element};
-ghost use Rattle.dp_heap.specs.Elements.{rounded, alignment, Taken, merged, IsOut};
+ghost use Rattle.dp_heap.specs.Elements.{rounded, alignment, Taken, merged, IsOut, count_of, is_busy};
 ghost use Rattle.dp_zone.specs.Names.{same_name};
 ghost use Rattle.dp_zone.specs.Entries.{table_of};
 ghost use Rattle.dp_zone.specs.Zones.{Reserved, info_of, reserved_of, is_named, has_name, zone_named, without_name, IsZoneRefused, IsReservable};
@@ -163,6 +163,7 @@ impl Zones {
         ensures home { heap.new.home ≡ heap.old.home }
         ensures refused { IfErr result (λ e. IsZoneRefused e name.now len align self.old heap.old.elements) }
         ensures kept { OnErr result ((self.new ≡ self.old) × (heap.new ≡ heap.old)) }
+        ensures counted { MatchResult result (λ _. count_of is_busy heap.new.elements ≡ count_of is_busy heap.old.elements + 1) (λ _. count_of is_busy heap.new.elements ≡ count_of is_busy heap.old.elements) }
     {
         if let Some(error) = self.refusal(name, len, align) {
             return Err(error);
@@ -189,6 +190,7 @@ impl Zones {
         ensures was_out { IsOut zone.place heap.old.elements }
         ensures table { self.new ≡ without_name zone.name self.old }
         ensures heap { heap.new ≡ record { home = heap.old.home; elements = merged zone.place heap.old.elements } }
+        ensures counted { count_of is_busy heap.new.elements + 1 ≡ count_of is_busy heap.old.elements }
     {
         let (name, block) = zone.into_parts();
         self.forget(name.as_str());
