@@ -1,0 +1,38 @@
+//! Files of bounded length, read whole.
+
+use std::alloc::{AllocError, Global};
+use std::io::Read;
+use std::rt::Files;
+use std::{fs, io};
+
+/// The most bytes of a program, certificate or script file.
+pub const LONGEST: u64 = 1_048_576;
+
+/// Why a file was not read.
+#[derive(Clone, Copy, Debug, PartialEq, Eq)]
+pub enum ReadFault {
+    /// There is not enough memory.
+    Memory,
+    /// It cannot be opened or read, or is longer than 1,048,576 bytes.
+    File,
+}
+
+impl From<io::Error> for ReadFault {
+    fn from(error: io::Error) -> ReadFault {
+        match error.kind() {
+            io::ErrorKind::OutOfMemory => ReadFault::Memory,
+            _ => ReadFault::File,
+        }
+    }
+}
+
+/// The bytes of a file of at most 1,048,576.
+pub fn read<R: Files>(rt: &R, alloc: Global, name: &str) -> Result<Vec<u8>, ReadFault> {
+    let file = fs::open(rt, name)?;
+    let mut bytes = Vec::new(alloc);
+    file.take(LONGEST + 1).read_to_end(&mut bytes)?;
+    if bytes.len() as u64 > LONGEST {
+        return Err(ReadFault::File);
+    }
+    Ok(bytes)
+}

@@ -1,0 +1,257 @@
+//! `dpv mem`: heap scripts.
+
+ghost use Rattle.std.specs.Prelude.{◌≡◌, ℕ, ◌%◌, ◌≤◌, [], All, IfSome, IsTrue, ◌<◌, length};
+ghost use Rattle.dp_heap.specs.Elements.{count_of, is_busy};
+ghost use Rattle.dp_region.specs.Region.{IsRegionSize};
+
+use crate::fault::{DONE, Fault, MEMORY, tell, tell_fault};
+use crate::script::{Command, command_of};
+use dp_heap::{Element, Heap, HeapError, State};
+use dp_region::{Block, Region};
+use std::alloc::Global;
+use std::fmt;
+use std::io::Write;
+
+/// A block that a script holds, by the number of its success.
+struct Held {
+    number: u32,
+    block: Block,
+}
+
+/// A heap and the blocks that a script holds of it, in the order of their numbers.
+struct Session {
+    heap: Heap,
+    held: Vec<Held>,
+    taken: u32,
+    ghost ours: { All (λ h. h.block.home ≡ heap.home) held.items },
+    ghost counted: { count_of is_busy heap.elements ≡ length held.items },
+}
+
+/// An element as `list` prints it.
+#[derive(Drop)]
+struct ElementLine(Element);
+
+impl fmt::Display for ElementLine {
+    fn fmt<W: fmt::Write>(&self, f: &mut fmt::Formatter<W>) -> fmt::Result {
+        let ElementLine(element) = self;
+        match element.state {
+            State::Free => write!(f, "FREE {} + {}", element.place, element.size),
+            State::Busy => write!(
+                f,
+                "BUSY {} + {} pad {}",
+                element.place, element.size, element.pad
+            ),
+        }
+    }
+}
+
+/// The element of a heap in which a place lies.
+fn element_around(heap: &Heap, place: u32) -> Option<Element> {
+    for k in 0..u32::MAX {
+        let element = heap.element(k)?;
+        if place >= element.place && place - element.place < element.size {
+            return Some(element);
+        }
+    }
+    None
+}
+
+/// Prints what became of the block of a success.
+fn tell_block<O: Write>(heap: &Heap, number: u32, data: u32, out: &mut O) -> u8 {
+    match element_around(heap, data) {
+        Some(element) => tell(
+            out,
+            format_args!(
+                "{number} data {data} element {} + {}",
+                element.place, element.size
+            ),
+            DONE,
+        ),
+        None => DONE,
+    }
+}
+
+/// Prints a refusal.
+fn tell_refusal<O: Write>(error: HeapError, out: &mut O) -> u8 {
+    let name = match error {
+        HeapError::ZeroSize => "ZeroSize",
+        HeapError::BadAlign => "BadAlign",
+        HeapError::NoRoom => "NoRoom",
+    };
+    tell(out, format_args!("refused {} {name}", error.number()), DONE)
+}
+
+impl Session {
+    /// A heap over a region, with no block out.
+    fn over(alloc: Global, region: Region) -> Session
+        requires { region.lent ≡ [] }
+    {
+        Session {
+            heap: Heap::new(region),
+            held: Vec::new(alloc),
+            taken: 0,
+        }
+    }
+
+    /// Frees the blocks in the order of their numbers, and closes the heap.
+    fn end(self) {
+        let Session {
+            heap,
+            held,
+            taken: _,
+        } = self;
+        let mut heap = heap;
+        let mut held = held;
+        held.reverse();
+        while let Some(Held { number: _, block }) = held.pop() {
+            heap.free(block);
+        }
+        held.destroy_empty();
+        heap.close().close();
+    }
+
+    /// `malloc` and `zmalloc`.
+    fn take<O: Write>(&mut self, size: u32, align: u32, zeros: bool, out: &mut O) -> u8 {
+        let answer = if zeros {
+            self.heap.zmalloc(size, align)
+        } else {
+            self.heap.malloc(size, align)
+        };
+        match answer {
+            Ok(block) => {
+                let data = block.place();
+                self.taken = self.taken.saturating_add(1);
+                let number = self.taken;
+                if let Err(full) = self.held.push(Held { number, block }) {
+                    let Held { number: _, block } = full.value;
+                    self.heap.free(block);
+                    return MEMORY;
+                }
+                tell_block(&self.heap, number, data, out)
+            }
+            Err(error) => tell_refusal(error, out),
+        }
+    }
+
+    /// The place of a number in the list of blocks.
+    fn place_of(&self, number: u32) -> Option<usize>
+        ensures { IfSome result (λ k. k < length self.now.held.items) }
+    {
+        self.held.iter().position(|held| held.number == number)
+    }
+
+    /// `free`; `None` where the number is not held.
+    fn free<O: Write>(&mut self, number: u32, out: &mut O) -> Option<u8> {
+        let place = self.place_of(number)?;
+        let Held { number: _, block } = self.held.remove(place);
+        self.heap.free(block);
+        Some(tell(out, format_args!("freed {number}"), DONE))
+    }
+
+    /// `list`.
+    fn list<O: Write>(&self, out: &mut O) -> u8 {
+        for k in 0..u32::MAX {
+            match self.heap.element(k) {
+                Some(element) => {
+                    let status = tell(out, ElementLine(element), DONE);
+                    if status != DONE {
+                        return status;
+                    }
+                }
+                None => return DONE,
+            }
+        }
+        DONE
+    }
+
+    /// `stats`.
+    fn stats<O: Write>(&self, out: &mut O) -> u8 {
+        let all = self.heap.stats();
+        tell(
+            out,
+            format_args!(
+                "free {} bytes {} busy {} bytes {}",
+                all.free_count, all.free_bytes, all.busy_count, all.busy_bytes
+            ),
+            DONE,
+        )
+    }
+
+    /// A command; `None` where it is none here.
+    fn run<O: Write>(&mut self, command: Command, out: &mut O) -> Option<u8> {
+        match command {
+            Command::Region(_) => None,
+            Command::Malloc { size, align } => Some(self.take(size, align, false, out)),
+            Command::Zmalloc { size, align } => Some(self.take(size, align, true, out)),
+            Command::Free(number) => self.free(number, out),
+            Command::List => Some(self.list(out)),
+            Command::Stats => Some(self.stats(out)),
+        }
+    }
+}
+
+/// Whether a region may have this size.
+fn is_region_size(size: u32) -> bool
+    ensures { IsTrue result → IsRegionSize size }
+{
+    size >= 4_096 && size <= 1_073_741_824 && size % 64 == 0
+}
+
+/// The first line of a script that is not empty, and how many stand before it.
+fn first_line(script: &[u8]) -> Option<(u64, &[u8])> {
+    let mut before = 0u64;
+    for line in script.split(|b| *b == b'\n') {
+        if !line.is_empty() {
+            return Some((before, line));
+        }
+        before = before.saturating_add(1);
+    }
+    None
+}
+
+/// The lines of a script behind the first that is not empty, up to the first that is at fault or cannot be told of.
+fn run_lines<O: Write, E: Write>(
+    session: &mut Session,
+    script: &[u8],
+    first: u64,
+    out: &mut O,
+    err: &mut E,
+) -> u8 {
+    let mut number = 0u64;
+    for line in script.split(|b| *b == b'\n') {
+        number = number.saturating_add(1);
+        if number <= first.saturating_add(1) || line.is_empty() {
+            continue;
+        }
+        let status = match command_of(line) {
+            Some(command) => session.run(command, out),
+            None => None,
+        };
+        match status {
+            Some(DONE) => {}
+            Some(MEMORY) => return tell_fault(err, Fault::Memory),
+            Some(status) => return status,
+            None => return tell_fault(err, Fault::Line(number)),
+        }
+    }
+    DONE
+}
+
+/// Runs a heap script, and answers the status: 0, 3 with a line on a fault of the script, 4 for want of memory. What the
+/// commands before a fault print stands in `out`.
+pub fn mem_line<O: Write, E: Write>(alloc: Global, script: &[u8], out: &mut O, err: &mut E) -> u8 {
+    let Some((before, line)) = first_line(script) else {
+        return DONE;
+    };
+    let size = match command_of(line) {
+        Some(Command::Region(size)) if is_region_size(size) => size,
+        _ => return tell_fault(err, Fault::Line(before.saturating_add(1))),
+    };
+    let Ok(region) = Region::new(alloc, size) else {
+        return tell_fault(err, Fault::Memory);
+    };
+    let mut session = Session::over(alloc, region);
+    let status = run_lines(&mut session, script, before, out, err);
+    session.end();
+    status
+}

@@ -1,0 +1,124 @@
+//! `dpv one`: one node program on one port, from a capture to a capture.
+
+ghost use Rattle.std.specs.Prelude.{◌≡◌, IfOk};
+ghost use Rattle.dp_cli.specs.One.{one_port, IsForOnePort};
+
+use crate::fault::{DONE, Fault, REFUSED, tell, tell_fault};
+use crate::report::ReportText;
+use dp_cert::{CertError, decode};
+use dp_check::{Checked, check};
+use dp_engine::{OneCause, OneFault, run_one};
+use dp_lang::{AsmError, assemble};
+use dp_model::{Entry, Env, PoolSpec, PortSpec};
+use dp_pcap::{Feed, Sink};
+use std::alloc::Global;
+use std::io::Write;
+
+/// The environment of one port.
+fn one_env() -> Env
+    ensures { result ≡ one_port }
+{
+    let pool = PoolSpec {
+        count: 64,
+        cache: 0,
+        room: 2_176,
+    };
+    let port = PortSpec {
+        pool: 0,
+        segs: 1,
+        queue: 32,
+    };
+    match Env::new(&[pool], 0, &[], &[port]) {
+        Ok(env) => env,
+        Err(_) => unreachable!(),
+    }
+}
+
+/// The fault of a program text.
+pub fn asm_fault(error: AsmError) -> Fault<'static> {
+    match error {
+        AsmError::Memory => Fault::Memory,
+        AsmError::Fault(fault) => Fault::Asm {
+            line: fault.line as u64,
+            cause: fault.cause.number(),
+        },
+    }
+}
+
+/// The fault of a certificate text.
+fn cert_fault(error: CertError) -> Fault<'static> {
+    match error {
+        CertError::Memory => Fault::Memory,
+        CertError::Fault(fault) => Fault::BadCert {
+            line: fault.line as u64,
+            cause: fault.cause.number(),
+        },
+    }
+}
+
+/// The program of a text, checked with the certificate of another for the one port; or the status, once the fault or the
+/// refusal is told.
+pub fn one_load<O: Write, E: Write>(
+    alloc: Global,
+    node: &[u8],
+    cert: &[u8],
+    out: &mut O,
+    err: &mut E,
+) -> Result<Checked, u8>
+    ensures { IfOk result IsForOnePort }
+{
+    let program = match assemble(alloc, node) {
+        Ok(program) => program,
+        Err(error) => return Err(tell_fault(err, asm_fault(error))),
+    };
+    let cert = match decode(alloc, cert, program.instrs().len()) {
+        Ok(cert) => cert,
+        Err(error) => return Err(tell_fault(err, cert_fault(error))),
+    };
+    match check(program, cert, &one_env(), Entry::Port(0)) {
+        Ok(checked) => Ok(checked),
+        Err(refused) => Err(tell(
+            out,
+            format_args!("port 0 refused at {} by J{}", refused.label, refused.rule),
+            REFUSED,
+        )),
+    }
+}
+
+/// Tells of a run that did not end well. After a fault of the input or the output the report is printed too.
+fn tell_one_fault<O: Write, E: Write>(fault: OneFault, out: &mut O, err: &mut E) -> u8 {
+    let OneFault { cause, report } = fault;
+    let told = match cause {
+        OneCause::Memory => Fault::Memory,
+        OneCause::NotYet(label) => Fault::NotYet(label),
+        OneCause::In(error) => Fault::Input {
+            port: 0,
+            cause: error.number(),
+        },
+        OneCause::Out => Fault::Output { port: 0 },
+    };
+    if let OneCause::In(_) | OneCause::Out = cause {
+        let status = tell(out, ReportText(report), DONE);
+        if status != DONE {
+            return status;
+        }
+    }
+    tell_fault(err, told)
+}
+
+/// Runs a checked program on a capture, prints the report, and answers the status.
+pub fn one_run<R: Feed, S: Sink, O: Write, E: Write>(
+    alloc: Global,
+    checked: Checked,
+    r: &mut R,
+    w: &mut S,
+    out: &mut O,
+    err: &mut E,
+) -> u8
+    requires { IsForOnePort checked }
+{
+    match run_one(alloc, &one_env(), checked, r, w) {
+        Ok(report) => tell(out, ReportText(report), DONE),
+        Err(fault) => tell_one_fault(fault, out, err),
+    }
+}

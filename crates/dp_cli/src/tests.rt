@@ -1,0 +1,362 @@
+//! Printed texts and statuses.
+
+use crate::mem::mem_line;
+use crate::one::{one_load, one_run};
+use dp_pcap::{OfRead, OfWrite};
+use std::alloc::{AllocError, Global};
+
+/// The program that takes 14 bytes off, as it is printed.
+const STRIP: &str = "iflen p0,14,L4\nadj p0,14\ntx p0,r0,L4\nexit\nL4:\nfree p0\nexit\n";
+
+/// The digits with which the lines of its certificate begin; zeros follow, up to 306.
+const STRIP_ROWS: [&str; 6] = [
+    "010102008000000000000001",
+    "01010200800000000e000001",
+    "010102008e00000000000001",
+    "01",
+    "010102008000000000000001",
+    "01",
+];
+
+/// The text of a certificate whose lines begin with these digits.
+fn cert_text(alloc: Global, rows: &[&str]) -> Result<Vec<u8>, AllocError> {
+    let mut text = Vec::from_slice(alloc, b"dpv-cert 1\n")?;
+    for row in rows {
+        text.extend_from_slice(row.as_bytes())?;
+        for _ in row.len()..306 {
+            text.push(b'0')?;
+        }
+        text.push(b'\n')?;
+    }
+    Ok(text)
+}
+
+/// The header of a capture in microseconds, lowest byte first.
+const HEADER: [u8; 24] = [
+    0xd4, 0xc3, 0xb2, 0xa1, 2, 0, 4, 0, 0, 0, 0, 0, 0, 0, 0, 0, 0, 0, 4, 0, 1, 0, 0, 0,
+];
+
+/// A capture with a record of the bytes from `first` to 59 at second 1 and microsecond 2.
+fn one_record(alloc: Global, first: u8) -> Result<Vec<u8>, AllocError> {
+    let mut capture = Vec::from_slice(alloc, HEADER.as_slice())?;
+    let len = 60u8.saturating_sub(first);
+    let head = [1, 0, 0, 0, 2, 0, 0, 0, len, 0, 0, 0, len, 0, 0, 0];
+    capture.extend_from_slice(head.as_slice())?;
+    for byte in first..60 {
+        capture.push(byte)?;
+    }
+    Ok(capture)
+}
+
+/// A capture with a record of 13 bytes and one of none.
+fn short_records(alloc: Global) -> Result<Vec<u8>, AllocError> {
+    let mut capture = Vec::from_slice(alloc, HEADER.as_slice())?;
+    let head = [1, 0, 0, 0, 2, 0, 0, 0, 13, 0, 0, 0, 13, 0, 0, 0];
+    capture.extend_from_slice(head.as_slice())?;
+    capture.extend_from_slice(b"thirteen byte")?;
+    let head = [1, 0, 0, 0, 3, 0, 0, 0, 0, 0, 0, 0, 0, 0, 0, 0];
+    capture.extend_from_slice(head.as_slice())?;
+    Ok(capture)
+}
+
+/// The first n bytes, or all where there are fewer.
+fn front(bytes: &[u8], n: usize) -> &[u8] {
+    if n <= bytes.len() { &bytes[..n] } else { bytes }
+}
+
+/// What `dpv one` makes of texts and a capture: its status, what it prints on both writers, and the capture that it
+/// writes.
+fn run(alloc: Global, node: &str, cert: &[u8], input: &[u8]) -> (u8, Vec<u8>, Vec<u8>, Vec<u8>) {
+    let mut out = Vec::new(alloc);
+    let mut err = Vec::new(alloc);
+    let mut sink = OfWrite::new(Vec::new(alloc));
+    let mut feed = OfRead::new(input);
+    let status = match one_load(alloc, node.as_bytes(), cert, &mut out, &mut err) {
+        Ok(checked) => one_run(alloc, checked, &mut feed, &mut sink, &mut out, &mut err),
+        Err(status) => status,
+    };
+    (status, out, err, sink.into_inner())
+}
+
+/// What a heap script prints to its two writers, and its status.
+fn played(alloc: Global, script: &[u8]) -> (u8, Vec<u8>, Vec<u8>) {
+    let mut out = Vec::new(alloc);
+    let mut err = Vec::new(alloc);
+    let status = mem_line(alloc, script, &mut out, &mut err);
+    (status, out, err)
+}
+
+/// Scripts, and what they print.
+static SCRIPTS: [(&str, &str); 15] = [
+    ("", ""),
+    ("\n\n", ""),
+    ("region 4096\n", ""),
+    (
+        "region 4096\nmalloc 100 0\n",
+        "1 data 3968 element 3904 + 192\n",
+    ),
+    (
+        "region 4096\nmalloc 100 0\nmalloc 64 1024\nlist\nfree 1\nfree 2\nlist\n",
+        "1 data 3968 element 3904 + 192\n2 data 3072 element 3008 + 128\nFREE 0 + 3008\nBUSY 3008 + 128 pad 0\nFREE 3136 + 768\nBUSY 3904 + 192 pad 0\nfreed 1\nfreed 2\nFREE 0 + 4096\n",
+    ),
+    (
+        "region 4096\nmalloc 100 0\nmalloc 64 1024\nfree 2\nfree 1\nlist",
+        "1 data 3968 element 3904 + 192\n2 data 3072 element 3008 + 128\nfreed 2\nfreed 1\nFREE 0 + 4096\n",
+    ),
+    (
+        "region 4096\nmalloc 3840 64\nlist\n",
+        "1 data 256 element 192 + 3904\nFREE 0 + 192\nBUSY 192 + 3904 pad 0\n",
+    ),
+    (
+        "region 4096\nmalloc 3904 0\nlist\n",
+        "1 data 192 element 0 + 4096\nBUSY 0 + 4096 pad 128\n",
+    ),
+    (
+        "region 4096\nmalloc 192 256\n",
+        "1 data 3840 element 3776 + 320\n",
+    ),
+    (
+        "region 4096\nmalloc 0 96\nmalloc 64 96\nmalloc 4033 0\nlist\nmalloc 4032 0\n",
+        "refused 1 ZeroSize\nrefused 2 BadAlign\nrefused 3 NoRoom\nFREE 0 + 4096\n1 data 64 element 0 + 4096\n",
+    ),
+    (
+        "region 4096\nmalloc 128 256\n",
+        "1 data 3840 element 3776 + 320\n",
+    ),
+    (
+        "region 4096\nmalloc 64 256\nlist\n",
+        "1 data 3840 element 3776 + 128\nFREE 0 + 3776\nBUSY 3776 + 128 pad 0\nFREE 3904 + 192\n",
+    ),
+    (
+        "region 4096\nmalloc 3904 0\nfree 1\nlist\n",
+        "1 data 192 element 0 + 4096\nfreed 1\nFREE 0 + 4096\n",
+    ),
+    (
+        "region 4096\nzmalloc 100 0\nstats\n",
+        "1 data 3968 element 3904 + 192\nfree 1 bytes 3904 busy 1 bytes 192\n",
+    ),
+    (
+        "region 04096\nmalloc 0100 00\n",
+        "1 data 3968 element 3904 + 192\n",
+    ),
+];
+
+/// Scripts with a bad command: what is printed before it, and what is told of it.
+static BAD_SCRIPTS: [(&str, &str, &str); 16] = [
+    ("malloc 1 1\n", "", "fault: line 1 bad command\n"),
+    ("region 4097\n", "", "fault: line 1 bad command\n"),
+    ("region 4032\n", "", "fault: line 1 bad command\n"),
+    ("region 1073741888\n", "", "fault: line 1 bad command\n"),
+    ("region +4096\n", "", "fault: line 1 bad command\n"),
+    ("\nregion\n", "", "fault: line 2 bad command\n"),
+    (
+        "region 4096\nregion 4096\n",
+        "",
+        "fault: line 2 bad command\n",
+    ),
+    ("region 4096\n\nfree 1\n", "", "fault: line 3 bad command\n"),
+    (
+        "region 4096\nmalloc 1 0\nfree 1\nfree 1\n",
+        "1 data 4032 element 3968 + 128\nfreed 1\n",
+        "fault: line 4 bad command\n",
+    ),
+    (
+        "region 4096\nmalloc  1 0\n",
+        "",
+        "fault: line 2 bad command\n",
+    ),
+    (
+        "region 4096\nmalloc 1 0 \n",
+        "",
+        "fault: line 2 bad command\n",
+    ),
+    (
+        "region 4096\nmalloc 1 0\r\n",
+        "",
+        "fault: line 2 bad command\n",
+    ),
+    ("region 4096\nmalloc 1\n", "", "fault: line 2 bad command\n"),
+    (
+        "region 4096\nmalloc 4294967296 0\n",
+        "",
+        "fault: line 2 bad command\n",
+    ),
+    ("region 4096\nlist 1\n", "", "fault: line 2 bad command\n"),
+    (
+        "region 4096\nstats\nshow\n",
+        "free 1 bytes 4096 busy 0 bytes 0\n",
+        "fault: line 3 bad command\n",
+    ),
+];
+
+/// Whether a heap script ends with the status and prints these.
+fn plays(alloc: Global, script: &str, status: u8, printed: &str, told: &str) -> bool {
+    let (ended, out, err) = played(alloc, script.as_bytes());
+    ended == status && out.as_slice() == printed.as_bytes() && err.as_slice() == told.as_bytes()
+}
+
+#[test]
+fn heap_scripts_print_as_the_rules_say(rt: HostRuntime) {
+    let alloc = rt.alloc();
+    for (script, printed) in SCRIPTS.iter() {
+        assert!(&rt; plays(alloc, script, 0, printed, ""), "{script}");
+    }
+}
+
+#[test]
+fn bad_commands_are_located_behind_what_was_printed(rt: HostRuntime) {
+    let alloc = rt.alloc();
+    for (script, printed, told) in BAD_SCRIPTS.iter() {
+        assert!(&rt; plays(alloc, script, 3, printed, told), "{script}");
+    }
+}
+
+#[test]
+fn a_header_is_taken_off_a_record(rt: HostRuntime) {
+    let alloc = rt.alloc();
+    let cert = cert_text(alloc, STRIP_ROWS.as_slice()).expect(&rt, "memory");
+    let input = one_record(alloc, 0).expect(&rt, "memory");
+    let (status, out, err, written) = run(alloc, STRIP, cert.as_slice(), input.as_slice());
+    let report =
+        "port 0 received 1 nobuf 0 oversize 0 sent 1 input whole\npool 0 free 64 of 64\ncalls 1 refused 0\n";
+    assert_eq!(&rt;
+        (status, out.as_slice(), err.as_slice()),
+        (0, report.as_bytes(), b"".as_slice())
+    );
+    let stripped = one_record(alloc, 14).expect(&rt, "memory");
+    assert_eq!(&rt; written.len(), 86);
+    assert_eq!(&rt; written.as_slice(), stripped.as_slice());
+}
+
+#[test]
+fn short_records_are_dropped(rt: HostRuntime) {
+    let alloc = rt.alloc();
+    let cert = cert_text(alloc, STRIP_ROWS.as_slice()).expect(&rt, "memory");
+    let input = short_records(alloc).expect(&rt, "memory");
+    let (status, out, err, written) = run(alloc, STRIP, cert.as_slice(), input.as_slice());
+    let report =
+        "port 0 received 2 nobuf 0 oversize 0 sent 0 input whole\npool 0 free 64 of 64\ncalls 2 refused 0\n";
+    assert_eq!(&rt;
+        (status, out.as_slice(), err.as_slice()),
+        (0, report.as_bytes(), b"".as_slice())
+    );
+    assert_eq!(&rt; written.as_slice(), HEADER.as_slice());
+}
+
+/// A run of `dpv one` that ends at a fault, or early: the program, how much of strip's certificate and of the capture with one
+/// record there is, and what becomes of it.
+struct Case {
+    node: &'static str,
+    cert: usize,
+    input: usize,
+    status: u8,
+    printed: &'static str,
+    told: &'static str,
+}
+
+/// A report without records.
+const NOTHING: &str =
+    "port 0 received 0 nobuf 0 oversize 0 sent 0 input open\npool 0 free 64 of 64\ncalls 0 refused 0\n";
+
+const CUT: &str =
+    "port 0 received 0 nobuf 0 oversize 0 sent 0 input cut 24\npool 0 free 64 of 64\ncalls 0 refused 0\n";
+
+static CASES: [Case; 7] = [
+    Case {
+        node: "",
+        cert: 1_853,
+        input: 100,
+        status: 3,
+        printed: "",
+        told: "fault: pipeline 6 Asm port 0 line 0 cause 9\n",
+    },
+    Case {
+        node: "adj p0,65536\n",
+        cert: 1_853,
+        input: 100,
+        status: 3,
+        printed: "",
+        told: "fault: pipeline 6 Asm port 0 line 1 cause 5\n",
+    },
+    Case {
+        node: STRIP,
+        cert: 10,
+        input: 100,
+        status: 3,
+        printed: "",
+        told: "fault: pipeline 7 BadCert port 0 line 1 cause 1\n",
+    },
+    Case {
+        node: STRIP,
+        cert: 11,
+        input: 100,
+        status: 3,
+        printed: "",
+        told: "fault: pipeline 7 BadCert port 0 line 2 cause 4\n",
+    },
+    Case {
+        node: STRIP,
+        cert: 1_853,
+        input: 0,
+        status: 3,
+        printed: NOTHING,
+        told: "fault: input 0 cause 6\n",
+    },
+    Case {
+        node: STRIP,
+        cert: 1_853,
+        input: 23,
+        status: 3,
+        printed: NOTHING,
+        told: "fault: input 0 cause 6\n",
+    },
+    Case {
+        node: STRIP,
+        cert: 1_853,
+        input: 99,
+        status: 0,
+        printed: CUT,
+        told: "",
+    },
+];
+
+/// Whether a run ends as the case says.
+fn ends(alloc: Global, case: &Case, cert: &[u8], input: &[u8]) -> bool {
+    let (status, out, err, _written) = run(
+        alloc,
+        case.node,
+        front(cert, case.cert),
+        front(input, case.input),
+    );
+    status == case.status
+        && out.as_slice() == case.printed.as_bytes()
+        && err.as_slice() == case.told.as_bytes()
+}
+
+#[test]
+fn faults_are_told_in_their_order(rt: HostRuntime) {
+    let alloc = rt.alloc();
+    let cert = cert_text(alloc, STRIP_ROWS.as_slice()).expect(&rt, "memory");
+    let input = one_record(alloc, 0).expect(&rt, "memory");
+    for case in CASES.iter() {
+        assert!(&rt;
+            ends(alloc, case, cert.as_slice(), input.as_slice()),
+            "{}",
+            case.told
+        );
+    }
+}
+
+#[test]
+fn a_certificate_that_says_too_much_is_refused(rt: HostRuntime) {
+    let alloc = rt.alloc();
+    let mut cert = cert_text(alloc, STRIP_ROWS.as_slice()).expect(&rt, "memory");
+    if let Some(last) = cert.get_mut(11 + 305) {
+        *last = b'1';
+    }
+    let input = one_record(alloc, 0).expect(&rt, "memory");
+    let (status, out, err, written) = run(alloc, STRIP, cert.as_slice(), input.as_slice());
+    assert_eq!(&rt; status, 1);
+    assert_eq!(&rt; out.as_slice(), b"port 0 refused at 0 by J11\n".as_slice());
+    assert!(&rt; err.is_empty() && written.is_empty());
+}
