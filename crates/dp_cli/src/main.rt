@@ -16,7 +16,7 @@ use clap::error::ErrorKind;
 use dp_check::Checked;
 use dp_lang::assemble;
 use dp_pcap::{OfRead, OfWrite};
-use fault::{DONE, Fault, MEMORY, USAGE, tell_fault};
+use fault::{DONE, FAULT, Fault, USAGE, tell_fault};
 use files::ReadFault;
 use mem::mem_line;
 use one::{asm_fault, one_load, one_run};
@@ -27,15 +27,14 @@ use std::rt::Files;
 use std::{fs, io};
 
 /// Tells of an error of the command line, or shows the help that was asked for, and answers the status.
-fn wrong_words<R: Print + Eprint>(rt: &R, error: &clap::Error) -> u8 {
-    let status = match error.kind() {
-        ErrorKind::OutOfMemory => MEMORY,
-        _ if error.exit_code() == 0 => DONE,
-        _ => USAGE,
-    };
+fn wrong_words<R: Print + Eprint, E: io::Write>(rt: &R, error: &clap::Error, err: &mut E) -> u8 {
+    if error.kind() == ErrorKind::OutOfMemory {
+        return tell_fault(err, Fault::Memory);
+    }
+    let status = if error.exit_code() == 0 { DONE } else { USAGE };
     match error.print(rt) {
         Ok(()) => status,
-        Err(_) => status.max(fault::FAULT),
+        Err(_) => FAULT,
     }
 }
 
@@ -191,7 +190,7 @@ fn main(rt: HostRuntime) -> ExitCode {
     };
     let status = match command.try_get_matches_from(words.as_slice()) {
         Ok(matches) => run(&rt, alloc, &matches, &mut err),
-        Err(error) => wrong_words(&rt, &error),
+        Err(error) => wrong_words(&rt, &error, &mut err),
     };
     ExitCode::from(status)
 }
