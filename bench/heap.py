@@ -13,7 +13,8 @@ import shutil
 import subprocess
 import sys
 import tempfile
-import time
+
+from timing import best
 
 TOP = pathlib.Path(__file__).resolve().parent.parent
 REGION = 1 << 27
@@ -79,16 +80,6 @@ def scripts() -> dict[str, list[str]]:
     }
 
 
-def timed(command: list[str]) -> float:
-    """The least time of three runs, in seconds."""
-    times = []
-    for _ in range(3):
-        start = time.perf_counter()
-        subprocess.run(command, check=True, stdout=subprocess.DEVNULL)
-        times.append(time.perf_counter() - start)
-    return min(times)
-
-
 def instructions(command: list[str]) -> int | None:
     """How many machine instructions a run takes, where perf or valgrind can say so."""
     tools = {
@@ -120,13 +111,13 @@ def main() -> None:
         empty = folder / "empty"
         empty.write_text(f"region {REGION}\n")
         other = rte(folder)
-        base, none = timed([program, "mem", str(empty)]), instructions([program, "mem", str(empty)])
+        base, none = best([program, "mem", str(empty)]), instructions([program, "mem", str(empty)])
         print(f"{'script':<26} {'commands':>9} {'ns each':>9} {'instructions':>13} {'rte_malloc ns':>14} {'ratio':>6}")
         for title, commands in scripts().items():
             script = folder / "script"
             script.write_text(f"region {REGION}\n" + "".join(line + "\n" for line in commands))
             command = [program, "mem", str(script)]
-            each = (timed(command) - base) / len(commands) * 1e9
+            each = (best(command) - base) / len(commands) * 1e9
             counted = instructions(command)
             count = f"{(counted - none) / len(commands):.0f}" if counted is not None and none is not None else "-"
             row = f"{title:<26} {len(commands):>9} {each:>9.0f} {count:>13}"

@@ -7,10 +7,10 @@ Prints one table: the best of three runs of each, and the ratio to cp. Compares 
 import pathlib
 import shutil
 import struct
-import subprocess
 import sys
 import tempfile
-import time
+
+from timing import best
 
 TOP = pathlib.Path(__file__).resolve().parent.parent
 STRIP = TOP / "examples" / "strip"
@@ -24,16 +24,6 @@ def make(path: pathlib.Path, records: int, sizes: list[int]) -> None:
         out.write(struct.pack("<IHHIIII", 0xA1B2C3D4, 2, 4, 0, 0, 262144, 1))
         for k in range(records):
             out.write(struct.pack("<II", 1700000000 + k // 1000000, k % 1000000) + heads[k % len(heads)])
-
-
-def best(command: list[str]) -> float:
-    """The least time of three runs, in seconds."""
-    times = []
-    for _ in range(3):
-        start = time.perf_counter()
-        subprocess.run(command, check=True, stdout=subprocess.DEVNULL)
-        times.append(time.perf_counter() - start)
-    return min(times)
 
 
 def packets(path: pathlib.Path) -> bytes:
