@@ -1,5 +1,6 @@
 pub mod Bulk
 pub mod Effects
+pub mod Lent
 pub mod Moving
 pub mod Names
 pub mod Objects

@@ -18,7 +18,7 @@ pub object_place_is : (size place i : ℕ) → object_place size place i ≡ pla
 object_place_is size place zero = omega arith
 object_place_is size place (suc i) = object_place_is size (place + stride_of size) i ∙ (let more : suc i * stride_of size ≡ i * stride_of size + stride_of size = suc-mul i (stride_of size) in omega (arith, more))
 
-place_from : (size place i : ℕ) → place ≤ object_place size place i
+pub place_from : (size place i : ℕ) → place ≤ object_place size place i
 place_from size place zero = omega arith
 place_from size place (suc i) = let rest = place_from size (place + stride_of size) i in omega (arith, rest)
 

@@ -1,11 +1,12 @@
 -- What is true of every pool.
 use Rattle.std.proofs.Common.{◌≡◌, ℕ, ◌+◌, ◌*◌, ◌<◌, ◌≤◌, Bool, List, length, sym, ap, ◌∙◌, arith}
 use Rattle.std.specs.Prelude.{slice_set}
-use Rattle.dp_region.specs.Spans.{bytes_in, with_bytes}
+use Rattle.dp_region.specs.Spans.{bytes_in, with_bytes, overlaid}
 use Rattle.dp_region.proofs.Bytes.{length-bytes_in}
 use Rattle.dp_zone.specs.Zones.{ZoneView}
 use Rattle.dp_pool.specs.Queues.{IndexView}
-use Rattle.dp_pool.specs.Pools.{PoolView, PoolZones, IsPool, object_in, overwritten, with_written, stride_of, objects_from, object_place}
+use Rattle.dp_pool.specs.Pools.{PoolView, PoolZones, IsPool, object_in, overwritten, with_object, with_written, with_left, stride_of, objects_from, object_place}
+use Rattle.dp_pool.proofs.Lent.{objects_left, left_whole}
 use Rattle.dp_pool.proofs.Objects.{length-objects, object_is, objects_written, object_place_is, place_within, stride_covers}
 
 pub counted : (bytes : List ℕ) (size n : ℕ) → n ≡ length (objects_from bytes size 0 n)
@@ -76,3 +77,19 @@ module _ (zone : ZoneView) (indexes : IndexView) (count size index : ℕ) (now :
       ap (λ z. pool_of z indexes count size) is_new
       ∙ (ap (with_objects (pool_of zone indexes count size)) objects
       ∙ ap (λ v. with_written v index at ws) is)
+
+  -- what is left in an object that was lent is left in the zone from its place on
+  pub pool_left : (place : ℕ) → place ≡ object_place size 0 index → count * stride_of size ≤ length zone.bytes → (ws : List ℕ) → pool_of (record zone { bytes = overlaid zone.bytes place ws }) indexes count size ≡ with_left index now ws
+  pool_left place is_place room ws =
+      let end = object_place_is size 0 count in
+      ap (λ p. pool_of (record zone { bytes = overlaid zone.bytes p ws }) indexes count size) is_place
+      ∙ (ap (with_objects (pool_of zone indexes count size)) (objects_left zone.bytes size 0 count index ws index_below (omega (arith, end, room)))
+      ∙ ap (λ v. with_left index v ws) is)
+
+  -- as many bytes as the object has become the object, and nothing else changes
+  pub left_alone : count * stride_of size ≤ length zone.bytes → (ws : List ℕ) → length ws ≡ now.size → with_left index now ws ≡ with_object now index ws
+  left_alone room ws long =
+      let sizes = ap (λ v. v.size) is in
+      let bytes = ap length (sym object_bytes) ∙ length-bytes_in zone.bytes (object_place size 0 index) size (object_fits zone.bytes size count index index_below room) in
+      let covers = stride_covers now.size in
+      ap (with_objects now) (left_whole now.objects (stride_of now.size) index ws there (long ∙ sym (bytes ∙ sizes)) (omega (arith, covers, long)))

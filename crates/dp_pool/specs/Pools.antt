@@ -2,7 +2,7 @@
 use Rattle.std.specs.Prelude.{◌≡◌, refl, ℕ, zero, suc, ◌+◌, ◌*◌, ◌/◌, ◌<◌, ◌≤◌, Bool, false, List, [], ◌∷◌, ◌++◌, take, drop, length, slice_get, slice_index_or, slice_set, Some, unwrap_or}
 use Rattle.std.specs.Coded.{Coded, code_by, coded×, coded_list, coded_ℕ, coded_bool}
 use Rattle.dp_region.specs.Ownership.{Home, home_code}
-use Rattle.dp_region.specs.Spans.{bytes_in}
+use Rattle.dp_region.specs.Spans.{bytes_in, refilled}
 use Rattle.dp_pool.specs.Queues.{in_count, taken, back, cached_after_get, cached_after_put}
 
 -- the zones in which a pool stands: the region, and the name and the place of the objects' zone and of the queue's
@@ -91,3 +91,14 @@ objects_from bytes size place (suc n) = bytes_in bytes place size ∷ objects_fr
 abbrev pub object_place : ℕ → ℕ → ℕ → ℕ
 object_place size place zero = place
 object_place size place (suc i) = object_place size (place + stride_of size) i
+
+-- ---- an object that was lent to be written
+
+-- objects with ws over them, from the first byte of the first on; each begins so many bytes behind the one before
+abbrev pub spilled : ℕ → List (List ℕ) → List ℕ → List (List ℕ)
+spilled stride [] ws = []
+spilled stride (o ∷ os) ws = refilled o ws ∷ spilled stride os (drop stride ws)
+
+-- the pool once ws was left in an object
+abbrev pub with_left : ℕ → PoolView → List ℕ → PoolView
+with_left i p ws = record p { objects = take i p.objects ++ spilled (stride_of p.size) (drop i p.objects) ws }

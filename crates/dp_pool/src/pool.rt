@@ -1,11 +1,13 @@
 //! A mempool.
 
-ghost use Rattle.std.specs.Prelude.{◌≡◌, ◌+◌, ◌*◌, ◌<◌, ◌≤◌, true, false, not, Some, length, replicate, slice_get, count_by, nat_le, MatchOption, IfOk, IfErr, OnErr, MatchResult};
+ghost use Rattle.std.specs.Borrow.{Lends, Array, sem, u8 as byte};
+ghost use Rattle.std.specs.Prelude.{◌≡◌, ℕ, ◌+◌, ◌*◌, ◌<◌, ◌≤◌, List, true, false, not, Some, length, replicate, slice_get, count_by, nat_le, MatchOption, IfOk, IfErr, OnErr, MatchResult};
 ghost use Rattle.dp_heap.specs.Elements.{merged, count_of, is_busy};
 ghost use Rattle.dp_zone.specs.Zones.{without_name};
 ghost use Rattle.dp_pool.specs.Making.{IsPoolCount, IsObjectSize, IsCacheSize, IsPoolRefused, IsMade};
 ghost use Rattle.dp_pool.specs.Queues.{in_count};
-ghost use Rattle.dp_pool.specs.Pools.{IsPool, AreGot, object_place, stride_of, object_in, with_written, is_out_in, got, put_back};
+ghost use Rattle.dp_pool.specs.Pools.{IsPool, AreGot, object_place, stride_of, object_in, with_object, with_written, with_left, is_out_in, got, put_back};
+ghost use Rattle.dp_pool.specs.contracts.pool.Pool.{the_row};
 
 use crate::error::PoolError;
 use crate::indexes::Indexes;
@@ -238,6 +240,19 @@ impl Pool {
     {
         let place = place_of(index, self.count, self.size, self.stride) as usize;
         &self.objects.bytes()[place..place + self.size as usize]
+    }
+
+    /// The bytes of an object, to be written. Whoever leaves as many bytes there as an object has, which is all that Rust
+    /// lets happen, has changed that object alone (`whole`).
+    pub fn object_mut(&mut self, index: u32) -> &mut [u8]
+        requires { index < length self.old.objects }
+        ensures* writes_back { sem 𝓛 (Lends the_row (Array byte 0) self.entry result (with_left index self.old)) }
+        ensures value { result.now ≡ object_in self.old index }
+        ensures size { length result.now ≡ self.old.size }
+        ensures whole { (ws : List ℕ) → length ws ≡ self.old.size → with_left index self.old ws ≡ with_object self.old index ws }
+    {
+        let place = place_of(index, self.count, self.size, self.stride);
+        self.objects.part_mut(place, self.size)
     }
 
     /// Writes bytes into an object from a place on.

@@ -1,8 +1,8 @@
 -- What a contract sees of a region and of a block.
-use Rattle.std.specs.Prelude.{◌≡◌, refl, ℕ, ◌+◌, ◌%◌, ◌≤◌, List, ◌++◌, take, drop, length}
+use Rattle.std.specs.Prelude.{◌≡◌, refl, ℕ, ◌+◌, ◌%◌, ◌≤◌, List, length}
 use Rattle.std.specs.Coded.{Coded, code_by, coded×, coded_list, coded_ℕ}
 use Rattle.byteorder.specs.Endian.{little_number, little_bytes}
-use Rattle.dp_region.specs.Spans.{Span, IsUnlent, bytes_in, with_bytes}
+use Rattle.dp_region.specs.Spans.{Span, IsUnlent, bytes_in, with_bytes, refilled, overlaid}
 use Rattle.dp_region.specs.Ownership.{Home, home_code}
 
 -- which region it is, its bytes, and the spans that are lent. The bytes of such a span are those that it had when it was lent
@@ -51,4 +51,8 @@ span_of b = (b.place, length b.bytes)
 
 -- b with ws as its bytes. Where ws has another length it is cut, or filled up from b's
 abbrev pub with_content : BlockView → List ℕ → BlockView
-with_content b ws = record b { bytes = take (length b.bytes) (ws ++ drop (length ws) b.bytes) }
+with_content b ws = record b { bytes = refilled b.bytes ws }
+
+-- b with ws over its bytes from a place on
+abbrev pub with_part : ℕ → BlockView → List ℕ → BlockView
+with_part at b ws = record b { bytes = overlaid b.bytes at ws }

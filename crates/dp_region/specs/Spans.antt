@@ -51,3 +51,11 @@ bytes_in xs p n = take n (drop p xs)
 -- xs with ws from p on
 abbrev pub with_bytes : List ℕ → ℕ → List ℕ → List ℕ
 with_bytes xs p ws = take p xs ++ (ws ++ drop (p + length ws) xs)
+
+-- xs with ws as its content. Where ws has another length it is cut, or filled up from xs
+abbrev pub refilled : List ℕ → List ℕ → List ℕ
+refilled xs ws = take (length xs) (ws ++ drop (length ws) xs)
+
+-- xs with ws over it from p on. What goes past its end falls off
+abbrev pub overlaid : List ℕ → ℕ → List ℕ → List ℕ
+overlaid xs p ws = refilled xs (take p xs ++ (ws ++ drop (length ws) (drop p xs)))

@@ -3,7 +3,7 @@ ghost use Rattle.std.specs.Prelude.{◌≡◌, ℕ, ◌+◌, ◌^◌, ◌<◌, �
 ghost use Rattle.std.specs.Borrow.{Lends, Array, sem, u8 as byte};
 ghost use Rattle.dp_region.specs.Spans.{bytes_in, with_bytes};
 ghost use Rattle.dp_region.specs.Ownership.{place_in};
-ghost use Rattle.dp_region.specs.Region.{number_at, with_number, with_content};
+ghost use Rattle.dp_region.specs.Region.{number_at, with_number, with_content, with_part};
 ghost use Rattle.dp_region.specs.contracts.block.Block.{the_row};
 
 use crate::raw::{Run, Ticket, house, vacate};
@@ -90,6 +90,17 @@ impl Block {
         ensures value { result.now ≡ self.old.bytes }
     {
         self.bytes.as_mut_slice()
+    }
+
+    /// The `len` bytes at `at`, which are in the block, to be changed.
+    pub fn part_mut(&mut self, at: u32, len: u32) -> &mut [u8]
+        requires { at + len ≤ length self.old.bytes }
+        ensures* writes_back { sem 𝓛 (Lends the_row (Array byte 0) self.entry result (with_part at self.old)) }
+        ensures value { result.now ≡ bytes_in self.old.bytes at len }
+        ensures size { length result.now ≡ len }
+    {
+        let (at, len) = (at as usize, len as usize);
+        self.bytes.slice_mut(at..at + len)
     }
 
     /// The number in the 2 bytes at `at`, which are in the block.

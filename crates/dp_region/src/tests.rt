@@ -9,6 +9,7 @@ fn write_low(low: &mut Block)
     ensures { (low.new.home ≡ low.old.home) × (low.new.place ≡ low.old.place) × (length low.new.bytes ≡ 3) }
 {
     low.bytes_mut()[0] = 9;
+    low.part_mut(1, 2)[1] = 5;
 }
 
 fn write_high(high: &mut Block)
@@ -70,7 +71,7 @@ fn bytes_stay_as_the_holder_left_them(rt: HostRuntime) -> Result<(), Fail> {
     let size = region.size();
     region.close();
     assert_eq!(rt; first, (2, 4, 0, 64, 64));
-    assert_eq!(rt; last, (0x0403_0901, 0x0605_0403_0000_0807, 0x0807));
+    assert_eq!(rt; last, (0x0503_0901, 0x0605_0403_0000_0807, 0x0807));
     assert_eq!(rt; low, 0x0102_0304);
     assert_eq!(rt; size, 4096);
     let text = format!(in rt.alloc(); "{Memory}")?;

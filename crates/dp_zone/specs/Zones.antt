@@ -3,6 +3,7 @@ use Rattle.std.specs.Prelude.{◌≡◌, refl, ℕ, ◌<◌, ◌≤◌, Bool, tr
 use Rattle.std.specs.List.{list_any}
 use Rattle.std.specs.Coded.{Coded, code_by, coded×, coded_list, coded_ℕ}
 use Rattle.dp_region.specs.Ownership.{Home, home_code}
+use Rattle.dp_region.specs.Spans.{refilled, overlaid}
 use Rattle.dp_heap.specs.declared.elements.Element.{Element}
 use Rattle.dp_heap.specs.Elements.{rounded, alignment, NothingFits}
 use Rattle.dp_heap.specs.Refusals.{IsAlign}
@@ -26,7 +27,11 @@ zone_code =
 
 -- z with ws as its bytes. Where ws has another length it is cut, or filled up from z's
 abbrev pub with_content : ZoneView → List ℕ → ZoneView
-with_content z ws = record z { bytes = take (length z.bytes) (ws ++ drop (length ws) z.bytes) }
+with_content z ws = record z { bytes = refilled z.bytes ws }
+
+-- z with ws over its bytes from a place on
+abbrev pub with_part : ℕ → ZoneView → List ℕ → ZoneView
+with_part at z ws = record z { bytes = overlaid z.bytes at ws }
 
 -- what a table knows of a zone
 pub record Reserved : Type 0 where

@@ -4,7 +4,7 @@ ghost use Rattle.std.specs.Prelude.{◌≡◌, ℕ, ◌+◌, ◌<◌, ◌≤◌,
 ghost use Rattle.std.specs.Borrow.{Lends, Array, sem, u8 as byte};
 ghost use Rattle.dp_region.specs.Spans.{bytes_in, with_bytes};
 ghost use Rattle.dp_region.specs.Region.{number_at, with_number};
-ghost use Rattle.dp_zone.specs.Zones.{with_content};
+ghost use Rattle.dp_zone.specs.Zones.{with_content, with_part};
 ghost use Rattle.dp_zone.specs.contracts.zone.Zone.{the_row};
 
 use crate::name::ZoneName;
@@ -78,6 +78,16 @@ impl Zone {
         ensures value { result.now ≡ self.old.bytes }
     {
         self.block.bytes_mut()
+    }
+
+    /// The `len` bytes from `at` on, to be written.
+    pub fn part_mut(&mut self, at: u32, len: u32) -> &mut [u8]
+        requires { at + len ≤ length self.old.bytes }
+        ensures* writes_back { sem 𝓛 (Lends the_row (Array byte 0) self.entry result (with_part at self.old)) }
+        ensures value { result.now ≡ bytes_in self.old.bytes at len }
+        ensures size { length result.now ≡ len }
+    {
+        self.block.part_mut(at, len)
     }
 
     /// The number in the 2 bytes from `at` on, the lowest first.

@@ -1,5 +1,6 @@
 //! Pools that are made, emptied, filled and taken apart.
-ghost use Rattle.std.specs.Prelude.{◌≡◌};
+ghost use Rattle.std.specs.Prelude.{◌≡◌, ◌<◌, length, replicate};
+ghost use Rattle.dp_pool.specs.Pools.{with_object};
 ghost use Rattle.dp_heap.specs.Elements.{count_of, is_busy};
 
 use dp_heap::{Element, Heap, State};
@@ -49,6 +50,14 @@ fn put(pool: &mut Pool, index: u32) -> bool
 // How many indexes are in the cache, and how many are in.
 fn state(pool: &Pool) -> (u32, u32) {
     (pool.cached(), pool.available())
+}
+
+// Lends an object to write it, and leaves the others alone.
+fn fill(pool: &mut Pool, index: u32, byte: u8)
+    requires { index < length pool.old.objects }
+    ensures { pool.new ≡ with_object pool.old index (replicate pool.old.size byte) }
+{
+    pool.object_mut(index).fill(byte);
 }
 
 #[test]
@@ -155,6 +164,26 @@ fn objects_stay_apart(rt: HostRuntime) {
     heap.close().close();
     assert_eq!(rt; (out.is_some(), first, second), (true, true, true));
     assert_eq!(rt; lens, (100, 100));
+}
+
+#[test]
+fn an_object_is_lent(rt: HostRuntime) {
+    let mut heap = Heap::new(Region::new(rt.alloc(), 4096).expect(&rt, "memory"));
+    let mut zones = Zones::new();
+    let mut pool = Pool::make(&mut heap, &mut zones, "p", 3, 64, 0).expect(&rt, "a pool");
+    assert_eq!(rt; (pool.count(), pool.size()), (3, 64));
+    fill(&mut pool, 0, 1);
+    assert_eq!(rt; (pool.count(), pool.size()), (3, 64));
+    fill(&mut pool, 2, 1);
+    assert_eq!(rt; (pool.count(), pool.size()), (3, 64));
+    fill(&mut pool, 1, 2);
+    assert_eq!(rt; (pool.count(), pool.size()), (3, 64));
+    let first = pool.object(0) == &[1u8; 64][..];
+    let second = pool.object(1) == &[2u8; 64][..];
+    let third = pool.object(2) == &[1u8; 64][..];
+    pool.unmake(&mut heap, &mut zones);
+    heap.close().close();
+    assert_eq!(rt; (first, second, third), (true, true, true));
 }
 
 #[test]

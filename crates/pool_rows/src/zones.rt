@@ -169,16 +169,19 @@ fn bytes_of_a_zone(rt: HostRuntime) {
     assert_eq!(rt; zone.len(), 64);
     zone.store_u16(4, 0x0605);
     assert_eq!(rt; zone.len(), 64);
-    zone.write(6, &[7, 8]);
+    zone.part_mut(6, 2).copy_from_slice(&[7, 8]);
+    assert_eq!(rt; zone.len(), 64);
+    zone.write(62, &[9, 9]);
     assert_eq!(rt; zone.len(), 64);
     zone.copy_within(0, 8, 4);
     assert_eq!(rt; zone.len(), 64);
     let front = zone.bytes().get(0..17)
         == Some(&[1u8, 2, 3, 4, 1, 2, 3, 4, 5, 6, 7, 8, 0, 0, 0, 0, 255][..]);
+    let back = zone.bytes().get(61..64) == Some(&[255u8, 9, 9][..]);
     let (wide, narrow) = (zone.load_u32(7), zone.load_u16(15));
     zones.give_back(&mut heap, zone);
     heap.close().close();
-    assert_eq!(rt; (named, front), (true, true));
+    assert_eq!(rt; (named, front, back), (true, true, true));
     assert_eq!(rt; (wide, narrow), (0x0706_0504, 0xff00));
 }
 
