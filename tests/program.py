@@ -1,0 +1,116 @@
+#!/usr/bin/env python3
+"""Runs the built program dpv where memory or a device fails.
+
+Usage: tests/program.py [PROGRAM]   (the built program; by default the one that ./dpv builds and runs)
+Refused memory: dpv runs again and again, the first allocation is refused, then the second, and so on to the last. Each run
+has to end with `fault: memory` and status 4, or with all that a run does to which nothing is refused. One that ended early
+may have printed only the first of the lines, and has left its output empty or whole.
+A full disk: what cannot be written ends with status 3.
+Prints a line for each, and exits with 1 where one went another way.
+"""
+import os
+import pathlib
+import shutil
+import subprocess
+import sys
+import tempfile
+
+TOP = pathlib.Path(__file__).resolve().parent.parent
+STRIP = TOP / "examples/strip"
+HEAP = "region 65536\n" + "malloc 100 0\n" * 40 + "zmalloc 64 1024\nlist\nfree 1\nfree 41\nstats\n"
+
+
+def one(program: str, output: str) -> list[str]:
+    """The words that run the example on its capture."""
+    return [program, "one", str(STRIP / "strip.dpv"), str(STRIP / "strip.cert"), str(STRIP / "in.pcap"), output]
+
+
+class Ended:
+    """What a run did: its status, what it printed, told and wrote, and how many allocations it made."""
+
+    def __init__(self, command: list[str], shim: pathlib.Path, refused: int) -> None:
+        folder = shim.parent
+        written, count = folder / "out.pcap", folder / "count"
+        written.unlink(missing_ok=True)
+        env = dict(os.environ, LD_PRELOAD=str(shim), REFUSE=str(refused), COUNT=str(count))
+        run = subprocess.run(command, env=env, cwd=folder, capture_output=True, timeout=60)
+        self.status, self.printed, self.told = run.returncode, run.stdout, run.stderr
+        self.written = written.read_bytes() if written.exists() else b""
+        self.allocations = int(count.read_text())
+
+    def is_as(self, whole: "Ended") -> bool:
+        """Whether it did all that this run did."""
+        return (self.status, self.printed, self.told, self.written) == (0, whole.printed, b"", whole.written)
+
+    def is_refused(self, whole: "Ended") -> bool:
+        """Whether it told of the refused memory, and printed and wrote nothing else than that run."""
+        return (
+            (self.status, self.told) == (4, b"fault: memory\n")
+            and whole.printed.startswith(self.printed)
+            and self.written in (b"", whole.written)
+        )
+
+
+def refuse_each(name: str, command: list[str], shim: pathlib.Path) -> bool:
+    """Whether each run ended as it has to."""
+    whole = Ended(command, shim, 0)
+    if whole.status != 0 or whole.allocations == 0:
+        print(f"{name}: it does not run: status {whole.status}, {whole.allocations} allocations")
+        return False
+    refused, bad = 0, 0
+    for number in range(1, whole.allocations + 1):
+        ended = Ended(command, shim, number)
+        refused += ended.is_refused(whole)
+        if not ended.is_refused(whole) and not ended.is_as(whole):
+            bad += 1
+            print(f"{name}: allocation {number}: status {ended.status}, told {ended.told!r}, printed {ended.printed!r}")
+    print(f"{name}: {whole.allocations} allocations, {refused} runs ended with fault: memory, {bad} in another way")
+    return bad == 0 and refused > 0
+
+
+def shim_in(folder: pathlib.Path) -> pathlib.Path | None:
+    """The library that refuses an allocation, built with the C compiler; or nothing where there is none."""
+    compiler = shutil.which("cc") or shutil.which("gcc") or shutil.which("clang")
+    if compiler is None:
+        print("refused memory: NOT TRIED, for want of a C compiler")
+        return None
+    shim = folder / "refused.so"
+    source = pathlib.Path(__file__).with_name("refused.c")
+    subprocess.run([compiler, "-O2", "-Wall", "-shared", "-fPIC", "-o", str(shim), str(source)], check=True)
+    return shim
+
+
+def is_full(name: str, command: list[str], told: bytes, printed: str | None = None) -> bool:
+    """Whether a run ends with status 3 and tells this, where what it prints goes to a file or is dropped."""
+    with open(printed or os.devnull, "wb") as out:
+        run = subprocess.run(command, stdout=out, stderr=subprocess.PIPE, timeout=60)
+    passed = (run.returncode, run.stderr) == (3, told)
+    print(f"{name}: status {run.returncode}, told {run.stderr!r}" + ("" if passed else f", and not 3 and {told!r}"))
+    return passed
+
+
+def built() -> pathlib.Path:
+    """The program that ./dpv runs, which builds it where it has to."""
+    subprocess.run([str(TOP / "dpv"), "--version"], check=True, stdout=subprocess.DEVNULL)
+    return TOP / "crates/dp_cli/out/dp_cli"
+
+
+def main() -> int:
+    """All of it."""
+    program = str(pathlib.Path(sys.argv[1]).resolve() if len(sys.argv) > 1 else built())
+    with tempfile.TemporaryDirectory() as name:
+        folder = pathlib.Path(name)
+        heap, shim = folder / "heap.txt", shim_in(folder)
+        heap.write_text(HEAP)
+        passed = [
+            shim is None or refuse_each("dpv mem", [program, "mem", str(heap)], shim),
+            shim is None or refuse_each("dpv one", one(program, "out.pcap"), shim),
+            is_full("dpv one to a full disk", one(program, "/dev/full"), b"fault: output 0\n"),
+            is_full("dpv one, its report to a full disk", one(program, str(folder / "out.pcap")), b"", "/dev/full"),
+            is_full("dpv mem to a full disk", [program, "mem", str(heap)], b"", "/dev/full"),
+        ]
+    return 0 if all(passed) else 1
+
+
+if __name__ == "__main__":
+    sys.exit(main())
