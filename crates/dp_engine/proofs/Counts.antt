@@ -7,9 +7,9 @@ use Rattle.std.proofs.lemmas.Option.{same_Some}
 use Rattle.dp_model.specs.declared.env.PoolSpec.{PoolSpec}
 use Rattle.dp_model.specs.Environments.{count_at}
 use Rattle.dp_model.specs.Buffers.{Number, same_number}
-use Rattle.dp_model.specs.Packets.{Segment, Packet, is_free, free_below, available, IsFresh, AreFresh}
+use Rattle.dp_model.specs.Packets.{Segment, Packet, refs, is_free, free_below, available, IsHeadSole, IsTailSole, IsFresh, AreFresh}
 use Rattle.dp_model.specs.Machine.{segments_held}
-use Rattle.dp_model.proofs.Refs.{get_set_other, get_set_same}
+use Rattle.dp_model.proofs.Refs.{get_set_other, get_set_same, one_if, refs-cons}
 use Rattle.dp_engine.specs.Handles.{held_of, packet_at, register_at, handles_held, once, occurs, in_slot, StandOnce}
 use Rattle.dp_engine.specs.Plain.{tally}
 use Rattle.dp_engine.proofs.Handles.{is_one, in_slot_some, in_slot_few}
@@ -128,3 +128,56 @@ pub idle_counts : (slots : List (Option Packet)) (outbox : List ℕ) → ((h : �
 idle_counts slots outbox each f =
     let e : tally f (flat_map (λ k. k) (map (packet_at slots) outbox)) ≡ tally f (segments_at slots outbox) = ap (tally f) (listed slots outbox) in
     omega (arith, e, spread f outbox slots each, tally-append f (flat_map (λ k. k) (map (packet_at slots) outbox)) [])
+
+-- ---- at any time
+
+occurs-append : (h : ℕ) (xs ys : List ℕ) → occurs h (xs ++ ys) ≡ occurs h xs + occurs h ys
+occurs-append h [] ys = omega arith
+occurs-append h (x ∷ xs) ys = let more = occurs-append h xs ys in omega (arith, more)
+
+held_at : (slots : List (Option Packet)) (registers : List (Option ℕ)) → segments_held (map (register_at slots) registers) ≡ segments_at slots (handles_held registers)
+held_at slots [] = refl
+held_at slots (None ∷ registers) = held_at slots registers
+held_at slots (Some h ∷ registers) = ap (λ l. packet_at slots h ++ l) (held_at slots registers)
+
+tally_at : (f : Segment → Bool) (slots : List (Option Packet)) (xs ys : List ℕ) → tally f (segments_at slots (xs ++ ys)) ≡ tally f (segments_at slots xs) + tally f (segments_at slots ys)
+tally_at f slots [] ys = omega arith
+tally_at f slots (h ∷ xs) ys =
+    omega (arith, tally_at f slots xs ys, tally-append f (packet_at slots h) (segments_at slots xs), tally-append f (packet_at slots h) (segments_at slots (xs ++ ys)))
+
+-- the packets of the registers and the list are all that there are
+pub live_counts : (slots : List (Option Packet)) (registers : List (Option ℕ)) (outbox : List ℕ) → StandOnce slots registers outbox → CountSame (segments_held (map (register_at slots) registers) ++ (flat_map (λ k. k) (map (packet_at slots) outbox) ++ [])) (segments_held slots)
+live_counts slots registers outbox stand f =
+    let held : tally f (segments_held (map (register_at slots) registers)) ≡ tally f (segments_at slots (handles_held registers)) = ap (tally f) (held_at slots registers) in
+    let list : tally f (flat_map (λ k. k) (map (packet_at slots) outbox)) ≡ tally f (segments_at slots outbox) = ap (tally f) (listed slots outbox) in
+    let all = spread f (handles_held registers ++ outbox) slots (λ h. occurs-append h (handles_held registers) outbox ∙ stand h) in
+    omega (
+      arith,
+      held,
+      list,
+      all,
+      tally_at f slots (handles_held registers) outbox,
+      tally-append f (segments_held (map (register_at slots) registers)) (flat_map (λ k. k) (map (packet_at slots) outbox) ++ []),
+      tally-append f (flat_map (λ k. k) (map (packet_at slots) outbox)) [],
+    )
+
+once_if : (b : Bool) → one_if b ≡ once b
+once_if true = refl
+once_if false = refl
+
+refs_counted : (xs : List Segment) (n : Number) → refs xs n ≡ tally (λ s. same_number s.buffer n) xs
+refs_counted [] n = refl
+refs_counted (s ∷ xs) n = omega (arith, refs-cons s xs n, refs_counted xs n, once_if (same_number s.buffer n))
+
+-- lists that count the same have the same references
+refs_same : (a b : List Segment) (n : Number) → CountSame a b → refs a n ≡ refs b n
+refs_same a b n same = refs_counted a n ∙ same (λ s. same_number s.buffer n) ∙ sym (refs_counted b n)
+
+pub head_sole : (a b : List Segment) (k : Packet) → CountSame a b → IsHeadSole a k → IsHeadSole b k
+head_sole a b [] same sole = tt
+head_sole a b (s ∷ rest) same sole = sym (refs_same a b s.buffer same) ∙ sole
+
+pub tail_sole : (a b : List Segment) (k : Packet) → CountSame a b → IsTailSole a k → IsTailSole b k
+tail_sole a b [] same sole = tt
+tail_sole a b (s ∷ []) same sole = sym (refs_same a b s.buffer same) ∙ sole
+tail_sole a b (s ∷ t ∷ rest) same sole = tail_sole a b (t ∷ rest) same sole

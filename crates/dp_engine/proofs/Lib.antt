@@ -1,5 +1,6 @@
 pub mod Handles
 pub mod Machines
+pub mod Registers
 pub mod Runs
 pub mod Counts
 pub mod Receive

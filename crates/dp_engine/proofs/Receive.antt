@@ -13,7 +13,7 @@ use Rattle.dp_model.proofs.Refs.{get_set_other, get_set_same}
 use Rattle.dp_model.specs.Stores.{Store, segments_of, ReceivesInto}
 use Rattle.dp_engine.specs.Handles.{held_of, packet_at, register_at, handles_held, once, occurs, in_slot, StandOnce, Core, core_of, moved}
 use Rattle.dp_engine.specs.Turns.{IsReceived}
-use Rattle.dp_engine.proofs.Handles.{is_one, not_there}
+use Rattle.dp_engine.proofs.Handles.{not_there, slot_filled}
 use Rattle.dp_engine.proofs.Counts.{CountSame, idle_handles, idle_counts, available_same, fresh_same}
 
 pub record Idle (slots : List (Option Packet)) (registers : List (Option ℕ)) (outbox : List ℕ) : Type 0 where
@@ -33,23 +33,7 @@ live_same s room registers numbers outbox calls steps core is idle =
     subst (λ (c : Core). CountSame (live (between c.state.world)) (segments_of s)) is (idle_counts s.slots outbox idle.each)
 
 pub stand_received : (slots : List (Option Packet)) (registers : List (Option ℕ)) (outbox : List ℕ) (h : ℕ) (k : Packet) → Idle slots registers outbox → slice_get slots h ≡ Some None → StandOnce (slice_set slots h (Some k)) (Some h ∷ replicate 7 None) outbox
-stand_received slots registers outbox h k idle free x =
-    go (x == h) refl
-  where
-    go : (b : Bool) → (x == h) ≡ b → once (h == x) + 0 + occurs x outbox ≡ in_slot (slice_get (slice_set slots h (Some k)) x)
-    go true e =
-        let same : x ≡ h = eqb-true x h e in
-        let old : in_slot (slice_get slots x) ≡ 0 = ap (λ x. in_slot (slice_get slots x)) same ∙ ap in_slot free in
-        let new : in_slot (slice_get (slice_set slots h (Some k)) x) ≡ 1 = ap (λ x. in_slot (slice_get (slice_set slots h (Some k)) x)) same ∙ ap in_slot (get_set_same slots h (Some k) None free) in
-        omega (arith, old, new, idle.each x, is_one h x (sym same))
-    go false e =
-        let ne : x ≢ h = λ same. (let yes : (x == h) ≡ true = eq-eqb x h same in cc) in
-        let slot : in_slot (slice_get (slice_set slots h (Some k)) x) ≡ in_slot (slice_get slots x) = ap in_slot (get_set_other slots h x (Some k) ne) in
-        omega (arith, slot, idle.each x, no (h == x) refl)
-      where
-        no : (b : Bool) → (h == x) ≡ b → once (h == x) ≡ 0
-        no true f = let same : h ≡ x = eqb-true h x f in let yes : (x == h) ≡ true = eq-eqb x h (sym same) in let bad : true ≡ false = sym yes ∙ e in cc
-        no false f = ap once f
+stand_received slots registers outbox h k idle free x = omega (arith, idle.each x, slot_filled slots h x k free)
 
 pub state_received : (s : Store) (room : ℕ) (registers : List (Option ℕ)) (numbers outbox : List ℕ) (calls steps : ℕ) (core : Core) (port h : ℕ) (k : Packet) (buffers : Buffers) → core_of s room registers numbers outbox calls steps ≡ core → Idle s.slots registers outbox → slice_get s.slots h ≡ Some None
     → (core_of (record s { buffers = buffers; slots = slice_set s.slots h (Some k) }) room (Some h ∷ replicate 7 None) (port ∷ replicate 7 0) outbox (calls + 1) steps).state ≡ first_state k port (record core.state.world { buffers = buffers; calls = core.state.world.calls + 1 })
@@ -76,21 +60,21 @@ lt_false a b le = search (arith, le)
 lt_true : (a b : ℕ) → a < b → nat_lt a b ≡ true
 lt_true a b lt = search (arith, lt)
 
-pub not_denied : (c : Setting) (s : Store) (w : World) (pool need : ℕ) → s.pools ≡ c.env.pools → CountSame (live (between w)) (segments_of s) → list_any (nat_eq (w.calls + 1)) c.pattern ≡ false → need ≤ available s.pools (segments_of s) pool → is_denied c (between w) pool need ≡ false
-not_denied c s w pool need pools same listed le =
-    or_false _ _ listed (lt_false (available c.env.pools (live (between w)) pool) need (rw (available_same c.env.pools (live (between w)) (segments_of s) pool same, ← pools) le))
+pub not_denied : (c : Setting) (s : Store) (state : State) (pool need : ℕ) → s.pools ≡ c.env.pools → CountSame (live state) (segments_of s) → list_any (nat_eq (state.world.calls + 1)) c.pattern ≡ false → need ≤ available s.pools (segments_of s) pool → is_denied c state pool need ≡ false
+not_denied c s state pool need pools same listed le =
+    or_false _ _ listed (lt_false (available c.env.pools (live state) pool) need (rw (available_same c.env.pools (live state) (segments_of s) pool same, ← pools) le))
 
-pub denied : (c : Setting) (s : Store) (w : World) (pool need : ℕ) → s.pools ≡ c.env.pools → CountSame (live (between w)) (segments_of s) → list_any (nat_eq (w.calls + 1)) c.pattern ≡ false → available s.pools (segments_of s) pool < need → is_denied c (between w) pool need ≡ true
-denied c s w pool need pools same listed lt =
-    or_right _ _ listed (lt_true (available c.env.pools (live (between w)) pool) need (rw (available_same c.env.pools (live (between w)) (segments_of s) pool same, ← pools) lt))
+pub denied : (c : Setting) (s : Store) (state : State) (pool need : ℕ) → s.pools ≡ c.env.pools → CountSame (live state) (segments_of s) → list_any (nat_eq (state.world.calls + 1)) c.pattern ≡ false → available s.pools (segments_of s) pool < need → is_denied c state pool need ≡ true
+denied c s state pool need pools same listed lt =
+    or_right _ _ listed (lt_true (available c.env.pools (live state) pool) need (rw (available_same c.env.pools (live state) (segments_of s) pool same, ← pools) lt))
 
-calls_of : (s : Store) (room : ℕ) (registers : List (Option ℕ)) (numbers outbox : List ℕ) (calls steps : ℕ) (core : Core) → core_of s room registers numbers outbox calls steps ≡ core → calls ≡ core.state.world.calls
+pub calls_of : (s : Store) (room : ℕ) (registers : List (Option ℕ)) (numbers outbox : List ℕ) (calls steps : ℕ) (core : Core) → core_of s room registers numbers outbox calls steps ≡ core → calls ≡ core.state.world.calls
 calls_of s room registers numbers outbox calls steps core is = ap (λ (c : Core). c.state.world.calls) is
 
 pub pools_of : (s : Store) (room : ℕ) (registers : List (Option ℕ)) (numbers outbox : List ℕ) (calls steps : ℕ) (core : Core) → core_of s room registers numbers outbox calls steps ≡ core → s.pools ≡ core.pools
 pools_of s room registers numbers outbox calls steps core is = ap (λ (c : Core). c.pools) is
 
-buffers_of : (s : Store) (room : ℕ) (registers : List (Option ℕ)) (numbers outbox : List ℕ) (calls steps : ℕ) (core : Core) → core_of s room registers numbers outbox calls steps ≡ core → s.buffers ≡ core.state.world.buffers
+pub buffers_of : (s : Store) (room : ℕ) (registers : List (Option ℕ)) (numbers outbox : List ℕ) (calls steps : ℕ) (core : Core) → core_of s room registers numbers outbox calls steps ≡ core → s.buffers ≡ core.state.world.buffers
 buffers_of s room registers numbers outbox calls steps core is = ap (λ (c : Core). c.state.world.buffers) is
 
 -- a machine behind a call that was given
@@ -117,7 +101,7 @@ given c s s' room registers numbers outbox calls steps core pool port h bytes is
         state = rw (← of_env, becomes) (state_received s room registers numbers outbox calls steps core port h k buffers is idle free);
       };
       pools = ap (λ (x : Store). x.pools) becomes ∙ pools_of s room registers numbers outbox calls steps core is;
-      allowed = λ listed. not_denied c s core.state.world pool (needed c.env.pools pool (length bytes)) of_env same (rw (← is_calls) listed) (rw (← of_env) le);
+      allowed = λ listed. not_denied c s (between core.state.world) pool (needed c.env.pools pool (length bytes)) of_env same (rw (← is_calls) listed) (rw (← of_env) le);
     }
 
 pub refused : (c : Setting) (s s' : Store) (room : ℕ) (registers : List (Option ℕ)) (numbers outbox : List ℕ) (calls steps : ℕ) (core : Core) (pool : ℕ) (bytes : List ℕ) → core_of s room registers numbers outbox calls steps ≡ core → StandOnce s.slots registers outbox → AllByRecursion (λ o. o ≡ None) core.state.packets → core.pools ≡ c.env.pools → list_any (nat_eq (calls + 1)) c.pattern ≡ false → ReceivesInto s pool bytes s' None → is_denied c (between core.state.world) pool (needed c.env.pools pool (length bytes)) ≡ true
@@ -126,4 +110,4 @@ refused c s s' room registers numbers outbox calls steps core pool bytes is stan
     let same = live_same s room registers numbers outbox calls steps core is idle in
     let of_env : s.pools ≡ c.env.pools = pools_of s room registers numbers outbox calls steps core is ∙ pools in
     let is_calls = calls_of s room registers numbers outbox calls steps core is in
-    denied c s core.state.world pool (needed c.env.pools pool (length bytes)) of_env same (rw (← is_calls) listed) (rw (← of_env) less)
+    denied c s (between core.state.world) pool (needed c.env.pools pool (length bytes)) of_env same (rw (← is_calls) listed) (rw (← of_env) less)

@@ -22,6 +22,8 @@ ghost use Rattle.dp_model.specs.Packets.{available};
 ghost use Rattle.dp_model.specs.Machine.{live};
 ghost use Rattle.dp_engine.specs.Handles.{in_slot, core_of};
 
+mod calls;
+
 use crate::put::put_packet;
 use dp_model::{Env, NumberRegister, Packet as Handle, PacketLayer, PacketRegister};
 use dp_pcap::{Calls, PcapError, Sink, Time, Unit};
