@@ -36,8 +36,6 @@ pub enum Fault<'a> {
     Input { port: u8, cause: u8 },
     /// An output whose writer failed.
     Output { port: u8 },
-    /// An instruction that this version cannot run yet, by its label.
-    NotYet(u16),
     /// A line of a heap script that is no command.
     Line(u64),
 }
@@ -69,7 +67,6 @@ impl fmt::Display for Fault<'_> {
             }
             Fault::Input { port, cause } => write!(f, "fault: input {port} cause {cause}"),
             Fault::Output { port } => write!(f, "fault: output {port}"),
-            Fault::NotYet(label) => write!(f, "fault: not yet {label}"),
             Fault::Line(line) => write!(f, "fault: line {line} bad command"),
         }
     }

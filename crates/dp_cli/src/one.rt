@@ -90,7 +90,6 @@ fn tell_one_fault<O: Write, E: Write>(fault: OneFault, out: &mut O, err: &mut E)
     let OneFault { cause, report } = fault;
     let told = match cause {
         OneCause::Memory => Fault::Memory,
-        OneCause::NotYet(label) => Fault::NotYet(label),
         OneCause::In(error) => Fault::Input {
             port: 0,
             cause: error.number(),

@@ -2,8 +2,10 @@ pub mod Handles
 pub mod Machines
 pub mod Registers
 pub mod Runs
+pub mod Steps
 pub mod Counts
 pub mod Receive
+pub mod Taking
 pub mod Turning
 pub mod Draining
 pub mod Writing

@@ -1,5 +1,5 @@
 -- An engine that is opened.
-use Rattle.std.proofs.Common.{◌≡◌, ℕ, zero, suc, ◌+◌, ◌*◌, ◌<◌, ◌≤◌, Bool, true, false, List, [], ◌∷◌, ◌++◌, length, take, map, replicate, Option, Some, None, refl, sym, ◌∙◌, ap, subst, arith, get_or, nat_le, cond, add-one}
+use Rattle.std.proofs.Common.{◌≡◌, ℕ, zero, suc, ◌+◌, ◌<◌, ◌≤◌, Bool, true, false, List, [], ◌∷◌, ◌++◌, length, take, map, replicate, Option, Some, None, refl, sym, ◌∙◌, ap, subst, arith, get_or, nat_le, cond, add-one}
 use Rattle.std.specs.Prelude.{slice_get, if◌then◌else◌}
 use Rattle.std.specs.List.{AllByRecursion}
 use Rattle.std.proofs.lemmas.Bool.{and_parts, leb-true}
@@ -10,9 +10,8 @@ use Rattle.dp_model.specs.declared.env.Entry.TheVariants.{Port}
 use Rattle.dp_model.specs.declared.instr.Instr.{Instr}
 use Rattle.dp_model.specs.Environments.{Environment, room_at, count_at, fault_of, numbers_fit, port_fits, is_ring_count}
 use Rattle.dp_model.specs.Buffers.{Number, IsNumber, bytes_of, AreBytes}
-use Rattle.dp_model.specs.Packets.{Packet, available, free_below}
+use Rattle.dp_model.specs.Packets.{available, free_below}
 use Rattle.dp_model.specs.Rules.{Question}
-use Rattle.dp_model.specs.Machine.{World}
 use Rattle.dp_model.specs.Starts.{IsStart}
 use Rattle.dp_model.specs.Meaning.{TablesFit}
 use Rattle.dp_model.proofs.RunSteps.{start_ready}
@@ -21,9 +20,9 @@ use Rattle.std.specs.Prelude.{not, ◌&&◌, option_map, position}
 use Rattle.std.specs.List.{position_from}
 use Rattle.std.specs.Option.{option_or}
 use Rattle.std.proofs.lemmas.Iterator.Adapters.{position_from-zero}
-use Rattle.dp_model.specs.declared.env.EnvError.TheVariants.{BadNumber, BadPool, BadRing, BadPort, TooMany}
+use Rattle.dp_model.specs.declared.env.EnvError.TheVariants.{BadNumber, BadPort}
 use Rattle.dp_engine.specs.Handles.{Core, core_of, in_slot}
-use Rattle.dp_engine.specs.Steps.{setting_of, IsPlain, HasRoom}
+use Rattle.dp_engine.specs.Steps.{setting_of}
 use Rattle.dp_engine.specs.Plain.{store_of}
 use Rattle.dp_engine.specs.Tallies.{refused_of}
 use Rattle.std.proofs.lemmas.Option.{same_Some}
@@ -36,10 +35,10 @@ use Rattle.dp_model.proofs.SafeTurns.{safe_never_stuck}
 use Rattle.dp_model.proofs.SafeWhole.{run_runs_safe, start_rest}
 use Rattle.dp_engine.specs.declared.report.InputState.{InputState}
 use Rattle.dp_engine.specs.declared.report.Report.{Report}
-use Rattle.std.specs.Prelude.{Result, Ok, Err}
+use Rattle.std.specs.Prelude.{Result, Err}
 use Rattle.dp_engine.specs.declared.report.InputState.TheVariants.{Open}
 use Rattle.dp_engine.specs.declared.one.OneCause.{OneCause}
-use Rattle.dp_engine.specs.declared.one.OneCause.TheVariants.{Memory, In, Out, NotYet}
+use Rattle.dp_engine.specs.declared.one.OneCause.TheVariants.{Memory, In, Out}
 use Rattle.dp_engine.specs.Drains.{emptied}
 use Rattle.dp_engine.specs.Ones.{NeverSticks, IsRun, Ran, Stopped}
 use Rattle.dp_engine.specs.Reports.{no_tallies, pool_report, IsReport, IsWhole}
@@ -122,14 +121,12 @@ starts env s room = record {
   bytes = all_bytes s.pool;
 }
 
-pub engine_opened : (q : Question) (s : IsPlainSetup q.env) (room : ℕ) → fault_of q.env ≡ None → q.entry ≡ Port 0 → AllByRecursion IsPlain q.program → length q.program ≤ 1024 → room ≡ s.port.queue → IsEngine q [] (first_core s.pool room) 0 no_tallies
-engine_opened q s room valid entry plain few room_is =
+pub engine_opened : (q : Question) (s : IsPlainSetup q.env) (room : ℕ) → fault_of q.env ≡ None → q.entry ≡ Port 0 → room ≡ s.port.queue → IsEngine q [] (first_core s.pool room) 0 no_tallies
+engine_opened q s room valid entry room_is =
     let here : slice_get q.env.ports 0 ≡ Some s.port = ap (λ l. slice_get l 0) s.port_is in
     let w = (first_core s.pool room).state.world in
     record {
       entry = entry;
-      plain = plain;
-      few = few;
       spec = s.port;
       port = s.port_is;
       has_room = ports_have_room q.env valid 0 s.port here;
@@ -230,16 +227,6 @@ whole_report env e state r same none is p pools =
     let free : available e.setting.env.pools (live (between e.world)) 0 ≡ p.count = ap (λ l. available e.setting.env.pools l 0) none ∙ ap (λ ps. available ps [] 0) here ∙ all_free p.count in
     is.pools p here ∙ ap (λ n. pool_report n p.count ∷ []) free
 
--- ---- the forms that run
-
-pub plain_more : (program : List Instr) (i : ℕ) (x : Instr) → slice_get program i ≡ Some x → AllByRecursion IsPlain (take i program) → IsPlain x → AllByRecursion IsPlain (take (i + 1) program)
-plain_more program i x here all one =
-    subst (λ l. AllByRecursion IsPlain l) (sym (ap (λ n. take n program) (add-one i) ∙ take_more program i x here)) (joined (take i program) all)
-  where
-    joined : (xs : List Instr) → AllByRecursion IsPlain xs → AllByRecursion IsPlain (xs ++ x ∷ [])
-    joined [] all = (one, tt)
-    joined (y ∷ xs) all = (all.0, joined xs all.1)
-
 -- ---- what a whole run answers
 
 pub ran_is : (q : Question) (s : IsPlainSetup q.env) (first last end : EngineState) (a b c d : Option (List ℕ)) (answer answer' : Result (Option ℕ) OneCause) (state : InputState) (report : Report) → fault_of q.env ≡ None → IsAccepted q → q.entry ≡ Port 0 → IsOpened q first → IsRun first last a b c d answer → answer ≡ answer' → end ≡ emptied last → IsReport end state report → Ran q a b c d answer' state report
@@ -254,6 +241,5 @@ ran_is q s first last end a b c d answer answer' state report valid accepted ent
 
 pub stopped : (env : Environment) (q : Question) (a b c d : Option (List ℕ)) (cause : OneCause) (report : Report) → Ran q a b c d (Err cause) Open report → Stopped env q a b c d cause report
 stopped env q a b c d Memory report ran = absurd ran.run
-stopped env q a b c d (NotYet label) report ran = absurd ran.run
 stopped env q a b c d (In error) report ran = ran
 stopped env q a b c d Out report ran = ran

@@ -1,5 +1,5 @@
 -- Turns of an engine of one port.
-use Rattle.std.proofs.Common.{◌≡◌, ℕ, zero, suc, ◌+◌, ◌<◌, ◌≤◌, Bool, true, false, List, [], ◌∷◌, ◌++◌, length, Option, Some, None, refl, sym, ◌∙◌, ap, subst, arith, append-nil}
+use Rattle.std.proofs.Common.{◌≡◌, ℕ, ◌+◌, ◌<◌, ◌≤◌, Bool, true, false, List, [], ◌∷◌, length, Option, Some, None, refl, sym, ap, subst, arith, append-nil}
 use Rattle.std.specs.Prelude.{slice_get, slice_set, map}
 use Rattle.dp_model.proofs.WholeRuns.{drained_ready}
 use Rattle.std.specs.List.{AllByRecursion}
@@ -15,17 +15,9 @@ use Rattle.dp_model.proofs.NodeRuns.{goes_known, begins_known, accepted_is_sound
 use Rattle.dp_model.proofs.Later.{acts_lead}
 use Rattle.dp_engine.specs.Handles.{Core, moved}
 use Rattle.dp_engine.specs.Steps.{setting_of, CanRun, Runs}
-use Rattle.std.specs.Prelude.{nat_lt, if◌then◌else◌, slice_index}
-use Rattle.std.proofs.lemmas.Option.{same_Some}
-use Rattle.std.proofs.lemmas.List.{length_push}
-use Rattle.dp_model.specs.declared.instr.Instr.{Instr}
-use Rattle.dp_model.specs.declared.instr.Instr.TheVariants.{Free, Adj, IfLen, Set, Tx, Exit}
-use Rattle.dp_model.specs.Packets.{first_len, at_front, less_before}
-use Rattle.dp_model.specs.Machine.{Move, Acts, branches, goes_on, moves_to, without_packet}
 use Rattle.dp_engine.specs.declared.report.Tallies.{Tallies}
-use Rattle.dp_engine.specs.Steps.{move_to, IsPlain}
 use Rattle.dp_engine.specs.Tallies.{held_count, listed_count, packet_count}
-use Rattle.dp_engine.specs.Turns.{IsReceived, EngineState, IsEngine}
+use Rattle.dp_engine.specs.Turns.{IsReceived, IsEngine}
 
 abbrev pub spec_at : (ports : List PortSpec) (spec : PortSpec) → ports ≡ spec ∷ [] → slice_get ports 0 ≡ Some spec
 spec_at ports spec e = ap (λ l. slice_get l 0) e
@@ -103,8 +95,6 @@ cleared q pattern core packets t' box e received nobuf oversize sent =
     let count : listed_count (slice_set w.outboxes 0 []) ≡ 0 = ap (λ o. listed_count (slice_set o 0 [])) box in
     record {
       entry = e.entry;
-      plain = e.plain;
-      few = e.few;
       spec = e.spec;
       port = e.port;
       has_room = e.has_room;
@@ -123,64 +113,6 @@ cleared q pattern core packets t' box e received nobuf oversize sent =
       ready = subst none same (drained_ready c w e.ready);
     }
 
--- ---- no packet appears within a run
-
-held_cleared : (packets : List (Option Packet)) (p : ℕ) (k : Packet) → slice_get packets p ≡ Some (Some k) → held_count (slice_set packets p None) + 1 ≡ held_count packets
-held_cleared [] p k h = cc
-held_cleared (None ∷ packets) zero k h = cc
-held_cleared (Some x ∷ packets) zero k h = omega arith
-held_cleared (None ∷ packets) (suc p) k h = held_cleared packets p k h
-held_cleared (Some x ∷ packets) (suc p) k h = let more = held_cleared packets p k h in omega (arith, more)
-
-held_changed : (packets : List (Option Packet)) (p : ℕ) (k l : Packet) → slice_get packets p ≡ Some (Some k) → held_count (slice_set packets p (Some l)) ≡ held_count packets
-held_changed [] p k l h = cc
-held_changed (None ∷ packets) zero k l h = cc
-held_changed (Some x ∷ packets) zero k l h = refl
-held_changed (None ∷ packets) (suc p) k l h = held_changed packets p k l h
-held_changed (Some x ∷ packets) (suc p) k l h = let more = held_changed packets p k l h in omega (arith, more)
-
-listed_more : (lists : List (List Packet)) (i : ℕ) (packets : List Packet) (k : Packet) → slice_get lists i ≡ Some packets → listed_count (slice_set lists i (packets ++ k ∷ [])) ≡ listed_count lists + 1
-listed_more [] i packets k h = cc
-listed_more (l ∷ lists) zero packets k h =
-    let same : length l ≡ length packets = ap length (same_Some l packets h) in
-    omega (arith, same, length_push packets k)
-listed_more (l ∷ lists) (suc i) packets k h = let more = listed_more lists i packets k h in omega (arith, more)
-
-state_of : (label : ℕ) (next : Option ℕ) (told : List Bool) (s s' : State) (m : Move) → move_to next told s' ≡ m → s' ≡ m.state
-state_of label next told s s' m e = ap (λ (m : Move). m.state) e
-
-branch_state : (b : Bool) (label l : ℕ) (s : State) → (branches b label l s).state ≡ s
-branch_state true label l s = refl
-branch_state false label l s = refl
-
-leave_count : (b : Bool) (label l : ℕ) (s t : State) → packet_count t ≤ packet_count s → packet_count (if b then goes_on label t else moves_to l s).state ≤ packet_count s
-leave_count true label l s t le = le
-leave_count false label l s t le = omega arith
-
-pub acts_count : (c : Setting) (label : ℕ) (s : State) (i : Instr) (next : Option ℕ) (told : List Bool) (s' : State) → IsPlain i → Acts c label s i (move_to next told s') → packet_count s' ≤ packet_count s
-acts_count c label s (Free p) next told s' plain (k, holds, e) =
-    let is = state_of label next told s s' _ e in
-    omega (arith, ap packet_count is, held_cleared s.packets p k holds)
-acts_count c label s (Adj p n) next told s' plain (k, holds, le, e) =
-    let is = state_of label next told s s' _ e in
-    omega (arith, ap packet_count is, held_changed s.packets p k (at_front (less_before n) k) holds)
-acts_count c label s (IfLen p n l) next told s' plain (k, holds, e) =
-    let is = state_of label next told s s' _ e ∙ branch_state (nat_lt (first_len k) n) label l s in
-    omega (arith, ap packet_count is)
-acts_count c label s (Set r n) next told s' plain (after, e, f) =
-    let is = state_of label next told s s' _ f in
-    omega (arith, ap packet_count is)
-acts_count c label s (Tx p r l) next told s' plain (k, port, packets, holds, there, box, e) =
-    let is = state_of label next told s s' _ e in
-    let at = slice_index s.numbers r in
-    let less = leave_count (nat_lt (length packets + 1) port.queue) label l s (with_outbox at (packets ++ k ∷ []) (without_packet p s))
-    (omega (arith, held_cleared s.packets p k holds, listed_more s.world.outboxes at packets k box)) in
-    omega (arith, ap packet_count is, less)
-acts_count c label s Exit next told s' plain (idle, e) =
-    let is = state_of label next told s s' _ e in
-    omega (arith, ap packet_count is)
-acts_count c label s _ next told s' plain acts = absurd plain
-
 idle_count : (packets : List (Option Packet)) → AllByRecursion (λ o. o ≡ None) packets → held_count packets ≡ 0
 idle_count [] all = refl
 idle_count (None ∷ packets) all = idle_count packets all.1
@@ -188,11 +120,6 @@ idle_count (Some k ∷ packets) all = let never = all.0 in cc
 
 pub received_count : (c : Setting) (pool port : ℕ) (bytes : List ℕ) (w : World) (s : State) → IsReceived c pool port bytes w s → packet_count s ≡ listed_count w.outboxes + 1
 received_count c pool port bytes w s r = let e = ap packet_count r.state in omega (arith, e)
-
-pub plain_at : (program : List Instr) (label : ℕ) (i : Instr) → AllByRecursion IsPlain program → slice_get program label ≡ Some i → IsPlain i
-plain_at [] label i all h = cc
-plain_at (x ∷ program) zero i all h = subst IsPlain (same_Some x i h) all.0
-plain_at (x ∷ program) (suc label) i all h = plain_at program label i all.1 h
 
 pub only_port : (ports : List PortSpec) (spec : PortSpec) (port : ℕ) → ports ≡ spec ∷ [] → port < length ports → port ≡ 0
 only_port ports spec port e lt = let n : length ports ≡ 1 = ap length e in omega (arith, n, lt)

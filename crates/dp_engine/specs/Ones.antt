@@ -1,17 +1,14 @@
 -- A run of one port, from a capture to a capture.
-use Rattle.std.specs.Prelude.{◌≡◌, ℕ, ◌+◌, ◌<◌, Bool, List, [], ◌∷◌, ◌++◌, length, map, take, slice_get, Option, None, Some, Result, Ok, Err, ◌⊎◌}
-use Rattle.std.specs.List.{AllByRecursion}
+use Rattle.std.specs.Prelude.{◌≡◌, ℕ, Bool, List, [], ◌∷◌, ◌++◌, length, map, take, slice_get, Option, None, Some, Result, Ok, Err, ◌⊎◌}
 use Rattle.std.specs.Io.KnownBytes.{Appends, Keeps}
 use Rattle.dp_pcap.specs.declared.time.Time.{Time}
 use Rattle.dp_pcap.specs.declared.time.Unit.{Unit as TimeUnit}
-use Rattle.dp_pcap.specs.declared.error.PcapError.{PcapError}
 use Rattle.dp_pcap.specs.declared.error.PcapError.TheVariants.{Read}
 use Rattle.dp_pcap.specs.Standing.{Standing}
 use Rattle.dp_pcap.specs.Capture.{PacketRecord, Ending, IsCapture, HasBadHeader}
 use Rattle.dp_pcap.specs.Capture as capture
 use Rattle.dp_pcap.specs.Source.{WhereKnown, HasRead}
 use Rattle.dp_pcap.specs.Text.{text, header_text, record_text, AppendsPart}
-use Rattle.dp_model.specs.declared.instr.Instr.{Instr}
 use Rattle.dp_model.specs.Environments.{Environment}
 use Rattle.dp_model.specs.Rules.{Question}
 use Rattle.dp_model.specs.Machine.{World}
@@ -20,13 +17,11 @@ use Rattle.dp_model.specs.Safety.{Beginning, IsOfRun}
 use Rattle.dp_engine.specs.declared.report.InputState.{InputState}
 use Rattle.dp_engine.specs.declared.report.InputState.TheVariants.{Open, Whole, Cut}
 use Rattle.dp_engine.specs.declared.report.Report.{Report}
-use Rattle.dp_engine.specs.declared.report.Tallies.{Tallies}
 use Rattle.dp_engine.specs.declared.one.OneCause.{OneCause}
-use Rattle.dp_engine.specs.declared.one.OneCause.TheVariants.{Memory, In, Out, NotYet}
+use Rattle.dp_engine.specs.declared.one.OneCause.TheVariants.{Memory, In, Out}
 use Rattle.dp_engine.specs.declared.one.OneFault.{OneFault}
 use Rattle.dp_engine.specs.Drains.{captured, emptied}
 use Rattle.dp_engine.specs.Reports.{IsReport, IsUnopened, IsWhole}
-use Rattle.dp_engine.specs.Steps.{IsPlain}
 use Rattle.dp_engine.specs.Tallies.{Tallied}
 use Rattle.dp_engine.specs.Turns.{EngineState, IsOpened}
 
@@ -80,7 +75,6 @@ IsRun e e' a b c d (Err Out) =
     × RunsOn e packets sent outcomes e'.world × Tallied e.tallies e'.tallies outcomes whole
     × AppendsPart c d (text unit sent) × StopsIn c d unit sent whole
 IsRun e e' a b c d (Err Memory) = ⊥
-IsRun e e' a b c d (Err (NotYet label)) = ⊥
 
 -- no node run of a run from this engine on is ever stuck
 abbrev pub NeverSticks : EngineState → Type 0
@@ -96,17 +90,9 @@ pub record Ran (q : Question) (a b c d : Option (List ℕ)) (answer : Result (Op
   pub run : IsRun first last a b c d answer
   pub reports : IsReport (emptied last) state report
 
--- the least label with an instruction of another form
-pub record IsFirstOther (program : List Instr) (label : ℕ) : Type 0 where
-  pub instr : Instr
-  pub here : slice_get program label ≡ Some instr
-  pub other : IsPlain instr → ⊥
-  pub before : AllByRecursion IsPlain (take label program)
-
 -- why a run stopped, and what had happened by then
 abbrev pub Stopped : Environment → Question → Option (List ℕ) → Option (List ℕ) → Option (List ℕ) → Option (List ℕ) → OneCause → Report → Type 0
 Stopped env q a b c d Memory report = Keeps a b × Keeps c d × IsUnopened env report
-Stopped env q a b c d (NotYet label) report = Keeps a b × Keeps c d × IsUnopened env report × IsFirstOther q.program label
 Stopped env q a b c d (In error) report = Ran q a b c d (Err (In error)) Open report
 Stopped env q a b c d Out report = Ran q a b c d (Err Out) Open report
 

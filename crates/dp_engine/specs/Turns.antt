@@ -4,7 +4,6 @@ use Rattle.std.specs.List.{AllByRecursion}
 use Rattle.dp_model.specs.declared.env.PoolSpec.{PoolSpec}
 use Rattle.dp_model.specs.declared.env.PortSpec.{PortSpec}
 use Rattle.dp_model.specs.declared.env.Entry.TheVariants.{Port}
-use Rattle.dp_model.specs.declared.instr.Instr.{Instr}
 use Rattle.dp_model.specs.Environments.{Environment, room_at}
 use Rattle.dp_model.specs.Buffers.{Number, Buffers}
 use Rattle.dp_model.specs.Packets.{needed, received, Filled, AreFresh}
@@ -16,7 +15,7 @@ use Rattle.dp_model.specs.Starts.{IsStart}
 use Rattle.dp_engine.specs.declared.report.Tallies.{Tallies}
 use Rattle.dp_engine.specs.Handles.{Core}
 use Rattle.dp_engine.specs.Tallies.{packet_count}
-use Rattle.dp_engine.specs.Steps.{setting_of, IsPlain, HasRoom}
+use Rattle.dp_engine.specs.Steps.{setting_of, HasRoom}
 
 -- a packet with these bytes is in the first register, and the port's number too; all else is empty and 0
 pub record IsReceived (c : Setting) (pool port : ℕ) (bytes : List ℕ) (w : World) (s : State) : Type 0 where
@@ -49,8 +48,6 @@ engine_of q pattern core turns tallies = record {
 -- the machine rests between two turns on the only port
 pub record IsEngine (q : Question) (pattern : List ℕ) (core : Core) (turns : ℕ) (tallies : Tallies) : Type 0 where
   pub entry : q.entry ≡ Port 0
-  pub plain : AllByRecursion IsPlain q.program
-  pub few : length q.program ≤ 1024
   pub spec : PortSpec
   pub port : q.env.ports ≡ spec ∷ []
   pub has_room : 129 ≤ room_at q.env.pools spec.pool

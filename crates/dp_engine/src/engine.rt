@@ -9,9 +9,7 @@ ghost use Rattle.dp_pcap.specs.Text.{record_text};
 ghost use Rattle.dp_engine.specs.Drains.{Written, WrotePart, emptied, drained_of, sent_of};
 ghost use Rattle.dp_engine.specs.Tallies.{counted, refused_of};
 ghost use Rattle.dp_engine.specs.Turns.{IsAscending, IsPlainSetup, IsOpened};
-ghost use Rattle.dp_engine.specs.Steps.{IsPlain};
 ghost use Rattle.dp_engine.specs.Reports.{IsReport};
-ghost use Rattle.std.specs.List.{AllByRecursion};
 ghost use Rattle.dp_engine.specs.Outcomes.{outcome_of};
 
 use crate::machine::Machine;
@@ -249,11 +247,9 @@ impl Engine<Plain> {
     pub fn open_plain(alloc: Global, env: &Env, checked: Checked) -> Result<Engine<Plain>, Memory>
         requires setup { IsPlainSetup env.now }
         requires checked { (checked.env ≡ env.now) × (checked.entry ≡ Entry.Port 0) }
-        requires forms { AllByRecursion IsPlain checked.program }
         ensures { IfOk result (λ engine. IsOpened checked engine) }
     {
         env.within_limits();
-        let _program = checked.program().instrs();
         let pool = env.pools()[0];
         let port = env.ports()[0];
         let Ok(layer) = Plain::open(alloc, pool) else {

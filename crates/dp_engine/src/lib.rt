@@ -3,7 +3,9 @@
 
 mod engine;
 mod machine;
+mod numbers;
 mod one;
+mod packets;
 mod plain;
 mod put;
 mod report;

@@ -1,15 +1,15 @@
 //! Registers and a transmit list, over a packet layer.
 ghost use Rattle.std.specs.Prelude.{◌≡◌, ℕ, ◌+◌, ◌^◌, ◌<◌, ◌≤◌, length, slice_index, List, [], ◌∷◌, ◌++◌};
 ghost use Rattle.dp_model.specs.Packets.{Packet, first_len, at_front, less_before};
-ghost use Rattle.dp_model.specs.Machine.{Holds, with_packet, without_packet, with_number, with_step, with_outbox};
-ghost use Rattle.std.specs.Prelude.{not, None, nat_eq, IsTrue, IsFalse};
+ghost use Rattle.dp_model.specs.Machine.{calculated, Holds, with_packet, without_packet, with_number, with_step, with_outbox};
+ghost use Rattle.std.specs.Prelude.{not, None, Some, nat_eq, IsTrue, IsFalse};
 ghost use Rattle.std.specs.List.{list_any, AllByRecursion};
 ghost use Rattle.dp_model.specs.Environments.{room_at};
 ghost use Rattle.dp_model.specs.Packets.{needed};
 ghost use Rattle.dp_model.specs.Machine.{is_denied};
 ghost use Rattle.dp_model.specs.Runs.{between};
 ghost use Rattle.dp_engine.specs.Handles.{moved};
-ghost use Rattle.dp_engine.specs.Steps.{setting_of};
+ghost use Rattle.dp_engine.specs.Steps.{setting_of, with_numbers, ShiftsWithin};
 ghost use Rattle.std.specs.Prelude.{OnOk, OnErr, IfOk, IfErr, IsOk, IsErr, ◌↔◌, false, flat_map};
 ghost use Rattle.std.specs.Io.KnownBytes.{Appends};
 ghost use Rattle.dp_pcap.specs.Text.{AppendsPart, record_text};
@@ -24,8 +24,9 @@ ghost use Rattle.dp_engine.specs.Handles.{in_slot, core_of};
 
 mod calls;
 
+use crate::numbers::calculate;
 use crate::put::put_packet;
-use dp_model::{Env, NumberRegister, Packet as Handle, PacketLayer, PacketRegister};
+use dp_model::{Env, Instr, NumberRegister, Packet as Handle, PacketLayer, PacketRegister};
 use dp_pcap::{Calls, PcapError, Sink, Time, Unit};
 use std::marker::Model;
 
@@ -207,6 +208,17 @@ impl<P: PacketLayer> Machine<P> {
         ensures { self.new ≡ moved (with_number r n self.old.state) self.old }
     {
         self.numbers[r.number() as usize] = n;
+    }
+
+    // An instruction that handles no packet. The label of the next.
+    pub(crate) fn calculate(&mut self, instr: Instr, label: u16) -> u16
+        requires some { (after : ℕ × List ℕ) × (calculated [] label self.old.state.numbers instr ≡ Some after) }
+        requires shifts { ShiftsWithin instr }
+        requires few { label < 1024 }
+        ensures after { calculated [] label self.old.state.numbers instr ≡ Some (result, self.new.state.numbers) }
+        ensures rest { self.new ≡ moved (with_numbers self.new.state.numbers self.old.state) self.old }
+    {
+        calculate(&mut self.numbers, instr, label)
     }
 
     pub(crate) fn count_step(&mut self)

@@ -1,11 +1,9 @@
 //! A run of one port, from a capture to a capture.
 ghost use Rattle.std.specs.Prelude.{◌≡◌, ℕ, ◌+◌, ◌^◌, ◌<◌, ◌≤◌, ◌↔◌, false, [], length, IsOk, IsErr, IsErrOf, IfErr, IfSome, IfNone, IsTrue};
-ghost use Rattle.std.specs.List.{AllByRecursion};
 ghost use Rattle.dp_model.specs.Machine.{live};
 ghost use Rattle.dp_model.specs.Runs.{between};
-ghost use Rattle.dp_engine.specs.Ones.{IsRun, IsFirstOther, OneAnswers, AllFree, state_of};
+ghost use Rattle.dp_engine.specs.Ones.{IsRun, OneAnswers, AllFree, state_of};
 ghost use Rattle.dp_engine.specs.Reports.{IsUnopened};
-ghost use Rattle.dp_engine.specs.Steps.{IsPlain};
 ghost use Rattle.dp_engine.specs.Turns.{IsPlainSetup};
 
 use crate::Engine;
@@ -13,18 +11,16 @@ use crate::plain::zeros;
 use crate::report::{InputState, PoolReport, PortReport, Report};
 use arrayvec::ArrayVec;
 use dp_check::Checked;
-use dp_model::{Entry, Env, Instr, PacketLayer};
+use dp_model::{Entry, Env, PacketLayer};
 use dp_pcap::{Feed, Next, PcapError, Sink, next_record, put_header, read_header};
 use std::alloc::Global;
 
-/// Why a run stopped: no memory, a fault of the input, a writer that failed, or a program with an instruction of a form
-/// that does not run yet, at that label.
+/// Why a run stopped: no memory, a fault of the input, or a writer that failed.
 #[derive(Clone, Copy, Debug, PartialEq, Eq)]
 pub enum OneCause {
     Memory,
     In(PcapError),
     Out,
-    NotYet(u16),
 }
 
 /// A run that stopped, and its numbers.
@@ -73,36 +69,6 @@ pub(crate) fn run_records<P: PacketLayer, R: Feed, W: Sink>(
     }
 }
 
-// Whether the instruction is of a form that runs.
-fn runs(instr: Instr) -> bool
-    ensures plain { IsTrue result → IsPlain instr }
-    ensures other { result ≡ false → IsPlain instr → ⊥ }
-{
-    match instr {
-        Instr::IfLen { .. } => true,
-        Instr::Adj { .. } => true,
-        Instr::Free { .. } => true,
-        Instr::Set { .. } => true,
-        Instr::Tx { .. } => true,
-        Instr::Exit => true,
-        _ => false,
-    }
-}
-
-// The least label with an instruction of another form.
-fn first_other(program: &[Instr]) -> Option<u16>
-    requires { length program.now ≤ 1024 }
-    ensures some { IfSome result (IsFirstOther program.now) }
-    ensures none { IfNone result (AllByRecursion IsPlain program.now) }
-{
-    for label in 0..program.len() {
-        if !runs(program[label]) {
-            return Some(label as u16);
-        }
-    }
-    None
-}
-
 // How far an input was read that is cut there, or not.
 fn state_of(cut: Option<u64>) -> InputState
     ensures { result ≡ state_of cut }
@@ -139,7 +105,7 @@ fn unopened(env: &Env) -> Report
 }
 
 /// Reads a capture from `r`, takes a turn and a drain for each record, and writes a capture to `w`. All memory is taken
-/// before anything is read. A program with an instruction of a form that does not run yet is answered before that.
+/// before anything is read.
 pub fn run_one<R: Feed, W: Sink>(
     alloc: Global,
     env: &Env,
@@ -156,12 +122,7 @@ pub fn run_one<R: Feed, W: Sink>(
     ensures writer { IfErr result (λ f. f.cause ≡ OneCause.Out → IsTrue (W.is_broken w.new)) }
 {
     env.within_limits();
-    if let Some(label) = first_other(checked.program().instrs()) {
-        return Err(OneFault {
-            cause: OneCause::NotYet(label),
-            report: unopened(env),
-        });
-    }
+    let _program = checked.program();
     let Ok(mut buf) = zeros(alloc, 262_144) else {
         return Err(OneFault {
             cause: OneCause::Memory,

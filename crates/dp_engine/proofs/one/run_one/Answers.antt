@@ -1,19 +1,13 @@
-use Rattle.std.proofs.Common.{◌≡◌, ◌∙◌, ◌≤◌, ℕ, List, Option, None, Some, Ok, Err, length, replicate, take, sym, ap, subst, arith, rules, refl}
-use Rattle.std.specs.List.{AllByRecursion}
-use Rattle.dp_model.specs.Environments.{Environment, fault_of}
+use Rattle.std.proofs.Common.{◌≡◌, ◌∙◌, ℕ, None, Ok, Err, length, sym, ap, subst, arith}
+use Rattle.dp_model.specs.Environments.{fault_of}
 use Rattle.dp_model.specs.Machine.{Setting}
 use Rattle.dp_engine.specs.declared.report.InputState.TheVariants.{Open}
 use Rattle.dp_engine.specs.Ones.{state_of}
 use Rattle.dp_engine.specs.Reports.{IsReport}
-use Rattle.dp_engine.specs.Steps.{IsPlain}
 use Rattle.dp_engine.specs.Turns.{IsPlainSetup, EngineState}
 use Rattle.dp_engine.proofs.Opened.{long}
 use Rattle.dp_engine.proofs.Opening.{ran_is, stopped, whole_report}
 use Rattle.dp_engine.proofs.one.run_one.Goals as goal
-
-pub open_plain-requires-clause-forms : goal.open_plain-requires-clause-forms
-open_plain-requires-clause-forms g c =
-    subst (AllByRecursion IsPlain) (c.instrs.ensures.same ∙ c.program.ensures.same) c.in_default.ensures.none
 
 pub run_records-outcome-requires-clause-buf : goal.run_records-outcome-requires-clause-buf
 run_records-outcome-requires-clause-buf g c =
@@ -23,7 +17,7 @@ pub returns-clause-run : goal.returns-clause-run
 returns-clause-run g c =
     let s : IsPlainSetup c.args.checked.env = subst IsPlainSetup (sym c.requires.checked.0) c.requires.setup in
     let valid : fault_of c.args.checked.env ≡ None = subst (λ e. fault_of e ≡ None) (sym c.requires.checked.0) c.within_limits.ensures in
-    stopped c.args.env.now c.args.checked _ _ _ _ c.in-Err.cause _ (ran_is c.args.checked s c.in-Ok-open_plain.engine c.run_records-outcome.new.engine c.flush.new.self _ _ _ _ c.run_records-outcome.result (Err c.in-Err.cause) (Open) _ valid c.program.ensures.accepted c.requires.checked.1 c.in-Ok-open_plain.ensures c.run_records-outcome.ensures.run (c.in-Err.is) c.flush.ensures.empty c.report.ensures)
+    stopped c.args.env.now c.args.checked _ _ _ _ c.in-Err.cause _ (ran_is c.args.checked s c.in-Ok-open_plain.engine c.run_records-outcome.new.engine c.flush.new.self _ _ _ _ c.run_records-outcome.result (Err c.in-Err.cause) (Open) _ valid c.program-program.ensures.accepted c.requires.checked.1 c.in-Ok-open_plain.ensures c.run_records-outcome.ensures.run (c.in-Err.is) c.flush.ensures.empty c.report.ensures)
 
 pub returns-clause-free : goal.returns-clause-free
 returns-clause-free g c =
@@ -35,7 +29,7 @@ returns-in-Ok-outcome-clause-run g c =
     let s : IsPlainSetup c.args.checked.env = subst IsPlainSetup (sym c.requires.checked.0) c.requires.setup in
     let valid : fault_of c.args.checked.env ≡ None = subst (λ e. fault_of e ≡ None) (sym c.requires.checked.0) c.within_limits.ensures in
     let reports = subst (λ state. IsReport c.flush.new.self state c.report_with.result) c.state_of.ensures c.report_with.ensures in
-    (c.in-Ok-outcome.cut, ran_is c.args.checked s c.in-Ok-open_plain.engine c.run_records-outcome.new.engine c.flush.new.self _ _ _ _ c.run_records-outcome.result (Ok c.in-Ok-outcome.cut) (state_of c.in-Ok-outcome.cut) _ valid c.program.ensures.accepted c.requires.checked.1 c.in-Ok-open_plain.ensures c.run_records-outcome.ensures.run c.in-Ok-outcome.is c.flush.ensures.empty reports)
+    (c.in-Ok-outcome.cut, ran_is c.args.checked s c.in-Ok-open_plain.engine c.run_records-outcome.new.engine c.flush.new.self _ _ _ _ c.run_records-outcome.result (Ok c.in-Ok-outcome.cut) (state_of c.in-Ok-outcome.cut) _ valid c.program-program.ensures.accepted c.requires.checked.1 c.in-Ok-open_plain.ensures c.run_records-outcome.ensures.run c.in-Ok-outcome.is c.flush.ensures.empty reports)
 
 pub returns-in-Ok-outcome-clause-free : goal.returns-in-Ok-outcome-clause-free
 returns-in-Ok-outcome-clause-free g c =

@@ -1,15 +1,13 @@
-use Rattle.std.proofs.Common.{◌≡◌, ◌∙◌, ◌≤◌, ◌<◌, ℕ, List, [], ◌∷◌, length, sym, ap, subst, rules, refl, arith, get_or, None, Some, Option, replicate}
+use Rattle.std.proofs.Common.{◌≡◌, ◌∙◌, List, [], sym, ap, subst, get_or, None, replicate}
 use Rattle.std.specs.Vec.{vec_capacity}
 use Rattle.dp_model.specs.declared.env.PoolSpec.{PoolSpec}
 use Rattle.dp_model.specs.declared.env.PortSpec.{PortSpec}
-use Rattle.dp_model.specs.Environments.{Environment, fault_of}
-use Rattle.dp_model.specs.Rules.{Question}
+use Rattle.dp_model.specs.Environments.{fault_of}
 use Rattle.dp_model.specs.Stores.{Store}
-use Rattle.dp_engine.specs.Handles.{Core, core_of}
+use Rattle.dp_engine.specs.Handles.{core_of}
 use Rattle.dp_engine.specs.Plain.{store_of}
-use Rattle.dp_engine.specs.Reports.{no_tallies}
-use Rattle.dp_engine.specs.Turns.{IsPlainSetup, IsEngine, IsOpened, engine_of}
-use Rattle.dp_engine.proofs.Opening.{engine_opened, is_opened, no_slots, first_core}
+use Rattle.dp_engine.specs.Turns.{IsPlainSetup}
+use Rattle.dp_engine.proofs.Opening.{engine_opened, is_opened, first_core}
 use Rattle.dp_engine.proofs.engine.Engine+Plain.open_plain.Goals as goal
 
 pub invariant_of-result : goal.invariant_of-result
@@ -21,7 +19,7 @@ invariant_of-result c =
     let core : c.over.result ≡ first_core s.pool (vec_capacity c.in-Ok-with_capacity.outbox) =
     c.over.ensures ∙ ap (λ (l : Store). core_of l (vec_capacity c.in-Ok-with_capacity.outbox) (replicate 8 None) (replicate 8 0) [] 0 0)
     (c.in-Ok.ensures ∙ ap (λ (p : PoolSpec). store_of p (replicate p.count (replicate p.room 0)) (replicate p.count None)) pool_same) in
-    rw (c.new.ensures.items, core) (engine_opened c.args.checked s (vec_capacity c.in-Ok-with_capacity.outbox) valid c.requires.checked.1 c.requires.forms (omega (arith, c.instrs-program.ensures.few, ap length (c.instrs-program.ensures.same ∙ c.program.ensures.same))) queue)
+    rw (c.new.ensures.items, core) (engine_opened c.args.checked s (vec_capacity c.in-Ok-with_capacity.outbox) valid c.requires.checked.1 queue)
 
 pub returns : goal.returns
 returns c =

@@ -1,10 +1,10 @@
-use Rattle.std.proofs.Common.{rules, ◌≡◌, ◌≤◌, ◌<◌, ℕ, Bool, true, false, List, [], ◌∷◌, length, sym, ap, ◌∙◌, subst, arith, refl}
+use Rattle.std.proofs.Common.{◌≡◌, ◌≤◌, ◌<◌, Bool, false, List, [], ◌∷◌, length, sym, ap, ◌∙◌, subst, arith, refl}
 use Rattle.std.specs.Prelude.{slice_index_or}
 use Rattle.dp_model.specs.declared.env.PortSpec.{PortSpec}
 use Rattle.dp_model.specs.Environments.{Environment}
 use Rattle.dp_model.specs.Packets.{needed as segments_needed}
-use Rattle.dp_model.specs.Machine.{World, is_denied}
-use Rattle.dp_model.specs.Runs.{Turn as IsTurn, Got, NoBuffer, Oversize, between}
+use Rattle.dp_model.specs.Machine.{World}
+use Rattle.dp_model.specs.Runs.{Turn as IsTurn, Got, NoBuffer, Oversize}
 use Rattle.dp_engine.specs.Handles.{Core}
 use Rattle.dp_engine.specs.Steps.{setting_of, Runs}
 use Rattle.dp_engine.specs.Turns.{EngineState, IsReceived}
@@ -66,8 +66,6 @@ invariant_of-self-2 g c =
     let runs : Runs (setting_of c.self.inside.checked.env c.self.inside.pattern.items) c.self.inside.checked.program c.receive.new.self.state c.run.new.m.state = rw (env_is, c.as_slice-2.ensures.value, (c.instrs.ensures.same ∙ c.program.ensures.same)) at c.run.ensures.runs in
     record {
       entry = e.entry;
-      plain = e.plain;
-      few = e.few;
       spec = e.spec;
       port = e.port;
       has_room = e.has_room;
@@ -80,7 +78,7 @@ invariant_of-self-2 g c =
       least_room = omega (arith, c.run.ensures.room, c.receive.ensures.room, e.least_room);
       limit = omega (arith, c.requires.limit, ap (λ (v : EngineState). v.turns) c.self.view_is);
       all_counted = omega (arith, e.all_counted);
-      calls = omega (arith, e.calls, c.run.ensures.calls, c.receive.ensures.calls);
+      calls = omega (arith, e.calls, c.run.ensures.calls, c.receive.ensures.calls, c.instrs.ensures.few);
       sent = omega (arith, e.sent, c.run.ensures.calls, c.receive.ensures.calls, c.run.ensures.packets, received_count (setting_of c.self.inside.checked.env c.self.inside.pattern.items) e.spec.pool 0 c.args.bytes.now c.self.inside.machine.state.world c.receive.new.self.state got);
       room = rw (c.run.ensures.room, c.receive.ensures.room) e.room;
       ready = r.ready c.run.new.m.state runs;
