@@ -1,6 +1,6 @@
 -- What is true of every pool.
-use Rattle.std.proofs.Common.{◌≡◌, ℕ, ◌+◌, ◌*◌, ◌<◌, ◌≤◌, Bool, List, length, sym, ap, ◌∙◌, arith}
-use Rattle.std.specs.Prelude.{slice_set}
+use Rattle.std.proofs.Common.{◌≡◌, ℕ, zero, suc, ◌+◌, ◌*◌, ◌<◌, ◌≤◌, Bool, List, [], ◌∷◌, length, take, drop, sym, ap, ◌∙◌, arith}
+use Rattle.std.specs.Prelude.{slice_index, slice_index_or, slice_set}
 use Rattle.dp_region.specs.Spans.{bytes_in, with_bytes, overlaid}
 use Rattle.dp_region.proofs.Bytes.{length-bytes_in}
 use Rattle.dp_zone.specs.Zones.{ZoneView}
@@ -20,15 +20,35 @@ object_fits bytes size n i less room =
     let covers = stride_covers size in
     omega (arith, high, end, covers, room)
 
-pub is_pool : (size cache cached n : ℕ) (bytes : List ℕ) (out : List Bool) (zones : PoolZones) → length out ≡ n → 1 ≤ n → n ≤ 65535 → n * stride_of size ≤ length bytes
+-- ---- bytes are below 256
+
+small_take : (n : ℕ) (xs : List ℕ) → ((k : ℕ) → slice_index xs k < 256) → (k : ℕ) → slice_index (take n xs) k < 256
+small_take zero xs small k = omega arith
+small_take (suc n) [] small k = omega arith
+small_take (suc n) (x ∷ xs) small zero = small 0
+small_take (suc n) (x ∷ xs) small (suc k) = small_take n xs (λ j. small (suc j)) k
+
+small_drop : (n : ℕ) (xs : List ℕ) → ((k : ℕ) → slice_index xs k < 256) → (k : ℕ) → slice_index (drop n xs) k < 256
+small_drop zero xs small k = small k
+small_drop (suc n) [] small k = omega arith
+small_drop (suc n) (x ∷ xs) small k = small_drop n xs (λ j. small (suc j)) k
+
+-- and so are those of each object
+small_objects : (bytes : List ℕ) (size place n : ℕ) → ((k : ℕ) → slice_index bytes k < 256) → (i k : ℕ) → slice_index (slice_index_or (objects_from bytes size place n) i []) k < 256
+small_objects bytes size place zero small i k = omega arith
+small_objects bytes size place (suc n) small zero k = small_take size (drop place bytes) (small_drop place bytes small) k
+small_objects bytes size place (suc n) small (suc i) k = small_objects bytes size (place + stride_of size) n small i k
+
+pub is_pool : (size cache cached n : ℕ) (bytes : List ℕ) (out : List Bool) (zones : PoolZones) → length out ≡ n → 1 ≤ n → n ≤ 65535 → n * stride_of size ≤ length bytes → ((k : ℕ) → slice_index bytes k < 256)
     → IsPool (record { size = size; cache = cache; cached = cached; objects = objects_from bytes size 0 n; out = out; zones = zones })
-is_pool size cache cached n bytes out zones long some few room =
+is_pool size cache cached n bytes out zones long some few room small =
     let objects = length-objects bytes size 0 n in
     record {
       some = omega (arith, objects, some);
       count = omega (arith, objects, few);
       out = long ∙ sym objects;
       sizes = λ i less. let low : i < n = omega (arith, less, objects) in ap length (object_is bytes size 0 n i low) ∙ length-bytes_in bytes (object_place size 0 i) size (object_fits bytes size n i low room);
+      bytes = small_objects bytes size 0 n small;
     }
 
 -- the product of a place's number and the part of each object is its place

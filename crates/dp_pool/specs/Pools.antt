@@ -1,5 +1,5 @@
 -- Pools of objects.
-use Rattle.std.specs.Prelude.{◌≡◌, refl, ℕ, zero, suc, ◌+◌, ◌*◌, ◌/◌, ◌<◌, ◌≤◌, Bool, false, List, [], ◌∷◌, ◌++◌, take, drop, length, slice_get, slice_index_or, slice_set, Some, unwrap_or}
+use Rattle.std.specs.Prelude.{◌≡◌, refl, ℕ, zero, suc, ◌+◌, ◌*◌, ◌/◌, ◌<◌, ◌≤◌, Bool, false, List, [], ◌∷◌, ◌++◌, take, drop, length, slice_get, slice_index, slice_index_or, slice_set, Some, unwrap_or}
 use Rattle.std.specs.Coded.{Coded, code_by, coded×, coded_list, coded_ℕ, coded_bool}
 use Rattle.dp_region.specs.Ownership.{Home, home_code}
 use Rattle.dp_region.specs.Spans.{bytes_in, refilled}
@@ -75,6 +75,7 @@ pub record IsPool (p : PoolView) : Type 0 where
   pub count : length p.objects ≤ 65535
   pub out : length p.out ≡ length p.objects
   pub sizes : (i : ℕ) → i < length p.objects → length (object_in p i) ≡ p.size
+  pub bytes : (i k : ℕ) → slice_index (object_in p i) k < 256
 
 -- ---- how the objects stand in their zone
 

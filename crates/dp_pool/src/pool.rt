@@ -1,7 +1,7 @@
 //! A mempool.
 
 ghost use Rattle.std.specs.Borrow.{Lends, Array, sem, u8 as byte};
-ghost use Rattle.std.specs.Prelude.{◌≡◌, ℕ, ◌+◌, ◌*◌, ◌<◌, ◌≤◌, List, true, false, not, Some, length, replicate, slice_get, count_by, nat_le, MatchOption, IfOk, IfErr, OnErr, MatchResult};
+ghost use Rattle.std.specs.Prelude.{◌≡◌, ℕ, ◌+◌, ◌*◌, ◌<◌, ◌≤◌, List, true, false, not, Some, length, replicate, slice_get, slice_index, count_by, nat_le, MatchOption, IfOk, IfErr, OnErr, MatchResult};
 ghost use Rattle.dp_heap.specs.Elements.{merged, count_of, is_busy};
 ghost use Rattle.dp_zone.specs.Zones.{without_name};
 ghost use Rattle.dp_pool.specs.Making.{IsPoolCount, IsObjectSize, IsCacheSize, IsPoolRefused, IsMade};
@@ -68,6 +68,13 @@ fn place_of(index: u32, count: u32, size: u32, stride: u32) -> u32
     ensures bound { result ≤ 276819840 }
 {
     index * stride
+}
+
+// A law: each byte of a slice is below 256.
+fn are_small(bytes: &[u8])
+    ensures { (k : ℕ) → slice_index bytes.now k < 256 }
+{
+    let _ = bytes;
 }
 
 impl Pool {
@@ -155,6 +162,7 @@ impl Pool {
         ensures value { result ≡ length self.now.objects }
         ensures pool { IsPool self.now }
     {
+        are_small(self.objects.bytes());
         self.count
     }
 
