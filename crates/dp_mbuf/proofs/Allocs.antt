@@ -6,7 +6,7 @@ use Rattle.dp_model.specs.Buffers.{Number, IsNumber}
 use Rattle.dp_model.specs.Packets.{Packet, available, direct, allocated, AreFresh}
 use Rattle.dp_model.specs.Machine.{segments_held}
 use Rattle.dp_model.specs.Stores.{Store, segments_of, Allocates}
-use Rattle.dp_mbuf.specs.Pools.{PoolView}
+use Rattle.dp_pool.specs.Pools.{PoolView}
 use Rattle.dp_mbuf.specs.Objects.{count_in, specs_of, HeaderSet, Taken}
 use Rattle.dp_mbuf.specs.Mbufs.{handle, slots_of, shown, Sound}
 use Rattle.dp_mbuf.proofs.ObjectLemmas.{length_specs}

@@ -11,7 +11,7 @@ use Rattle.dp_model.specs.Buffers.{IsNumber, bytes_of, written}
 use Rattle.dp_model.specs.Packets.{Segment, Packet, headroom, tailroom, first_len, room_behind, at_front, at_end, more_before, more_behind, zeroed_before, zeroed_behind, stored, loaded}
 use Rattle.dp_model.specs.Stores.{Store, Has, HasSome, IsLive, Of, Becomes}
 use Rattle.dp_mbuf.specs.declared.header.Header.{Header}
-use Rattle.dp_mbuf.specs.Pools.{PoolView}
+use Rattle.dp_pool.specs.Pools.{PoolView}
 use Rattle.dp_mbuf.specs.Objects.{header_at, specs_of, buffers_of, HasObject, HeaderSet, RoomWritten}
 use Rattle.dp_mbuf.specs.Mbufs.{numbered, segment_at, slots_of, shown, Sound}
 use Rattle.dp_mbuf.proofs.Edits.{bytes_whole}

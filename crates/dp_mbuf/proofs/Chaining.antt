@@ -7,7 +7,7 @@ use Rattle.dp_model.specs.Packets.{Packet}
 use Rattle.dp_model.specs.Machine.{segments_held}
 use Rattle.dp_model.specs.Stores.{Store, HasSome, Chains}
 use Rattle.dp_mbuf.specs.declared.header.Header.{Header}
-use Rattle.dp_mbuf.specs.Pools.{PoolView}
+use Rattle.dp_pool.specs.Pools.{PoolView}
 use Rattle.dp_mbuf.specs.Objects.{header_at, specs_of, HasObject, HeaderSet}
 use Rattle.dp_mbuf.specs.Mbufs.{handle, numbered, slots_of, shown, mbufs, Linked, last_mbuf, Stands, Whole, Sound}
 use Rattle.dp_mbuf.proofs.ObjectLemmas.{same_or}

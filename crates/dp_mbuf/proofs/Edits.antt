@@ -8,7 +8,7 @@ use Rattle.dp_model.specs.Buffers.{Number, same_number, IsNumber}
 use Rattle.dp_model.specs.Packets.{Segment, Packet, refs, Lies}
 use Rattle.dp_model.specs.Machine.{segments_held}
 use Rattle.dp_mbuf.specs.declared.header.Header.{Header}
-use Rattle.dp_mbuf.specs.Pools.{PoolView}
+use Rattle.dp_pool.specs.Pools.{PoolView}
 use Rattle.dp_mbuf.specs.Objects.{header_at, is_out, specs_of, HeaderSet, RoomWritten}
 use Rattle.dp_mbuf.specs.Steps.{Linkage}
 use Rattle.dp_mbuf.specs.Mbufs.{handle, numbered, is_positive, segment_at, is_head, mbufs, Linked, last_mbuf, Stands, StandsAt, Whole}

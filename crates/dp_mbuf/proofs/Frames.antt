@@ -7,7 +7,7 @@ use Rattle.std.proofs.lemmas.List.{length-set, get_or-set_other, get_or-set_same
 use Rattle.dp_model.specs.Buffers.{Number, same_number, IsNumber}
 use Rattle.dp_model.specs.Packets.{Segment, Packet, refs, Lies}
 use Rattle.dp_model.specs.Machine.{segments_held}
-use Rattle.dp_mbuf.specs.Pools.{PoolView}
+use Rattle.dp_pool.specs.Pools.{PoolView}
 use Rattle.dp_mbuf.specs.Objects.{header_at, is_out, specs_of, HasObject, ArePools}
 use Rattle.dp_mbuf.specs.Steps.{Alike}
 use Rattle.dp_mbuf.specs.Mbufs.{handle, numbered, is_positive, walk, is_head, packet_at, slots_from, slots_of, mbufs, Stands, StandsAt, Shows, Counted}

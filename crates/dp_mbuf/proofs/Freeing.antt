@@ -3,7 +3,7 @@ use Rattle.std.proofs.Common.{◌≡◌, ℕ, ◌+◌, ◌<◌, ◌≤◌, List,
 use Rattle.dp_model.specs.Buffers.{Number}
 use Rattle.dp_model.specs.Packets.{Packet}
 use Rattle.dp_model.specs.Stores.{Store, IsLive, with_slot}
-use Rattle.dp_mbuf.specs.Pools.{PoolView}
+use Rattle.dp_pool.specs.Pools.{PoolView}
 use Rattle.dp_mbuf.specs.Objects.{header_at, specs_of, buffers_of, HeaderSet}
 use Rattle.dp_mbuf.specs.Steps.{CanRelease, Released}
 use Rattle.dp_mbuf.specs.Mbufs.{numbered, slots_of, shown, Linked, Whole, Sound}

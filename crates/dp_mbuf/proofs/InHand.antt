@@ -5,9 +5,9 @@ use Rattle.std.specs.List.{AllByRecursion}
 use Rattle.dp_model.specs.Buffers.{Number, same_number, IsNumber}
 use Rattle.dp_model.specs.Packets.{Segment, Packet, refs, Lies}
 use Rattle.dp_model.specs.Machine.{segments_held}
-use Rattle.dp_mbuf.specs.Pools.{PoolView}
-use Rattle.dp_mbuf.specs.Objects.{header_at, is_out, specs_of, buffers_of, HasObject, ArePools, HeaderSet}
-use Rattle.dp_mbuf.specs.Steps.{Alike, Fewer, MbufBack, BufferLess, CanRelease, Released}
+use Rattle.dp_pool.specs.Pools.{PoolView}
+use Rattle.dp_mbuf.specs.Objects.{header_at, is_out, specs_of, buffers_of, zones_of, HasObject, ArePools, HeaderSet}
+use Rattle.dp_mbuf.specs.Steps.{Alike, Fewer, MbufBack, BufferLess, CanRelease, Released, Cloned, FilledBy}
 use Rattle.dp_mbuf.specs.Mbufs.{is_positive, is_head, mbufs, indirects, Linked, Whole}
 use Rattle.dp_mbuf.proofs.PoolLemmas.{one_if}
 use Rattle.dp_mbuf.proofs.ObjectLemmas.{same_or, same_self}
@@ -154,6 +154,7 @@ fewer_fewer : (a b c : List PoolView) → Fewer a b → Fewer b c → Fewer a c
 fewer_fewer a b c f g = record {
   are = g.are;
   specs = g.specs ∙ f.specs;
+  zones = g.zones ∙ f.zones;
   buffers = g.buffers ∙ f.buffers;
   headers = λ m. record {
     segs = (g.headers m).segs ∙ (f.headers m).segs;
@@ -327,6 +328,17 @@ grown ps ps' hand slots s w f lies stored kind =
     and_le : (a b m : Number) → one_if (same_number a m && not (same_number b m)) ≤ one_if (same_number a m)
     and_le a b m = by_le (same_number a m) (not (same_number b m))
 
+-- ---- the zones of the pools
+
+pub released_zones : (ps ps' : List PoolView) (n b : Number) → Released ps n b ps' → zones_of ps' ≡ zones_of ps
+released_zones ps ps' n b r = r.buffer.fewer.zones ∙ r.mbuf.fewer.zones
+
+pub cloned_zones : (ps ps' : List PoolView) (from n : Number) → Cloned ps from n ps' → zones_of ps' ≡ zones_of ps
+cloned_zones ps ps' from n k = k.buffer.zones ∙ (k.header.zones ∙ k.taken.zones)
+
+pub filled_zones : (ps ps' : List PoolView) (n : Number) (bytes : List ℕ) → FilledBy ps n bytes ps' → zones_of ps' ≡ zones_of ps
+filled_zones ps ps' n bytes f = f.bytes_in.zones ∙ (f.header.zones ∙ f.taken.zones)
+
 -- ---- the steps of the code
 
 pub object_after : (ps ps' : List PoolView) (n : Number) → specs_of ps' ≡ specs_of ps → HasObject ps n → HasObject ps' n
@@ -337,6 +349,7 @@ less_set ps ps' b j done was some = record {
   fewer = record {
     are = done.are;
     specs = done.specs;
+    zones = done.zones;
     buffers = done.buffers;
     headers = λ m. ⊎_elim
         (λ e. subst (λ i. Alike (header_at ps' i) (header_at ps i)) e

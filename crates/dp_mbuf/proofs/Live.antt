@@ -10,9 +10,9 @@ use Rattle.dp_model.specs.Buffers.{Number, same_number, IsNumber, Buffers, writt
 use Rattle.dp_model.specs.Packets.{Segment, Packet, Lies, headroom, tailroom, first_len, last_len, room_behind, at_front, at_end, less_before, less_behind, zeroed_behind}
 use Rattle.dp_model.specs.Stores.{Store, Has, HasSome, IsLive, Of, Becomes, unwritten}
 use Rattle.dp_mbuf.specs.declared.header.Header.{Header}
-use Rattle.dp_mbuf.specs.Pools.{PoolView}
+use Rattle.dp_pool.specs.Pools.{PoolView}
 use Rattle.dp_mbuf.specs.Objects.{header_at, specs_of, buffers_of, HasObject, ArePools, HeaderSet}
-use Rattle.dp_mbuf.specs.Mbufs.{numbered, segment_at, slots_of, shown, mbufs, Linked, last_mbuf, Stands, StandsAt, Whole, Sound}
+use Rattle.dp_mbuf.specs.Mbufs.{MbufsView, numbered, segment_at, slots_of, shown, mbufs, Linked, last_mbuf, Stands, StandsAt, Whole, Sound}
 use Rattle.dp_mbuf.proofs.ObjectLemmas.{object_pool, room_is}
 use Rattle.dp_mbuf.proofs.Counting.{AllOf, all_slot, all_rest, slot_among, count_of}
 use Rattle.dp_mbuf.proofs.Links.{first_in, linked_at}
@@ -20,6 +20,12 @@ use Rattle.dp_mbuf.proofs.Frames.{object_of, same_slots}
 use Rattle.dp_mbuf.proofs.Edits.{all_at, edited}
 
 -- ---- the store
+
+pub same_store : {a b : MbufsView} → a ≡ b → a.store ≡ b.store
+same_store e = ap (λ m. m.store) e
+
+pub same_zones : {a b : MbufsView} → a ≡ b → a.zones ≡ b.zones
+same_zones e = ap (λ m. m.zones) e
 
 pub store_eq : (s t : Store) → s.pools ≡ t.pools → s.buffers ≡ t.buffers → s.slots ≡ t.slots → s ≡ t
 store_eq s t a b c =

@@ -1,13 +1,13 @@
 -- The calls on objects: what they ask of a place for a pool, and what they leave.
 use Rattle.std.proofs.Common.{◌≡◌, ℕ, zero, suc, ◌+◌, ◌<◌, ◌≤◌, Bool, true, false, List, [], ◌∷◌, length, Option, Some, None, refl, sym, ◌∙◌, ap, subst, arith, get_or, set}
-use Rattle.std.specs.Prelude.{slice_get, count_by, not}
+use Rattle.std.specs.Prelude.{slice_get, count_by, not, unwrap_or}
 use Rattle.std.proofs.lemmas.List.{length-set, get_or_past}
 use Rattle.std.specs.List.{AllByRecursion}
 use Rattle.dp_model.specs.Environments.{room_at}
 use Rattle.dp_model.specs.Buffers.{Number}
 use Rattle.dp_mbuf.specs.declared.header.Header.{Header}
 use Rattle.dp_mbuf.specs.Headers.{header_bytes}
-use Rattle.dp_mbuf.specs.Pools.{PoolView, with_written, with_out}
+use Rattle.dp_pool.specs.Pools.{PoolView, with_written, got, put_back}
 use Rattle.dp_mbuf.specs.Objects.{present, pool_in, is_out, count_in, specs_of, HasObject, HasRooms, PoolsFirst, ArePools, HeaderSet, RoomWritten, Taken, Given, SlotHas, SlotFits, SlotIsOut, SlotBecomes, SlotGives, slot_out, no_pool}
 use Rattle.dp_mbuf.proofs.PoolLemmas.{Small, pool_out}
 use Rattle.dp_mbuf.proofs.ObjectLemmas.{are_pools, object_pool, room_is, header_set, room_written, rooms_written, taken, given, slot_is, slot_below, slot_set, slot_first}
@@ -89,14 +89,14 @@ module _ (pools : List (Option PoolView)) (ps : List PoolView) (e : present pool
       subst (λ j. ((length (set pools j o) ≡ 8) × PoolsFirst (set pools j o)) × RoomWritten ps n at bytes (present (set pools j o))) (sym ek)
       (r.0, subst (RoomWritten ps n at bytes) (sym r.1) (room_written ps n at bytes are object small fit))
 
-  pub give_done : (n : Number) (k i : ℕ) (d o : Option PoolView) → k ≡ n.pool → i ≡ n.index → is_out ps n ≡ true → SlotBecomes (λ p. with_out p i false) (get_or pools k d) o → ((length (set pools k o) ≡ 8) × PoolsFirst (set pools k o)) × Given ps n (present (set pools k o))
+  pub give_done : (n : Number) (k i : ℕ) (d o : Option PoolView) → k ≡ n.pool → i ≡ n.index → is_out ps n ≡ true → SlotBecomes (λ p. put_back p i) (get_or pools k d) o → ((length (set pools k o) ≡ 8) × PoolsFirst (set pools k o)) × Given ps n (present (set pools k o))
   give_done n k i d o ek ei out b =
       let there : n.pool < length ps = out_pool ps n.pool n.index out in
       let rooms = are.rooms n.pool there in
-      let left : o ≡ Some (with_out (pool_in ps n.pool) n.index false) =
-      subst (λ j. o ≡ Some (with_out (pool_in ps n.pool) j false)) ei
-      (subst (λ j. o ≡ Some (with_out (pool_in ps j) i false)) ek (becomes k d o (λ p. with_out p i false) (subst (λ j. j < length ps) (sym ek) there) b)) in
-      let r = replaced n.pool o (with_out (pool_in ps n.pool) n.index false) there left (record { pool = pool_out (pool_in ps n.pool) n.index false rooms.pool; header = rooms.header; room = rooms.room }) in
+      let left : o ≡ Some (put_back (pool_in ps n.pool) n.index) =
+      subst (λ j. o ≡ Some (put_back (pool_in ps n.pool) j)) ei
+      (subst (λ j. o ≡ Some (put_back (pool_in ps j) i)) ek (becomes k d o (λ p. put_back p i) (subst (λ j. j < length ps) (sym ek) there) b)) in
+      let r = replaced n.pool o (put_back (pool_in ps n.pool) n.index) there left (record { pool = pool_out (pool_in ps n.pool) n.index false (put_back (pool_in ps n.pool) n.index).cached rooms.pool; header = rooms.header; room = rooms.room }) in
       subst (λ j. ((length (set pools j o) ≡ 8) × PoolsFirst (set pools j o)) × Given ps n (present (set pools j o))) (sym ek)
       (r.0, subst (Given ps n) (sym r.1) (given ps n are there (out_there (pool_in ps n.pool).out n.index out)))
 
@@ -104,9 +104,9 @@ module _ (pools : List (Option PoolView)) (ps : List PoolView) (e : present pool
   pub take_some : (k i : ℕ) (d o : Option PoolView) → k < length ps → SlotGives (get_or pools k d) (Some i) o → ((length (set pools k o) ≡ 8) × PoolsFirst (set pools k o)) × Taken ps (record { pool = k; index = i }) (present (set pools k o))
   take_some k i d o there b =
       let rooms = are.rooms k there in
-      let g : (slice_get (pool_in ps k).out i ≡ Some false) × (o ≡ Some (with_out (pool_in ps k) i true)) =
+      let g : (slice_get (pool_in ps k).out i ≡ Some false) × (o ≡ Some (got (pool_in ps k) i)) =
       subst (λ x. SlotGives x (Some i) o) (slot_is pools ps k d e there) b in
-      let r = replaced k o (with_out (pool_in ps k) i true) there g.1 (record { pool = pool_out (pool_in ps k) i true rooms.pool; header = rooms.header; room = rooms.room }) in
+      let r = replaced k o (got (pool_in ps k) i) there g.1 (record { pool = pool_out (pool_in ps k) i true (got (pool_in ps k) i).cached rooms.pool; header = rooms.header; room = rooms.room }) in
       (r.0, subst (Taken ps (record { pool = k; index = i })) (sym r.1) (taken ps (record { pool = k; index = i }) are there g.0))
 
   pub take_none : (k : ℕ) (d o : Option PoolView) → k < length ps → SlotGives (get_or pools k d) None o → ((length (set pools k o) ≡ 8) × PoolsFirst (set pools k o)) × (count_in ps k ≡ 0) × (present (set pools k o) ≡ ps)
@@ -122,6 +122,11 @@ module _ (pools : List (Option PoolView)) (ps : List PoolView) (e : present pool
       same (p ∷ ps) (suc k) = ap (λ r. p ∷ r) (same ps k)
 
 -- ---- whether an object is out
+
+pub told_out : (row : List Bool) (i : ℕ) → unwrap_or (slice_get row i) false ≡ get_or row i false
+told_out [] i = refl
+told_out (x ∷ row) zero = refl
+told_out (x ∷ row) (suc i) = told_out row i
 
 no_slot : (pools : List (Option PoolView)) (k i : ℕ) (d : Option PoolView) → AllByRecursion (λ o. o ≡ None) pools → k < length pools → slot_out (get_or pools k d) i ≡ false
 no_slot [] k i d all h = absurd (omega arith)

@@ -9,9 +9,9 @@ use Rattle.dp_model.specs.Environments.{room_at, count_at}
 use Rattle.dp_model.specs.Buffers.{Number, same_number, bytes_of, overwritten}
 use Rattle.dp_mbuf.specs.declared.header.Header.{Header}
 use Rattle.dp_mbuf.specs.Headers.{header_of, header_bytes, word, place}
-use Rattle.dp_mbuf.specs.Pools.{PoolView, object_in, with_written, with_out}
-use Rattle.dp_mbuf.specs.Objects.{present, no_pool, pool_in, header_at, is_out, count_in, spec_of, specs_of, rooms_of, buffers_of, HasObject, HasRooms, PoolsFirst, ArePools, HeaderSet, RoomWritten, Taken, Given}
-use Rattle.dp_mbuf.proofs.PoolLemmas.{one_if, count_set, some_below, Small, pool_out, pool_written, map_set, length_map}
+use Rattle.dp_pool.specs.Pools.{PoolView, object_in, with_written, got, put_back}
+use Rattle.dp_mbuf.specs.Objects.{present, no_pool, pool_in, header_at, is_out, count_in, spec_of, specs_of, rooms_of, buffers_of, zones_of, HasObject, HasRooms, PoolsFirst, ArePools, HeaderSet, RoomWritten, Taken, Given}
+use Rattle.dp_mbuf.proofs.PoolLemmas.{one_if, with_out, count_set, some_below, Small, pool_out, pool_written, map_set, length_map}
 
 -- ---- numbers
 
@@ -157,6 +157,9 @@ module _ (ps : List PoolView) (k : ℕ) (there : k < length ps) (p' : PoolView) 
   pub specs_kept : spec_of p' ≡ spec_of (pool_in ps k) → specs_of (set ps k p') ≡ specs_of ps
   specs_kept e = map_kept spec_of ps k p' no_pool e
 
+  pub zones_kept : p'.zones ≡ (pool_in ps k).zones → zones_of (set ps k p') ≡ zones_of ps
+  zones_kept e = map_kept (λ q. q.zones) ps k p' no_pool e
+
   pub buffers_kept : rooms_of p' ≡ rooms_of (pool_in ps k) → buffers_of (set ps k p') ≡ buffers_of ps
   buffers_kept e = map_kept rooms_of ps k p' no_pool e
 
@@ -220,6 +223,9 @@ module _ (ps : List PoolView) (n : Number) (are : ArePools ps) (object : HasObje
       let f : ℕ → PoolSpec = λ c. record { count = c; cache = p.cache; room = p.size - 128 } in
       specs_kept ps n.pool there (with_written p n.index at bytes) (ap f (length-set p.objects n.index now))
 
+  pub zones_written : zones_of written_pools ≡ zones_of ps
+  zones_written = zones_kept ps n.pool there (with_written p n.index at bytes) refl
+
   pub outs_written : (m : Number) → is_out written_pools m ≡ is_out ps m
   outs_written m =
       field_kept ps n.pool there (with_written p n.index at bytes) (λ q. get_or q.out m.index false) refl m.pool
@@ -254,6 +260,7 @@ header_set ps n h bytes are object e small fits =
     record {
       are = are_written ps n are object 0 bytes small fits;
       specs = specs_written ps n are object 0 bytes small fits;
+      zones = zones_written ps n are object 0 bytes small fits;
       buffers =
           buffers_kept ps n.pool (object_pool ps n object) (with_written p n.index 0 bytes)
           (map_kept (drop 128) p.objects n.index (overwritten old 0 bytes) [] (ap (drop 128) is ∙ behind_header h old));
@@ -290,6 +297,7 @@ room_written ps n at bytes are object small fits =
     record {
       are = are_written ps n are object (128 + at) bytes small fits;
       specs = specs_written ps n are object (128 + at) bytes small fits;
+      zones = zones_written ps n are object (128 + at) bytes small fits;
       buffers =
           map_set rooms_of ps n.pool (with_written p n.index (128 + at) bytes)
           ∙ (ap (λ r. set (buffers_of ps) n.pool r) (map_set (drop 128) p.objects n.index (overwritten old (128 + at) bytes))
@@ -313,12 +321,12 @@ out_at [] i b h = cc
 out_at (x ∷ row) zero b h = same_Some x b h
 out_at (x ∷ row) (suc i) b h = out_at row i b h
 
-module _ (ps : List PoolView) (n : Number) (are : ArePools ps) (there : n.pool < length ps) (b : Bool) (was : Bool) (is : slice_get (pool_in ps n.pool).out n.index ≡ Some was) where
+module _ (ps : List PoolView) (n : Number) (are : ArePools ps) (there : n.pool < length ps) (b : Bool) (was : Bool) (is : slice_get (pool_in ps n.pool).out n.index ≡ Some was) (cached : ℕ) where
   abbrev q : PoolView
   q = pool_in ps n.pool
 
   abbrev moved : List PoolView
-  moved = set ps n.pool (with_out q n.index b)
+  moved = set ps n.pool (with_out q n.index b cached)
 
   abbrev below : n.index < length q.out
   below = some_below q.out n.index was is
@@ -326,53 +334,55 @@ module _ (ps : List PoolView) (n : Number) (are : ArePools ps) (there : n.pool <
   are_moved : ArePools moved
   are_moved =
       let r = are.rooms n.pool there in
-      pools_kept ps n.pool there (with_out q n.index b) are
-      (record { pool = pool_out q n.index b r.pool; header = r.header; room = r.room })
+      pools_kept ps n.pool there (with_out q n.index b cached) are
+      (record { pool = pool_out q n.index b cached r.pool; header = r.header; room = r.room })
 
   header_moved : (m : Number) → header_at moved m ≡ header_at ps m
   header_moved m =
-      field_kept ps n.pool there (with_out q n.index b) (λ x. header_of (object_in x m.index)) refl m.pool
+      field_kept ps n.pool there (with_out q n.index b cached) (λ x. header_of (object_in x m.index)) refl m.pool
 
   here_moved : is_out moved n ≡ b
   here_moved =
-      ap (λ x. get_or x.out n.index false) (here ps n.pool there (with_out q n.index b))
+      ap (λ x. get_or x.out n.index false) (here ps n.pool there (with_out q n.index b cached))
       ∙ get_or-set_same q.out n.index b false below
 
   others_moved : (m : Number) → same_number n m ≡ false → is_out moved m ≡ is_out ps m
   others_moved m ne = ⊎_elim
       (λ e. ap (λ k. get_or (pool_in moved k).out m.index false) (sym e)
-      ∙ (ap (λ x. get_or x.out m.index false) (here ps n.pool there (with_out q n.index b))
+      ∙ (ap (λ x. get_or x.out m.index false) (here ps n.pool there (with_out q n.index b cached))
       ∙ (get_or-set_other q.out n.index m.index b false (other_index n m ne e)
       ∙ ap (λ k. get_or (pool_in ps k).out m.index false) e)))
-      (λ d. ap (λ x. get_or x.out m.index false) (elsewhere ps n.pool there (with_out q n.index b) m.pool (λ e. d (sym e))))
+      (λ d. ap (λ x. get_or x.out m.index false) (elsewhere ps n.pool there (with_out q n.index b cached) m.pool (λ e. d (sym e))))
       (cases_eq n.pool m.pool)
 
   counted_moved : count_in moved n.pool + one_if (not was) ≡ count_in ps n.pool + one_if (not b)
   counted_moved =
-      let e = ap (λ x. count_by not x.out) (here ps n.pool there (with_out q n.index b)) in
+      let e = ap (λ x. count_by not x.out) (here ps n.pool there (with_out q n.index b cached)) in
       omega (arith, e, count_set q.out n.index was b is)
 
-pub taken : (ps : List PoolView) (n : Number) → ArePools ps → n.pool < length ps → slice_get (pool_in ps n.pool).out n.index ≡ Some false → Taken ps n (set ps n.pool (with_out (pool_in ps n.pool) n.index true))
+pub taken : (ps : List PoolView) (n : Number) → ArePools ps → n.pool < length ps → slice_get (pool_in ps n.pool).out n.index ≡ Some false → Taken ps n (set ps n.pool (got (pool_in ps n.pool) n.index))
 taken ps n are there is = record {
-  are = are_moved ps n are there true false is;
-  specs = specs_kept ps n.pool there (with_out (pool_in ps n.pool) n.index true) refl;
-  buffers = buffers_kept ps n.pool there (with_out (pool_in ps n.pool) n.index true) refl;
-  headers = header_moved ps n are there true false is;
+  are = are_moved ps n are there true false is (got (pool_in ps n.pool) n.index).cached;
+  specs = specs_kept ps n.pool there (got (pool_in ps n.pool) n.index) refl;
+  zones = zones_kept ps n.pool there (got (pool_in ps n.pool) n.index) refl;
+  buffers = buffers_kept ps n.pool there (got (pool_in ps n.pool) n.index) refl;
+  headers = header_moved ps n are there true false is (got (pool_in ps n.pool) n.index).cached;
   object = omega (arith, some_below (pool_in ps n.pool).out n.index false is, (are.rooms n.pool there).pool.out);
   was = out_at (pool_in ps n.pool).out n.index false is;
-  here = here_moved ps n are there true false is;
-  others = others_moved ps n are there true false is;
-  ins = omega (arith, counted_moved ps n are there true false is);
+  here = here_moved ps n are there true false is (got (pool_in ps n.pool) n.index).cached;
+  others = others_moved ps n are there true false is (got (pool_in ps n.pool) n.index).cached;
+  ins = omega (arith, counted_moved ps n are there true false is (got (pool_in ps n.pool) n.index).cached);
 }
 
-pub given : (ps : List PoolView) (n : Number) → ArePools ps → n.pool < length ps → slice_get (pool_in ps n.pool).out n.index ≡ Some true → Given ps n (set ps n.pool (with_out (pool_in ps n.pool) n.index false))
+pub given : (ps : List PoolView) (n : Number) → ArePools ps → n.pool < length ps → slice_get (pool_in ps n.pool).out n.index ≡ Some true → Given ps n (set ps n.pool (put_back (pool_in ps n.pool) n.index))
 given ps n are there is = record {
-  are = are_moved ps n are there false true is;
-  specs = specs_kept ps n.pool there (with_out (pool_in ps n.pool) n.index false) refl;
-  buffers = buffers_kept ps n.pool there (with_out (pool_in ps n.pool) n.index false) refl;
-  headers = header_moved ps n are there false true is;
-  here = here_moved ps n are there false true is;
-  others = others_moved ps n are there false true is;
+  are = are_moved ps n are there false true is (put_back (pool_in ps n.pool) n.index).cached;
+  specs = specs_kept ps n.pool there (put_back (pool_in ps n.pool) n.index) refl;
+  zones = zones_kept ps n.pool there (put_back (pool_in ps n.pool) n.index) refl;
+  buffers = buffers_kept ps n.pool there (put_back (pool_in ps n.pool) n.index) refl;
+  headers = header_moved ps n are there false true is (put_back (pool_in ps n.pool) n.index).cached;
+  here = here_moved ps n are there false true is (put_back (pool_in ps n.pool) n.index).cached;
+  others = others_moved ps n are there false true is (put_back (pool_in ps n.pool) n.index).cached;
 }
 
 -- ---- places for pools

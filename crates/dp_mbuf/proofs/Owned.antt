@@ -10,7 +10,7 @@ use Rattle.dp_model.specs.Buffers.{Number, same_number, IsNumber, AreDistinct}
 use Rattle.dp_model.specs.Packets.{Segment, refs, AreOwned, IsWithin}
 use Rattle.dp_model.specs.Machine.{segments_held}
 use Rattle.dp_model.specs.Stores.{Store, segments_of}
-use Rattle.dp_mbuf.specs.Pools.{PoolView}
+use Rattle.dp_pool.specs.Pools.{PoolView}
 use Rattle.dp_mbuf.specs.Objects.{specs_of}
 use Rattle.dp_mbuf.specs.Mbufs.{mbufs, indirects, slots_of, shown, Sound, mbufs_in_all}
 use Rattle.dp_mbuf.proofs.PoolLemmas.{one_if}

@@ -1,12 +1,12 @@
 -- Pools stay pools, and what is read of them after a write.
-use Rattle.std.proofs.Common.{◌≡◌, ℕ, zero, suc, ◌+◌, ◌<◌, ◌≤◌, Bool, false, cond, List, [], ◌∷◌, ◌++◌, length, take, drop, Some, refl, sym, ◌∙◌, ap, subst, arith, ⊎_elim, get_or, set, map}
+use Rattle.std.proofs.Common.{◌≡◌, ℕ, zero, suc, ◌+◌, ◌<◌, ◌≤◌, Bool, cond, List, [], ◌∷◌, ◌++◌, length, take, drop, Some, refl, sym, ◌∙◌, ap, subst, arith, ⊎_elim, get_or, set, map}
 use Rattle.std.specs.Prelude.{count_by, not, slice_get, replicate}
 use Rattle.std.proofs.lemmas.Bool.{cases_eq}
-use Rattle.std.proofs.lemmas.List.{length-set, length-append, length-take-le, length-drop, get_or-set_same, get_or-set_other, length-replicate}
+use Rattle.std.proofs.lemmas.List.{length-set, length-append, length-take-le, length-drop, get_or-set_same, get_or-set_other}
 use Rattle.std.proofs.lemmas.List.Sums.{sum_by-cons}
 use Rattle.std.proofs.lemmas.Option.{same_Some}
 use Rattle.dp_model.specs.Buffers.{overwritten}
-use Rattle.dp_mbuf.specs.Pools.{PoolView, IsPool, object_in, unused, with_written, with_out}
+use Rattle.dp_pool.specs.Pools.{PoolView, IsPool, object_in, with_written}
 
 abbrev pub one_if : Bool → ℕ
 one_if b = cond b 1 0
@@ -63,8 +63,13 @@ length_overwritten old at new h =
 
 -- ---- pools stay pools
 
-pub pool_out : (p : PoolView) (i : ℕ) (b : Bool) → IsPool p → IsPool (with_out p i b)
-pool_out p i b h = record {
+-- the pool with an object in or out, and so many indexes cached
+abbrev pub with_out : PoolView → ℕ → Bool → ℕ → PoolView
+with_out p i b cached = record p { out = set p.out i b; cached = cached }
+
+pub pool_out : (p : PoolView) (i : ℕ) (b : Bool) (cached : ℕ) → IsPool p → IsPool (with_out p i b cached)
+pool_out p i b cached h = record {
+  some = h.some;
   count = h.count;
   out = length-set p.out i b ∙ h.out;
   sizes = h.sizes;
@@ -76,6 +81,7 @@ pool_written p i at new h there fits small =
     let now : List ℕ = overwritten (object_in p i) at new in
     let size : length (object_in p i) ≡ p.size = h.sizes i there in
     record {
+      some = omega (arith, h.some, length-set p.objects i now);
       count = omega (arith, h.count, length-set p.objects i now);
       out = h.out ∙ sym (length-set p.objects i now);
       sizes = λ j b. ⊎_elim
@@ -90,12 +96,7 @@ pool_written p i at new h there fits small =
           (cases_eq j i);
     }
 
--- ---- the objects as vectors
-
-pub map_read : {V W : Type 0} (f : V → W) (xs : List V) (i : ℕ) (x : V) (d : W) → i < length xs → x ≡ get_or xs i x → get_or (map f xs) i d ≡ f x
-map_read f [] i x d h e = absurd (omega arith)
-map_read f (y ∷ xs) zero x d h e = sym (ap f e)
-map_read f (y ∷ xs) (suc i) x d h e = map_read f xs i x d (omega arith) e
+-- ---- lists
 
 pub length_map : {V W : Type 0} (f : V → W) (xs : List V) → length (map f xs) ≡ length xs
 length_map f [] = refl
@@ -105,40 +106,3 @@ pub map_set : {V W : Type 0} (f : V → W) (xs : List V) (i : ℕ) (x : V) → m
 map_set f [] i x = refl
 map_set f (y ∷ xs) zero x = refl
 map_set f (y ∷ xs) (suc i) x = ap (λ r. f y ∷ r) (map_set f xs i x)
-
-pub objects_written : {V : Type 0} (f : V → List ℕ) (xs : List V) (i at : ℕ) (new : List ℕ) (old x : V) → i < length xs → old ≡ get_or xs i old → f x ≡ overwritten (f old) at new → map f (set xs i x) ≡ set (map f xs) i (overwritten (get_or (map f xs) i []) at new)
-objects_written f xs i at new old x h e w =
-    map_set f xs i x
-    ∙ ap (λ o. set (map f xs) i o) (w ∙ ap (λ o. overwritten o at new) (sym (map_read f xs i old [] h e)))
-
-pub same_objects : (p : PoolView) (os os' : List (List ℕ)) → os ≡ os' → record p { objects = os } ≡ record p { objects = os' }
-same_objects p os os' e = let f : List (List ℕ) → PoolView = λ o. record p { objects = o } in ap f e
-
--- ---- a new pool
-
-count_none : (n : ℕ) → count_by not (replicate n false) ≡ n
-count_none zero = refl
-count_none (suc n) = let q = count_none n in omega (arith, q, sum_by-cons (λ s. one_if (not s)) false (replicate n false))
-
-object_there : (n i : ℕ) (x : List ℕ) → i < n → get_or (replicate n x) i [] ≡ x
-object_there zero i x h = absurd (omega arith)
-object_there (suc n) zero x h = refl
-object_there (suc n) (suc i) x h = object_there n i x (omega arith)
-
-object_small : (n i m : ℕ) → Small (get_or (replicate n (replicate m 0)) i [])
-object_small zero i m k = omega arith
-object_small (suc n) zero m k = small_zeros m k
-object_small (suc n) (suc i) m k = object_small n i m k
-
-pub unused_pool : (count size cache : ℕ) → count ≤ 65535 → IsPool (unused count size cache) × (count ≡ count_by not (replicate count false))
-unused_pool count size cache few =
-    let zeros : List ℕ = replicate size 0 in
-    let l : length (replicate count zeros) ≡ count = length-replicate count zeros in (
-      record {
-        count = omega (arith, few, l);
-        out = length-replicate count false ∙ sym l;
-        sizes = λ i b. ap length (object_there count i zeros (omega (arith, b, l))) ∙ length-replicate size 0;
-        bytes = λ i. object_small count i size;
-      },
-      sym (count_none count),
-    )

@@ -8,7 +8,7 @@ use Rattle.dp_model.specs.Buffers.{Number, IsNumber, bytes_of}
 use Rattle.dp_model.specs.Packets.{Segment, Packet, refs, Lies, IsSole, segment_bytes, packet_bytes}
 use Rattle.dp_model.specs.Stores.{Store, Has, HasSome, segments_of}
 use Rattle.dp_mbuf.specs.declared.header.Header.{Header}
-use Rattle.dp_mbuf.specs.Pools.{PoolView, object_in}
+use Rattle.dp_pool.specs.Pools.{PoolView, object_in}
 use Rattle.dp_mbuf.specs.Objects.{header_at, specs_of, buffers_of, pool_in, HasObject}
 use Rattle.dp_mbuf.specs.Mbufs.{numbered, segment_at, shown, Linked, Whole, Sound, HasWalk}
 use Rattle.dp_mbuf.proofs.ObjectLemmas.{bytes_are, room_is, object_pool}

@@ -10,7 +10,7 @@ use Rattle.dp_model.specs.Packets.{Segment, Packet, refs, direct, is_free, avail
 use Rattle.dp_model.specs.Machine.{segments_held}
 use Rattle.dp_model.specs.Stores.{Store, segments_of, ReceivesInto}
 use Rattle.dp_model.proofs.Bytes.{bytes_other}
-use Rattle.dp_mbuf.specs.Pools.{PoolView, object_in}
+use Rattle.dp_pool.specs.Pools.{PoolView, object_in}
 use Rattle.dp_mbuf.specs.Objects.{header_at, count_in, pool_in, no_pool, specs_of, buffers_of, HasObject, ArePools, HeaderSet}
 use Rattle.dp_mbuf.specs.Steps.{Linkage, FilledBy, direct_header}
 use Rattle.dp_mbuf.specs.Mbufs.{handle, segment_at, shown, mbufs, Linked, last_mbuf, Whole, Sound}

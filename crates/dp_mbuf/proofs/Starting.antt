@@ -1,16 +1,19 @@
 -- Packets over pools at their start, and pools whole again.
 use Rattle.std.proofs.Common.{◌≡◌, ℕ, zero, suc, ◌+◌, ◌*◌, ◌<◌, ◌≤◌, Bool, true, false, List, [], ◌∷◌, length, Option, Some, None, refl, sym, ◌∙◌, ap, subst, arith, ⊎_elim, get_or}
-use Rattle.std.specs.Prelude.{replicate, slice_get, ◌&&◌, not, nat_eq, IsTrue, ◌↔◌}
-use Rattle.std.proofs.lemmas.Bool.{cases_lt, cases_Bool, eqb-true}
+use Rattle.std.specs.Prelude.{replicate, slice_get, ◌&&◌, not, nat_eq, IsTrue, ◌↔◌, count_by}
+use Rattle.std.specs.List.{AllByRecursion, list_all}
+use Rattle.std.proofs.lemmas.Bool.{cases_lt, cases_Bool, eqb-true, eq-eqb, and_from}
+use Rattle.std.proofs.lemmas.List.Sums.{sum_by-cons}
 use Rattle.std.proofs.lemmas.List.{length-replicate, get_or_past}
 use Rattle.dp_model.specs.Environments.{count_at}
 use Rattle.dp_model.specs.Buffers.{Number}
 use Rattle.dp_model.specs.Packets.{Packet, refs}
 use Rattle.dp_model.specs.Machine.{segments_held}
 use Rattle.dp_model.specs.Stores.{Store, IsLive}
-use Rattle.dp_mbuf.specs.Pools.{PoolView}
-use Rattle.dp_mbuf.specs.Objects.{header_at, is_out, specs_of, buffers_of, present, pool_in, PoolsFirst, HasObject, ArePools}
-use Rattle.dp_mbuf.specs.Mbufs.{numbered, is_positive, is_head, mbufs, slots_of, shown, StandsAt, Counted, Whole, Sound, AreReady, IsNew, AreAllIn, HasNone, AreBack}
+use Rattle.dp_pool.specs.Pools.{PoolView}
+use Rattle.dp_mbuf.specs.Objects.{header_at, is_out, specs_of, buffers_of, zones_of, present, pool_in, PoolsFirst, HasObject, ArePools, AreAllIn, slot_whole}
+use Rattle.dp_mbuf.specs.Mbufs.{numbered, is_positive, is_head, mbufs, slots_of, shown, MbufsView, viewed, StandsAt, Counted, Whole, Sound, AreReady, IsNew, HasNone, AreBack}
+use Rattle.dp_mbuf.proofs.PoolLemmas.{one_if}
 use Rattle.dp_mbuf.proofs.ObjectLemmas.{length_specs, count_is}
 use Rattle.dp_mbuf.proofs.Frames.{head_of}
 use Rattle.dp_mbuf.proofs.Live.{settled, opened}
@@ -46,13 +49,14 @@ whole_new ps are all_in = record {
     none None n e = ap (λ b. b && is_positive (header_at ps n).segs) (all_in n)
     none (Some k) n e = absurd (cc)
 
-pub new_is : (pools : List (Option PoolView)) (ps : List PoolView) → ps ≡ present pools → ArePools ps → AreReady pools → Sound ps × IsNew pools (shown ps)
+pub new_is : (pools : List (Option PoolView)) (ps : List PoolView) → ps ≡ present pools → ArePools ps → AreReady pools → Sound ps × IsNew pools (viewed ps)
 new_is pools ps e are ready =
     let d = settled ps (replicate (65536 * length ps) None) (whole_new ps are (subst AreAllIn (sym e) ready.all_in)) in (
       d.0,
       record {
         pools_are = ap specs_of e;
         buffers = ap buffers_of e;
+        zones = ap zones_of e;
         empty = d.1 ∙ ap (λ n. replicate (65536 * n) None) (sym (length_specs ps));
       },
     )
@@ -76,19 +80,77 @@ all_in_is ps slots w e n = ⊎_elim
     (λ past. past_out ps n w.are past)
     (cases_lt n.index (count_at (specs_of ps) n.pool))
 
-pub back_is : (ps : List PoolView) (v : Store) (pools : List (Option PoolView)) → shown ps ≡ v → Sound ps → HasNone v → present pools ≡ ps → PoolsFirst pools → AreBack v pools
+pub back_is : (ps : List PoolView) (v : MbufsView) (pools : List (Option PoolView)) → viewed ps ≡ v → Sound ps → HasNone v.store → present pools ≡ ps → PoolsFirst pools → AreBack v pools
 back_is ps v pools e sound none same first = record {
   first = first;
-  all_in = subst AreAllIn (sym same) (all_in_is ps (slots_of ps) sound (λ h. ap (λ s. get_or s.slots h None) e ∙ none h));
-  pools_are = ap specs_of same ∙ ap (λ s. s.pools) e;
-  buffers = ap buffers_of same ∙ ap (λ s. s.buffers) e;
+  all_in = subst AreAllIn (sym same) (all_in_is ps (slots_of ps) sound (λ h. ap (λ m. get_or m.store.slots h None) e ∙ none h));
+  pools_are = ap specs_of same ∙ ap (λ m. m.store.pools) e;
+  buffers = ap buffers_of same ∙ ap (λ m. m.store.buffers) e;
+  zones = ap zones_of same ∙ ap (λ m. m.zones) e;
 }
 
--- ---- whether a packet is there
+-- ---- whether all is in
 
 and_parts : (a b : Bool) → (a && b) ≡ true → (a ≡ true) × (b ≡ true)
 and_parts true b e = (refl, e)
 and_parts false b e = absurd (cc)
+
+count_few : (row : List Bool) → count_by not row ≤ length row
+count_few [] = omega arith
+count_few (true ∷ row) = let q = count_few row in omega (arith, q, sum_by-cons (λ s. one_if (not s)) true row)
+count_few (false ∷ row) = let q = count_few row in omega (arith, q, sum_by-cons (λ s. one_if (not s)) false row)
+
+row_in : (row : List Bool) (i : ℕ) → count_by not row ≡ length row → get_or row i false ≡ false
+row_in [] i e = refl
+row_in (true ∷ row) i e = absurd (let some = count_few row in omega (arith, e, some, sum_by-cons (λ s. one_if (not s)) true row))
+row_in (false ∷ row) zero e = refl
+row_in (false ∷ row) (suc i) e = row_in row i (omega (arith, e, sum_by-cons (λ s. one_if (not s)) false row))
+
+row_whole : (row : List Bool) → ((i : ℕ) → get_or row i false ≡ false) → count_by not row ≡ length row
+row_whole [] f = refl
+row_whole (true ∷ row) f = absurd (let q = f 0 in cc)
+row_whole (false ∷ row) f = let q = row_whole row (λ i. f (suc i)) in omega (arith, q, sum_by-cons (λ s. one_if (not s)) false row)
+
+in_from_whole : (pools : List (Option PoolView)) (k i : ℕ) → PoolsFirst pools → list_all slot_whole pools ≡ true → get_or (pool_in (present pools) k).out i false ≡ false
+in_from_whole [] k i f e = refl
+in_from_whole (None ∷ pools) k i f e = refl
+in_from_whole (Some p ∷ pools) zero i f e =
+    let q = eqb-true (count_by not p.out) (length p.objects) (and_parts (slot_whole (Some p)) (list_all slot_whole pools) e).0 in
+    row_in p.out i (q ∙ sym f.0.pool.out)
+in_from_whole (Some p ∷ pools) (suc k) i f e = in_from_whole pools k i f.1 (and_parts (slot_whole (Some p)) (list_all slot_whole pools) e).1
+
+none_whole : (pools : List (Option PoolView)) → AllByRecursion (λ o. o ≡ None) pools → list_all slot_whole pools ≡ true
+none_whole [] all = refl
+none_whole (o ∷ pools) all = ap (λ x. slot_whole x && list_all slot_whole pools) all.0 ∙ none_whole pools all.1
+
+whole_from_in : (pools : List (Option PoolView)) → PoolsFirst pools → ((k i : ℕ) → get_or (pool_in (present pools) k).out i false ≡ false) → list_all slot_whole pools ≡ true
+whole_from_in [] f e = refl
+whole_from_in (None ∷ pools) f e = none_whole pools f
+whole_from_in (Some p ∷ pools) f e =
+    and_from (slot_whole (Some p)) (list_all slot_whole pools)
+    (eq-eqb (count_by not p.out) (length p.objects) (row_whole p.out (e 0) ∙ f.0.pool.out))
+    (whole_from_in pools f.1 (λ k. e (suc k)))
+
+pub whole_iff : (pools : List (Option PoolView)) (ps : List PoolView) (b : Bool) → present pools ≡ ps → PoolsFirst pools → b ≡ list_all slot_whole pools → IsTrue b ↔ AreAllIn ps
+whole_iff pools ps b e first eb = (
+  (λ t. subst AreAllIn e (λ n. in_from_whole pools n.pool n.index first (sym eb ∙ t))),
+  (λ all. eb ∙ whole_from_in pools first (λ k i. ap (λ q. is_out q (record { pool = k; index = i })) e ∙ all (record { pool = k; index = i }))),
+)
+
+none_from_in : (ps : List PoolView) (slots : List (Option Packet)) → Whole ps [] slots → AreAllIn ps → (h : ℕ) → get_or slots h None ≡ None
+none_from_in ps slots w all h = by (get_or slots h None) (w.shows.each h)
+  where
+    by : (o : Option Packet) → StandsAt ps (numbered h) o → o ≡ None
+    by None s = refl
+    by (Some k) s = absurd (let out : is_out ps (numbered h) ≡ true = s.out in let none = all (numbered h) in cc)
+
+pub empty_iff : (ps : List PoolView) (v : Store) (b : Bool) → shown ps ≡ v → Sound ps → IsTrue b ↔ AreAllIn ps → IsTrue b ↔ HasNone v
+empty_iff ps v b e sound iff = (
+  (λ t h. sym (ap (λ s. get_or s.slots h None) e) ∙ none_from_in ps (slots_of ps) sound (iff.0 t) h),
+  (λ none. iff.1 (all_in_is ps (slots_of ps) sound (λ h. ap (λ s. get_or s.slots h None) e ∙ none h))),
+)
+
+-- ---- whether a packet is there
 
 pub live_from_head : (ps : List PoolView) (v : Store) (h : ℕ) → shown ps ≡ v → Sound ps → is_head ps (numbered h) ≡ true → IsLive v h
 live_from_head ps v h e sound head =

@@ -9,7 +9,7 @@ use Rattle.dp_model.specs.Packets.{Segment, Packet, refs, direct, is_free, free_
 use Rattle.dp_model.specs.Machine.{segments_held}
 use Rattle.dp_mbuf.specs.declared.header.Header.{Header}
 use Rattle.dp_mbuf.specs.Headers.{header_bytes, then_word}
-use Rattle.dp_mbuf.specs.Pools.{PoolView, with_written}
+use Rattle.dp_pool.specs.Pools.{PoolView, with_written}
 use Rattle.dp_mbuf.specs.Objects.{header_at, is_out, pool_in, count_in, specs_of, HasObject, ArePools, HeaderSet, Taken}
 use Rattle.dp_mbuf.specs.Mbufs.{handle, numbered, is_positive, mbufs, Whole}
 use Rattle.dp_mbuf.proofs.PoolLemmas.{Small}
@@ -91,6 +91,7 @@ set_again : (ps a b : List PoolView) (n : Number) (x y : Header) → HeaderSet p
 set_again ps a b n x y f g = record {
   are = g.are;
   specs = g.specs ∙ sym f.specs;
+  zones = g.zones ∙ sym f.zones;
   buffers = g.buffers ∙ sym f.buffers;
   outs = λ m. g.outs m ∙ sym (f.outs m);
   ins = λ k. g.ins k ∙ sym (f.ins k);

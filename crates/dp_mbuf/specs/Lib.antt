@@ -1,4 +1,3 @@
-pub mod Pools
 pub mod Headers
 pub mod Objects
 pub mod Mbufs

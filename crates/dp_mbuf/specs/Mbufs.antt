@@ -7,8 +7,8 @@ use Rattle.dp_model.specs.Packets.{Segment, Packet, refs, Lies}
 use Rattle.dp_model.specs.Machine.{segments_held}
 use Rattle.dp_model.specs.Stores.{Store}
 use Rattle.dp_mbuf.specs.declared.header.Header.{Header}
-use Rattle.dp_mbuf.specs.Pools.{PoolView}
-use Rattle.dp_mbuf.specs.Objects.{header_at, is_out, specs_of, buffers_of, present, PoolsFirst, ArePools}
+use Rattle.dp_pool.specs.Pools.{PoolZones, PoolView}
+use Rattle.dp_mbuf.specs.Objects.{header_at, is_out, specs_of, buffers_of, zones_of, present, PoolsFirst, ArePools, AreAllIn}
 
 -- ---- what contracts see: a packet's handle is the number of its first mbuf
 
@@ -49,6 +49,14 @@ slots_of ps = slots_from ps 0 (65536 * length ps)
 
 abbrev pub shown : List PoolView → Store
 shown ps = record { pools = specs_of ps; buffers = buffers_of ps; slots = slots_of ps }
+
+-- what an `Mbufs` is: packets over pools, and the zones in which these pools stand
+pub record MbufsView : Type 0 where
+  pub store : Store
+  pub zones : List PoolZones
+
+abbrev pub viewed : List PoolView → MbufsView
+viewed ps = record { store = shown ps; zones = zones_of ps }
 
 -- ---- a packet in its headers
 
@@ -120,10 +128,6 @@ mbufs_in_all pools = sum_by (λ p. p.count) pools
 
 -- ---- making and unmaking
 
--- no object is handed out
-abbrev pub AreAllIn : List PoolView → Type 0
-AreAllIn ps = (n : Number) → is_out ps n ≡ false
-
 -- one to eight pools, of at most 65,535 objects in all, all of them in
 pub record AreReady (pools : List (Option PoolView)) : Type 0 where
   pub first : PoolsFirst pools
@@ -133,18 +137,20 @@ pub record AreReady (pools : List (Option PoolView)) : Type 0 where
   pub all_in : AreAllIn (present pools)
 
 -- over these pools, with the bytes that stand behind the headers, and no packet
-pub record IsNew (pools : List (Option PoolView)) (s : Store) : Type 0 where
-  pub pools_are : s.pools ≡ specs_of (present pools)
-  pub buffers : s.buffers ≡ buffers_of (present pools)
-  pub empty : s.slots ≡ replicate (65536 * length s.pools) None
+pub record IsNew (pools : List (Option PoolView)) (m : MbufsView) : Type 0 where
+  pub pools_are : m.store.pools ≡ specs_of (present pools)
+  pub buffers : m.store.buffers ≡ buffers_of (present pools)
+  pub zones : m.zones ≡ zones_of (present pools)
+  pub empty : m.store.slots ≡ replicate (65536 * length m.store.pools) None
 
 -- no packet, live or parked
 abbrev pub HasNone : Store → Type 0
 HasNone s = (h : ℕ) → slice_index_or s.slots h None ≡ None
 
--- the same pools again, whole: all objects are in, with the bytes that they have
-pub record AreBack (s : Store) (pools : List (Option PoolView)) : Type 0 where
+-- the same pools again, in their zones and whole: all objects are in, with the bytes that they have
+pub record AreBack (m : MbufsView) (pools : List (Option PoolView)) : Type 0 where
   pub first : PoolsFirst pools
   pub all_in : AreAllIn (present pools)
-  pub pools_are : specs_of (present pools) ≡ s.pools
-  pub buffers : buffers_of (present pools) ≡ s.buffers
+  pub pools_are : specs_of (present pools) ≡ m.store.pools
+  pub buffers : buffers_of (present pools) ≡ m.store.buffers
+  pub zones : zones_of (present pools) ≡ m.zones

@@ -1,10 +1,11 @@
 -- What the objects of all pools hold: a header each, and the bytes behind it.
-use Rattle.std.specs.Prelude.{◌≡◌, ℕ, ◌+◌, ◌-◌, ◌<◌, ◌≤◌, Bool, true, false, not, List, [], ◌∷◌, length, map, drop, count_by, Option, Some, None, slice_get, slice_index_or}
+use Rattle.std.specs.Prelude.{◌≡◌, ℕ, ◌+◌, ◌-◌, ◌<◌, ◌≤◌, ◌==◌, Bool, true, false, List, [], ◌∷◌, length, map, drop, Option, Some, None, slice_get, slice_index_or}
 use Rattle.std.specs.List.{AllByRecursion}
 use Rattle.dp_model.specs.declared.env.PoolSpec.{PoolSpec}
 use Rattle.dp_model.specs.Buffers.{Number, same_number, Buffers, written}
 use Rattle.dp_mbuf.specs.declared.header.Header.{Header}
-use Rattle.dp_mbuf.specs.Pools.{PoolView, IsPool, object_in, with_out}
+use Rattle.dp_pool.specs.Pools.{PoolZones, PoolView, IsPool, object_in, got}
+use Rattle.dp_pool.specs.Queues.{in_count}
 use Rattle.dp_mbuf.specs.Headers.{header_of}
 
 -- ---- what is read of pools
@@ -17,7 +18,14 @@ present (Some p ∷ pools) = p ∷ present pools
 
 -- where there is no pool
 abbrev pub no_pool : PoolView
-no_pool = record { size = 0; cache = 0; objects = []; out = [] }
+no_pool = record {
+  size = 0;
+  cache = 0;
+  cached = 0;
+  objects = [];
+  out = [];
+  zones = record { home = record { block = 0; start = 0; rights = 0 }; object_name = []; object_place = 0; queue_name = []; queue_place = 0 };
+}
 
 abbrev pub pool_in : List PoolView → ℕ → PoolView
 pool_in pools k = slice_index_or pools k no_pool
@@ -31,7 +39,7 @@ is_out pools n = slice_index_or (pool_in pools n.pool).out n.index false
 
 -- how many objects of the pool are in
 abbrev pub count_in : List PoolView → ℕ → ℕ
-count_in pools k = count_by not (pool_in pools k).out
+count_in pools k = in_count (pool_in pools k).out
 
 -- an object is a header of 128 bytes and a data room
 abbrev pub spec_of : PoolView → PoolSpec
@@ -46,6 +54,14 @@ rooms_of p = map (drop 128) p.objects
 
 abbrev pub buffers_of : List PoolView → Buffers
 buffers_of pools = map rooms_of pools
+
+-- no object is handed out
+abbrev pub AreAllIn : List PoolView → Type 0
+AreAllIn pools = (n : Number) → is_out pools n ≡ false
+
+-- the zones in which the pools stand
+abbrev pub zones_of : List PoolView → List PoolZones
+zones_of pools = map (λ p. p.zones) pools
 
 -- there is such an object
 abbrev pub HasObject : List PoolView → Number → Type 0
@@ -76,6 +92,7 @@ pub record ArePools (pools : List PoolView) : Type 0 where
 pub record HeaderSet (pools : List PoolView) (n : Number) (h : Header) (pools' : List PoolView) : Type 0 where
   pub are : ArePools pools'
   pub specs : specs_of pools' ≡ specs_of pools
+  pub zones : zones_of pools' ≡ zones_of pools
   pub buffers : buffers_of pools' ≡ buffers_of pools
   pub outs : (m : Number) → is_out pools' m ≡ is_out pools m
   pub ins : (k : ℕ) → count_in pools' k ≡ count_in pools k
@@ -86,6 +103,7 @@ pub record HeaderSet (pools : List PoolView) (n : Number) (h : Header) (pools' :
 pub record RoomWritten (pools : List PoolView) (n : Number) (at : ℕ) (bytes : List ℕ) (pools' : List PoolView) : Type 0 where
   pub are : ArePools pools'
   pub specs : specs_of pools' ≡ specs_of pools
+  pub zones : zones_of pools' ≡ zones_of pools
   pub buffers : buffers_of pools' ≡ written (buffers_of pools) n at bytes
   pub outs : (m : Number) → is_out pools' m ≡ is_out pools m
   pub ins : (k : ℕ) → count_in pools' k ≡ count_in pools k
@@ -95,6 +113,7 @@ pub record RoomWritten (pools : List PoolView) (n : Number) (at : ℕ) (bytes : 
 pub record Taken (pools : List PoolView) (n : Number) (pools' : List PoolView) : Type 0 where
   pub are : ArePools pools'
   pub specs : specs_of pools' ≡ specs_of pools
+  pub zones : zones_of pools' ≡ zones_of pools
   pub buffers : buffers_of pools' ≡ buffers_of pools
   pub headers : (m : Number) → header_at pools' m ≡ header_at pools m
   pub object : HasObject pools n
@@ -107,6 +126,7 @@ pub record Taken (pools : List PoolView) (n : Number) (pools' : List PoolView) :
 pub record Given (pools : List PoolView) (n : Number) (pools' : List PoolView) : Type 0 where
   pub are : ArePools pools'
   pub specs : specs_of pools' ≡ specs_of pools
+  pub zones : zones_of pools' ≡ zones_of pools
   pub buffers : buffers_of pools' ≡ buffers_of pools
   pub headers : (m : Number) → header_at pools' m ≡ header_at pools m
   pub here : is_out pools' n ≡ false
@@ -129,6 +149,11 @@ abbrev pub slot_out : Option PoolView → ℕ → Bool
 slot_out None i = false
 slot_out (Some p) i = slice_index_or p.out i false
 
+-- whether all objects of the place's pool are in
+abbrev pub slot_whole : Option PoolView → Bool
+slot_whole None = true
+slot_whole (Some p) = in_count p.out == length p.objects
+
 -- and the object is handed out
 abbrev pub SlotIsOut : Option PoolView → ℕ → Type 0
 SlotIsOut None i = ⊥
@@ -142,5 +167,5 @@ SlotBecomes f (Some p) o = o ≡ Some (f p)
 -- an object of the place's pool has been handed out, or none is in
 abbrev pub SlotGives : Option PoolView → Option ℕ → Option PoolView → Type 0
 SlotGives None result o = ⊥
-SlotGives (Some p) None o = (count_by not p.out ≡ 0) × (o ≡ Some p)
-SlotGives (Some p) (Some i) o = (slice_get p.out i ≡ Some false) × (o ≡ Some (with_out p i true))
+SlotGives (Some p) None o = (in_count p.out ≡ 0) × (o ≡ Some p)
+SlotGives (Some p) (Some i) o = (slice_get p.out i ≡ Some false) × (o ≡ Some (got p i))

@@ -2,8 +2,8 @@
 use Rattle.std.specs.Prelude.{◌≡◌, ℕ, suc, ◌+◌, ◌^◌, ◌<◌, ◌≤◌, true, false, List, length}
 use Rattle.dp_model.specs.Buffers.{Number, same_number}
 use Rattle.dp_mbuf.specs.declared.header.Header.{Header}
-use Rattle.dp_mbuf.specs.Pools.{PoolView}
-use Rattle.dp_mbuf.specs.Objects.{header_at, is_out, specs_of, buffers_of, count_in, HasObject, ArePools, HeaderSet, RoomWritten, Taken}
+use Rattle.dp_pool.specs.Pools.{PoolView}
+use Rattle.dp_mbuf.specs.Objects.{header_at, is_out, specs_of, buffers_of, zones_of, count_in, HasObject, ArePools, HeaderSet, RoomWritten, Taken}
 
 -- the same part of a buffer, and the same next mbuf
 pub record Linkage (g h : Header) : Type 0 where
@@ -22,6 +22,7 @@ pub record Alike (g h : Header) : Type 0 where
 pub record Fewer (ps ps' : List PoolView) : Type 0 where
   pub are : ArePools ps'
   pub specs : specs_of ps' ≡ specs_of ps
+  pub zones : zones_of ps' ≡ zones_of ps
   pub buffers : buffers_of ps' ≡ buffers_of ps
   pub headers : (m : Number) → Alike (header_at ps' m) (header_at ps m)
   pub outs : (m : Number) → is_out ps m ≡ false → is_out ps' m ≡ false

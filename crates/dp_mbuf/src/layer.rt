@@ -6,7 +6,7 @@ use crate::mbufs::Mbufs;
 use dp_model::{Packet, PacketLayer, Width};
 
 impl PacketLayer for Mbufs {
-    ghost store = { λ s. s };
+    ghost store = { λ m. m.store };
 
     fn alloc(&mut self, pool: u32) -> Option<Packet> {
         Mbufs::alloc(self, pool)

@@ -7,7 +7,5 @@ mod layer;
 mod mbufs;
 mod numbers;
 mod objects;
-mod pool;
 
 pub use mbufs::Mbufs;
-pub use pool::Pool;

@@ -15,23 +15,21 @@ use crate::hands::{
 use crate::header::{Header, Place};
 use crate::numbers::{bytes_of_number, read_number};
 use crate::objects::Objects;
-use crate::pool::Pool;
 use dp_model::{Packet, Width};
+use dp_pool::Pool;
 use std::marker::Model;
 
-/// Packets as chains of segments over the buffers of pools.
-#[derive(Drop)]
+/// Packets as chains of segments over the buffers of pools. It ends by `into_pools`.
 pub struct Mbufs {
     objects: Objects,
 }
 
 impl Model for Mbufs {
-    ghost use Rattle.dp_model.specs.Stores.{Store};
-    ghost use Rattle.dp_mbuf.specs.Mbufs.{shown, Sound};
+    ghost use Rattle.dp_mbuf.specs.Mbufs.{MbufsView, viewed, Sound};
 
-    ghost Value = { Store };
+    ghost Value = { MbufsView };
 
-    ghost view = { λ m. shown m.objects };
+    ghost view = { λ m. viewed m.objects };
 
     ghost invariant = { λ m. Sound m.objects };
 }
@@ -111,9 +109,16 @@ impl Mbufs {
         }
     }
 
+    /// Whether there is no packet, live or parked.
+    pub fn is_empty(&self) -> bool
+        ensures { IsTrue result ↔ HasNone self.now.store }
+    {
+        self.objects.are_all_in()
+    }
+
     /// The pools again, each of them whole.
     pub fn into_pools(self) -> [Option<Pool>; 8]
-        requires { HasNone self }
+        requires { HasNone self.store }
         ensures { AreBack self result }
     {
         let Mbufs { objects } = self;
@@ -122,7 +127,7 @@ impl Mbufs {
 
     /// Keeps a packet under a number, as for a ring; the packet is used again after `unpark`. Its segments stay.
     pub fn park(&mut self, packet: Packet) -> u32
-        requires { IsLive self.old packet }
+        requires { IsLive self.old.store packet }
         ensures number { result ≡ packet }
         ensures same { self.new ≡ self.old }
     {
@@ -131,7 +136,7 @@ impl Mbufs {
 
     /// The packet that was parked under this number.
     pub fn unpark(&mut self, number: u32) -> Packet
-        requires { IsLive self.old number }
+        requires { IsLive self.old.store number }
         ensures packet { result ≡ number }
         ensures same { self.new ≡ self.old }
     {
@@ -140,7 +145,7 @@ impl Mbufs {
 
     /// Whether the packet is one of these, live or parked.
     pub fn is_live(&self, packet: &Packet) -> bool
-        ensures { IsTrue result ↔ IsLive self.now packet.now }
+        ensures { IsTrue result ↔ IsLive self.now.store packet.now }
     {
         let place = place_of(packet);
         self.objects.is_out(place) && self.objects.header(place).segs != 0
@@ -148,40 +153,40 @@ impl Mbufs {
 
     /// The room before the first segment's bytes.
     pub fn headroom(&self, packet: &Packet) -> u16
-        requires { IsLive self.now packet.now }
-        ensures { Of self.now packet.now (λ k. result ≡ headroom k) }
+        requires { IsLive self.now.store packet.now }
+        ensures { Of self.now.store packet.now (λ k. result ≡ headroom k) }
     {
         first_header(&self.objects, packet).offset
     }
 
     /// The length of the first segment.
     pub fn first_len(&self, packet: &Packet) -> u16
-        requires { IsLive self.now packet.now }
-        ensures { Of self.now packet.now (λ k. result ≡ first_len k) }
+        requires { IsLive self.now.store packet.now }
+        ensures { Of self.now.store packet.now (λ k. result ≡ first_len k) }
     {
         first_header(&self.objects, packet).len
     }
 
     /// How many segments there are.
     pub fn segments(&self, packet: &Packet) -> u32
-        requires { IsLive self.now packet.now }
-        ensures { Of self.now packet.now (λ k. result ≡ length k) }
+        requires { IsLive self.now.store packet.now }
+        ensures { Of self.now.store packet.now (λ k. result ≡ length k) }
     {
         first_header(&self.objects, packet).segs as u32
     }
 
     /// The length of the last segment.
     pub fn last_len(&self, packet: &Packet) -> u16
-        requires { IsLive self.now packet.now }
-        ensures { Of self.now packet.now (λ k. result ≡ last_len k) }
+        requires { IsLive self.now.store packet.now }
+        ensures { Of self.now.store packet.now (λ k. result ≡ last_len k) }
     {
         last_header(&self.objects, packet).len
     }
 
     /// The room behind the last segment's bytes.
     pub fn tailroom(&self, packet: &Packet) -> u16
-        requires { IsLive self.now packet.now }
-        ensures { Of self.now packet.now (λ k. result ≡ tailroom self.now.pools k) }
+        requires { IsLive self.now.store packet.now }
+        ensures { Of self.now.store packet.now (λ k. result ≡ tailroom self.now.store.pools k) }
     {
         let tail = last_header(&self.objects, packet);
         self.objects.room(tail.buffer.pool()) - tail.offset - tail.len
@@ -189,8 +194,9 @@ impl Mbufs {
 
     /// Makes the first segment `n` bytes shorter at its front.
     pub fn adj(&mut self, packet: &Packet, n: u16)
-        requires { HasSome self.old packet.now (λ k. n ≤ first_len k) }
-        ensures { Becomes self.old self.new packet.now (at_front (less_before n)) unwritten }
+        requires { HasSome self.old.store packet.now (λ k. n ≤ first_len k) }
+        ensures packets { Becomes self.old.store self.new.store packet.now (at_front (less_before n)) unwritten }
+        ensures zones { self.new.zones ≡ self.old.zones }
     {
         let head = first_header(&self.objects, packet);
         self.objects.set_header(
@@ -205,8 +211,9 @@ impl Mbufs {
 
     /// Makes the last segment `n` bytes shorter.
     pub fn trim(&mut self, packet: &Packet, n: u16)
-        requires { HasSome self.old packet.now (λ k. n ≤ last_len k) }
-        ensures { Becomes self.old self.new packet.now (at_end (less_behind n)) unwritten }
+        requires { HasSome self.old.store packet.now (λ k. n ≤ last_len k) }
+        ensures packets { Becomes self.old.store self.new.store packet.now (at_end (less_behind n)) unwritten }
+        ensures zones { self.new.zones ≡ self.old.zones }
     {
         let last = first_header(&self.objects, packet).last;
         let tail = self.objects.header(last);
@@ -222,8 +229,9 @@ impl Mbufs {
     /// Gives a packet up: one reference of each segment's buffer. An mbuf is back in its pool when no live segment has
     /// it as its mbuf or as its buffer.
     pub fn free(&mut self, packet: Packet)
-        requires { IsLive self.old packet }
-        ensures { self.new ≡ with_slot packet None self.old }
+        requires { IsLive self.old.store packet }
+        ensures packets { self.new.store ≡ with_slot packet None self.old.store }
+        ensures zones { self.new.zones ≡ self.old.zones }
     {
         let head = unhook(&mut self.objects, place_of(&packet));
         let mut place = place_of(&packet);
@@ -234,16 +242,17 @@ impl Mbufs {
 
     /// How many buffers of a pool are free.
     pub fn available(&self, pool: u32) -> u32
-        requires { pool < length self.now.pools }
-        ensures { result ≡ available self.now.pools (segments_of self.now) pool }
+        requires { pool < length self.now.store.pools }
+        ensures { result ≡ available self.now.store.pools (segments_of self.now.store) pool }
     {
         self.objects.available(pool as u16)
     }
 
     /// A packet of one segment without bytes; `None` exactly where no buffer of the pool is free.
     pub fn alloc(&mut self, pool: u32) -> Option<Packet>
-        requires { pool < length self.old.pools }
-        ensures { Allocates self.old pool self.new result }
+        requires { pool < length self.old.store.pools }
+        ensures packets { Allocates self.old.store pool self.new.store result }
+        ensures zones { self.new.zones ≡ self.old.zones }
     {
         let place = self.objects.take(pool as u16)?;
         let offset = self.objects.room(place.pool()).min(128);
@@ -254,8 +263,8 @@ impl Mbufs {
 
     /// The number in `width` bytes at a place of the first segment, the highest byte first.
     pub fn load(&self, packet: &Packet, place: u64, width: Width) -> u64
-        requires { HasSome self.now packet.now (λ k. place + bytes_in width ≤ first_len k) }
-        ensures { Of self.now packet.now (λ k. result ≡ loaded place (bytes_in width) k self.now.buffers) }
+        requires { HasSome self.now.store packet.now (λ k. place + bytes_in width ≤ first_len k) }
+        ensures { Of self.now.store packet.now (λ k. result ≡ loaded place (bytes_in width) k self.now.store.buffers) }
     {
         let head = first_header(&self.objects, packet);
         let bytes = bytes_in_segment(&self.objects, head);
@@ -264,11 +273,12 @@ impl Mbufs {
 
     /// Writes the low bytes of a number at a place of the first segment, the highest byte first.
     pub fn store(&mut self, packet: &Packet, place: u64, width: Width, n: u64)
-        requires { HasSome self.old packet.now (λ k. (place + bytes_in width ≤ first_len k) × IsHeadSole (segments_of self.old) k) }
-        ensures { Becomes self.old self.new packet.now (λ k. k) (stored place (bytes_in width) n) }
+        requires { HasSome self.old.store packet.now (λ k. (place + bytes_in width ≤ first_len k) × IsHeadSole (segments_of self.old.store) k) }
+        ensures packets { Becomes self.old.store self.new.store packet.now (λ k. k) (stored place (bytes_in width) n) }
+        ensures zones { self.new.zones ≡ self.old.zones }
     {
         let head = first_header(&self.objects, packet);
-        let at = head.offset as usize + place as usize;
+        let at = head.offset as u32 + place as u32;
         let bytes = bytes_of_number(n);
         let from = 8 - width.bytes() as usize;
         self.objects.write(head.buffer, at, &bytes[from..]);
@@ -276,12 +286,13 @@ impl Mbufs {
 
     /// Makes the first segment `n` bytes longer at its front; the new bytes are 0.
     pub fn prepend(&mut self, packet: &Packet, n: u16)
-        requires { HasSome self.old packet.now (λ k. (n ≤ headroom k) × IsHeadSole (segments_of self.old) k) }
-        ensures { Becomes self.old self.new packet.now (at_front (more_before n)) (zeroed_before n) }
+        requires { HasSome self.old.store packet.now (λ k. (n ≤ headroom k) × IsHeadSole (segments_of self.old.store) k) }
+        ensures packets { Becomes self.old.store self.new.store packet.now (at_front (more_before n)) (zeroed_before n) }
+        ensures zones { self.new.zones ≡ self.old.zones }
     {
         let head = first_header(&self.objects, packet);
         let offset = head.offset - n;
-        self.objects.zero(head.buffer, offset as usize, n as usize);
+        self.objects.zero(head.buffer, offset as u32, n as u32);
         self.objects.set_header(
             place_of(packet),
             Header {
@@ -294,16 +305,13 @@ impl Mbufs {
 
     /// Makes the last segment `n` bytes longer; the new bytes are 0.
     pub fn append(&mut self, packet: &Packet, n: u16)
-        requires { HasSome self.old packet.now (λ k. (n ≤ tailroom self.old.pools k) × IsTailSole (segments_of self.old) k) }
-        ensures { Becomes self.old self.new packet.now (at_end (more_behind n)) (zeroed_behind n) }
+        requires { HasSome self.old.store packet.now (λ k. (n ≤ tailroom self.old.store.pools k) × IsTailSole (segments_of self.old.store) k) }
+        ensures packets { Becomes self.old.store self.new.store packet.now (at_end (more_behind n)) (zeroed_behind n) }
+        ensures zones { self.new.zones ≡ self.old.zones }
     {
         let last = first_header(&self.objects, packet).last;
         let tail = self.objects.header(last);
-        self.objects.zero(
-            tail.buffer,
-            tail.offset as usize + tail.len as usize,
-            n as usize,
-        );
+        self.objects.zero(tail.buffer, tail.offset as u32 + tail.len as u32, n as u32);
         self.objects.set_header(
             last,
             Header {
@@ -316,8 +324,9 @@ impl Mbufs {
     /// Puts the second packet's segments behind the first's.
     pub fn chain(&mut self, head: &Packet, tail: Packet)
         requires two { head.now ≢ tail }
-        requires few { HasSome self.old head.now (λ k. HasSome self.old tail (λ t. length k + length t ≤ 64)) }
-        ensures { Chains self.old head.now tail self.new }
+        requires few { HasSome self.old.store head.now (λ k. HasSome self.old.store tail (λ t. length k + length t ≤ 64)) }
+        ensures packets { Chains self.old.store head.now tail self.new.store }
+        ensures zones { self.new.zones ≡ self.old.zones }
     {
         let second = place_of(&tail);
         let behind = unhook(&mut self.objects, second);
@@ -335,9 +344,10 @@ impl Mbufs {
     /// A packet that shares the buffers of another: one indirect mbuf of the pool for each segment, with the same buffer,
     /// offset and length. `None` exactly where fewer are free, and then nothing has changed.
     pub fn clone_of(&mut self, packet: &Packet, pool: u32) -> Option<Packet>
-        requires live { IsLive self.old packet.now }
-        requires exists { pool < length self.old.pools }
-        ensures { Clones self.old packet.now pool self.new result }
+        requires live { IsLive self.old.store packet.now }
+        requires exists { pool < length self.old.store.pools }
+        ensures packets { Clones self.old.store packet.now pool self.new.store result }
+        ensures zones { self.new.zones ≡ self.old.zones }
     {
         let source = first_header(&self.objects, packet);
         if self.objects.available(pool as u16) < source.segs as u32 {
@@ -358,8 +368,8 @@ impl Mbufs {
 
     /// How many live segments have the buffer of the `k`-th segment.
     pub fn refs(&self, packet: &Packet, k: u32) -> u32
-        requires { HasSome self.now packet.now (λ p. k < length p) }
-        ensures { Of self.now packet.now (λ p. (s : Segment) → slice_get p k ≡ Some s → result ≡ refs (segments_of self.now) s.buffer) }
+        requires { HasSome self.now.store packet.now (λ p. k < length p) }
+        ensures { Of self.now.store packet.now (λ p. (s : Segment) → slice_get p k ≡ Some s → result ≡ refs (segments_of self.now.store) s.buffer) }
     {
         let segment = self
             .objects
@@ -369,8 +379,8 @@ impl Mbufs {
 
     /// The bytes of the `k`-th segment.
     pub fn segment_bytes(&self, packet: &Packet, k: u32) -> &[u8]
-        requires { HasSome self.now packet.now (λ p. k < length p) }
-        ensures { Of self.now packet.now (λ p. (s : Segment) → slice_get p k ≡ Some s → result.now ≡ segment_bytes self.now.buffers s) }
+        requires { HasSome self.now.store packet.now (λ p. k < length p) }
+        ensures { Of self.now.store packet.now (λ p. (s : Segment) → slice_get p k ≡ Some s → result.now ≡ segment_bytes self.now.store.buffers s) }
     {
         let segment = self
             .objects
@@ -380,8 +390,8 @@ impl Mbufs {
 
     /// Whether the buffer of each segment has one reference.
     pub fn is_sole(&self, packet: &Packet) -> bool
-        requires { IsLive self.now packet.now }
-        ensures { Of self.now packet.now (λ p. IsTrue result ↔ IsSole (segments_of self.now) p) }
+        requires { IsLive self.now.store packet.now }
+        ensures { Of self.now.store packet.now (λ p. IsTrue result ↔ IsSole (segments_of self.now.store) p) }
     {
         let segs = first_header(&self.objects, packet).segs;
         let mut place = place_of(packet);
@@ -398,8 +408,8 @@ impl Mbufs {
 
     /// How many bytes the packet has.
     pub fn length(&self, packet: &Packet) -> u32
-        requires { IsLive self.now packet.now }
-        ensures value { Of self.now packet.now (λ p. result ≡ length (packet_bytes self.now.buffers p)) }
+        requires { IsLive self.now.store packet.now }
+        ensures value { Of self.now.store packet.now (λ p. result ≡ length (packet_bytes self.now.store.buffers p)) }
         ensures bound { result ≤ 262144 }
     {
         let segs = first_header(&self.objects, packet).segs;
@@ -416,9 +426,10 @@ impl Mbufs {
     /// A packet with these bytes: each segment at offset 128, all full but the last. `None` exactly where fewer buffers
     /// of the pool are free than it needs, and then nothing has changed.
     pub fn receive(&mut self, pool: u32, bytes: &[u8]) -> Option<Packet>
-        requires room { 129 ≤ room_at self.old.pools pool }
-        requires fits { needed self.old.pools pool (length bytes.now) ≤ 64 }
-        ensures { ReceivesInto self.old pool bytes.now self.new result }
+        requires room { 129 ≤ room_at self.old.store.pools pool }
+        requires fits { needed self.old.store.pools pool (length bytes.now) ≤ 64 }
+        ensures packets { ReceivesInto self.old.store pool bytes.now self.new.store result }
+        ensures zones { self.new.zones ≡ self.old.zones }
     {
         let full = self.objects.room(pool as u16) - 128;
         let need = count_needed(bytes.len(), full);
@@ -440,8 +451,8 @@ impl Mbufs {
 
     /// How many buffers of the pool a packet of so many bytes needs.
     pub fn needed(&self, pool: u32, len: u32) -> u32
-        requires { 129 ≤ room_at self.now.pools pool }
-        ensures { result ≡ needed self.now.pools pool len }
+        requires { 129 ≤ room_at self.now.store.pools pool }
+        ensures { result ≡ needed self.now.store.pools pool len }
     {
         let full = self.objects.room(pool as u16) - 128;
         count_needed(len as usize, full) as u32
@@ -450,8 +461,8 @@ impl Mbufs {
     /// What is true of every `Mbufs`, a law: the world of its packets is well formed, the segments lie within their
     /// buffers, and no buffer has more references than there are mbufs.
     pub fn is_well_formed(&self)
-        ensures world { IsWellFormedStore self.now }
-        ensures few { (b : Number) → refs (segments_of self.now) b ≤ mbufs_in_all self.now.pools }
+        ensures world { IsWellFormedStore self.now.store }
+        ensures few { (b : Number) → refs (segments_of self.now.store) b ≤ mbufs_in_all self.now.store.pools }
     {
         let _ = &self.objects;
     }

@@ -1,24 +1,24 @@
 // The objects of all pools, each with a header and with bytes behind it.
 
-ghost use Rattle.std.specs.Prelude.{◌≡◌, ℕ, ◌<◌, ◌≤◌, ◌+◌, [], true, false, length, Some, None, slice_get, slice_index, replicate, MatchOption};
+ghost use Rattle.std.specs.Prelude.{◌≡◌, ℕ, ◌<◌, ◌≤◌, ◌+◌, [], true, false, length, Some, None, slice_get, slice_index, replicate, MatchOption, IsTrue, ◌↔◌};
+ghost use Rattle.std.specs.List.{list_all};
 ghost use Rattle.dp_model.specs.Buffers.{bytes_of};
 ghost use Rattle.dp_model.specs.Environments.{room_at};
-ghost use Rattle.dp_mbuf.specs.Pools.{with_written, with_out};
-ghost use Rattle.dp_mbuf.specs.Objects.{present, pool_in, header_at, is_out, count_in, specs_of, buffers_of, HasObject, HasRooms, PoolsFirst, ArePools, HeaderSet, RoomWritten, Taken, Given, SlotHas, SlotFits, SlotIsOut, SlotBecomes, SlotGives, slot_out};
+ghost use Rattle.dp_pool.specs.Pools.{with_written, put_back};
+ghost use Rattle.dp_mbuf.specs.Objects.{present, pool_in, header_at, is_out, count_in, specs_of, buffers_of, HasObject, HasRooms, PoolsFirst, ArePools, HeaderSet, RoomWritten, Taken, Given, SlotHas, SlotFits, SlotIsOut, SlotBecomes, SlotGives, slot_out, slot_whole, AreAllIn};
 
 use crate::header::{Header, Place, bytes_of_header, read_header};
-use crate::pool::Pool;
+use dp_pool::Pool;
 use std::marker::Model;
 
 /// The objects of at most eight pools.
-#[derive(Drop)]
 pub(crate) struct Objects {
     pools: [Option<Pool>; 8],
 }
 
 impl Model for Objects {
     ghost use Rattle.std.specs.Prelude.{◌≡◌, List, length};
-    ghost use Rattle.dp_mbuf.specs.Pools.{PoolView};
+    ghost use Rattle.dp_pool.specs.Pools.{PoolView};
     ghost use Rattle.dp_mbuf.specs.Objects.{PoolsFirst, present};
 
     ghost Value = { List PoolView };
@@ -42,7 +42,7 @@ fn pool_at(pools: &[Option<Pool>; 8], k: u16) -> &Pool
 }
 
 // Writes into an object of a place's pool.
-fn write_in(slot: &mut Option<Pool>, index: u16, at: usize, bytes: &[u8])
+fn write_in(slot: &mut Option<Pool>, index: u16, at: u32, bytes: &[u8])
     requires { SlotFits slot.old index (at + length bytes.now) }
     ensures becomes { SlotBecomes (λ p. with_written p index at bytes.now) slot.old slot.new }
     ensures small { (k : ℕ) → slice_index bytes.now k < 256 }
@@ -53,19 +53,19 @@ fn write_in(slot: &mut Option<Pool>, index: u16, at: usize, bytes: &[u8])
 }
 
 // Writes zeros into an object of a place's pool.
-fn zero_in(slot: &mut Option<Pool>, index: u16, at: usize, len: usize)
+fn zero_in(slot: &mut Option<Pool>, index: u16, at: u32, len: u32)
     requires { SlotFits slot.old index (at + len) }
     ensures { SlotBecomes (λ p. with_written p index at (replicate len 0)) slot.old slot.new }
 {
     if let Some(pool) = slot {
-        pool.zero(index as u32, at, len);
+        pool.clear(index as u32, at, len);
     }
 }
 
 // Puts an object of a place's pool back.
 fn put_in(slot: &mut Option<Pool>, index: u16)
     requires { SlotIsOut slot.old index }
-    ensures { SlotBecomes (λ p. with_out p index false) slot.old slot.new }
+    ensures { SlotBecomes (λ p. put_back p index) slot.old slot.new }
 {
     if let Some(pool) = slot {
         pool.put(index as u32);
@@ -80,6 +80,23 @@ fn is_out_in(slot: &Option<Pool>, index: u16) -> bool
         Some(pool) => pool.is_out(index as u32),
         None => false,
     }
+}
+
+// Whether all objects of a place's pool are in.
+fn is_whole(slot: &Option<Pool>) -> bool
+    ensures { result ≡ slot_whole slot.now }
+{
+    match slot {
+        Some(pool) => pool.available() == pool.count(),
+        None => true,
+    }
+}
+
+// Whether all objects of all pools are in.
+fn are_whole(pools: &[Option<Pool>]) -> bool
+    ensures { result ≡ list_all slot_whole pools.now }
+{
+    pools.iter().all(|slot| is_whole(slot))
 }
 
 // Hands out an object of a place's pool.
@@ -152,6 +169,13 @@ impl Objects {
         pool_at(&self.pools, pool).available()
     }
 
+    /// Whether all objects are in.
+    pub fn are_all_in(&self) -> bool
+        ensures { IsTrue result ↔ AreAllIn self.now }
+    {
+        are_whole(&self.pools)
+    }
+
     /// Writes a header.
     pub fn set_header(&mut self, n: Place, h: Header)
         requires { HasObject self.old n }
@@ -162,7 +186,7 @@ impl Objects {
     }
 
     /// Writes bytes behind a header from a place on.
-    pub fn write(&mut self, n: Place, at: usize, bytes: &[u8])
+    pub fn write(&mut self, n: Place, at: u32, bytes: &[u8])
         requires object { HasObject self.old n }
         requires fits { at + length bytes.now ≤ room_at (specs_of self.old) n.pool }
         ensures { RoomWritten self.old n at bytes.now self.new }
@@ -176,7 +200,7 @@ impl Objects {
     }
 
     /// Writes zeros behind a header from a place on.
-    pub fn zero(&mut self, n: Place, at: usize, len: usize)
+    pub fn zero(&mut self, n: Place, at: u32, len: u32)
         requires object { HasObject self.old n }
         requires fits { at + len ≤ room_at (specs_of self.old) n.pool }
         ensures { RoomWritten self.old n at (replicate len 0) self.new }

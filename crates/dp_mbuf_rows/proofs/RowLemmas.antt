@@ -1,64 +1,102 @@
 -- What the helpers' asserts say of packets.
-use Rattle.std.proofs.Common.{◌≡◌, ℕ, zero, suc, ◌+◌, ◌-◌, ◌<◌, ◌≤◌, Bool, true, false, List, [], ◌∷◌, length, Option, Some, None, refl, sym, ◌∙◌, ap, subst, arith, get_or}
-use Rattle.std.specs.Prelude.{replicate, sum_by}
+use Rattle.std.proofs.Common.{◌≡◌, ℕ, zero, suc, ◌+◌, ◌<◌, ◌≤◌, false, List, [], ◌∷◌, length, Option, Some, None, refl, sym, ◌∙◌, ap, subst, arith, get_or}
+use Rattle.std.specs.Prelude.{replicate, slice_get}
 use Rattle.std.specs.List.{AllByRecursion}
-use Rattle.std.proofs.lemmas.List.{get_or_past, length-replicate}
 use Rattle.dp_model.specs.Environments.{room_at}
 use Rattle.dp_model.specs.Buffers.{Number, Buffers, ChangesOnly}
-use Rattle.dp_model.specs.Packets.{Segment, Packet, IsSole, IsTailSole, IsHeadSole, allocated, needed, received, Filled, cloned, at_end, more_behind, zeroed_behind}
-use Rattle.dp_model.specs.Stores.{Store, HasSome, IsLive, Of, Gives, Becomes, Allocates, ReceivesInto, Clones, Chains}
-use Rattle.dp_mbuf.specs.Pools.{PoolView, IsPool, unused}
-use Rattle.dp_mbuf.specs.Objects.{present, PoolsFirst, HasRooms, is_out, pool_in, no_pool}
-use Rattle.dp_mbuf.specs.Mbufs.{AreReady, AreAllIn, IsNew}
-use Rattle.dp_mbuf_rows.specs.Rows.{IsOver}
+use Rattle.dp_model.specs.Packets.{Segment, Packet, refs, IsTailSole, IsHeadSole, allocated, needed, received, Filled, cloned}
+use Rattle.dp_model.specs.Stores.{Store, HasSome, IsLive, Of, with_slot, Gives, Allocates, ReceivesInto, Clones, Chains}
+use Rattle.dp_region.specs.Ownership.{Home}
+use Rattle.dp_pool.specs.Pools.{PoolView}
+use Rattle.dp_mbuf.specs.Objects.{present, PoolsFirst, HasRooms, pool_in, zones_of}
+use Rattle.dp_mbuf.specs.Mbufs.{MbufsView, AreReady, IsNew, AreBack}
+use Rattle.dp_mbuf_rows.specs.Rows.{IsOver, AreIn, SlotIn, IsReadyPool}
 
 pub has_some : (v : Store) (h : ℕ) (P Q : Packet → Type 0) → IsLive v h → Of v h P → ((k : Packet) → P k → Q k) → HasSome v h Q
 has_some v h P Q live of f = (live.0, live.1, f live.0 (of live.0 live.1))
 
-pub sole_tail : (live : List Segment) (k : Packet) → IsSole live k → IsTailSole live k
-sole_tail live [] s = tt
-sole_tail live (s ∷ []) a = a.0
-sole_tail live (s ∷ t ∷ k) a = sole_tail live (t ∷ k) a.1
-
 pub over_kept : (s s' : Store) → s'.pools ≡ s.pools → IsOver s → IsOver s'
 over_kept s s' e o = record {
-  some = let l = ap length e in let q = o.some in omega (arith, l, q);
-  room = let l = ap (λ p. room_at p 0) e in let q = o.room in omega (arith, l, q);
+  two = ap length e ∙ o.two;
+  rooms = λ k b. let l = ap (λ p. room_at p k) e in let q = o.rooms k b in omega (arith, l, q);
 }
 
 pub gives_kept : (s s' : Store) (pool need : ℕ) (packet : List Number → Packet) (Changes : List Number → Buffers → Buffers → Type 0) (r : Option ℕ) → Gives s pool need packet Changes s' r → s'.pools ≡ s.pools
 gives_kept s s' pool need packet Changes None g = ap (λ x. x.pools) g.1
 gives_kept s s' pool need packet Changes (Some h) g = ap (λ x. x.pools) g.6
 
-pub becomes_kept : (s s' : Store) (h : ℕ) (f : Packet → Packet) (w : Packet → Buffers → Buffers) → IsLive s h → Becomes s s' h f w → s'.pools ≡ s.pools
-becomes_kept s s' h f w live b = ap (λ x. x.pools) (b live.0 live.1)
+-- ---- the last segment
+
+pub tail_sole : (live : List Segment) (k : Packet) (last r : ℕ) → length k ≡ suc last → ((s : Segment) → slice_get k last ≡ Some s → r ≡ refs live s.buffer) → r ≡ 1 → IsTailSole live k
+tail_sole live [] last r e f one = absurd (omega (arith, e))
+tail_sole live (s ∷ []) zero r e f one = sym (f s refl) ∙ one
+tail_sole live (s ∷ []) (suc last) r e f one = absurd (omega (arith, e))
+tail_sole live (s ∷ t ∷ k) zero r e f one = absurd (omega (arith, e))
+tail_sole live (s ∷ t ∷ k) (suc last) r e f one = tail_sole live (t ∷ k) last r (omega (arith, e)) f one
+
+pub head_sole : (live : List Segment) (k : Packet) (r : ℕ) → ((s : Segment) → slice_get k 0 ≡ Some s → r ≡ refs live s.buffer) → r ≡ 1 → IsHeadSole live k
+head_sole live [] r f one = tt
+head_sole live (s ∷ k) r f one = sym (f s refl) ∙ one
+
+-- ---- two pools
 
 none_out : (n i : ℕ) → get_or (replicate n false) i false ≡ false
 none_out zero i = refl
 none_out (suc n) zero = refl
 none_out (suc n) (suc i) = none_out n i
 
-pub ready_one : (p : PoolView) (count size : ℕ) → p ≡ unused count size 0 → IsPool p → 1 ≤ count → count ≤ 65535 → 128 ≤ size → size ≤ 4224 → AreReady (Some p ∷ None ∷ None ∷ None ∷ None ∷ None ∷ None ∷ None ∷ [])
-ready_one p count size e pool some few low high = record {
-  first = (record { pool = pool; header = let s = ap (λ q. q.size) e in omega (arith, s, low); room = let s = ap (λ q. q.size) e in omega (arith, s, high) }, (refl, (refl, (refl, (refl, (refl, (refl, tt)))))));
+rooms_of : (count room : ℕ) (home : Home) (p : PoolView) → IsReadyPool count room home p → room ≤ 4096 → HasRooms p
+rooms_of count room home p r high = record {
+  pool = r.pool;
+  header = let s = r.size in omega (arith, s);
+  room = let s = r.size in omega (arith, s, high);
+}
+
+abbrev pub two_of : PoolView → PoolView → List (Option PoolView)
+two_of a b = Some a ∷ Some b ∷ None ∷ None ∷ None ∷ None ∷ None ∷ None ∷ []
+
+pub ready_two : (a b : PoolView) (m n x y : ℕ) (home home' : Home) → IsReadyPool m x home a → IsReadyPool n y home' b → m + n ≤ 65535 → x ≤ 4096 → y ≤ 4096 → AreReady (two_of a b)
+ready_two a b m n x y home home' ra rb few hx hy = record {
+  first = (rooms_of m x home a ra hx, (rooms_of n y home' b rb hy, (refl, (refl, (refl, (refl, (refl, tt)))))));
   some = omega arith;
   few = omega arith;
-  mbufs = let c = pool.count in omega (arith, c);
-  all_in = in_all;
+  mbufs = let c = ra.count in let d = rb.count in omega (arith, c, d, few);
+  all_in = λ q. at q.pool q.index;
 }
   where
-    in_all : (n : Number) → is_out (p ∷ []) n ≡ false
-    in_all n = at n.pool n.index
-      where
-        at : (k i : ℕ) → get_or (pool_in (p ∷ []) k).out i false ≡ false
-        at zero i = ap (λ q. get_or q.out i false) e ∙ none_out count i
-        at (suc k) i = refl
+    at : (k i : ℕ) → get_or (pool_in (a ∷ b ∷ []) k).out i false ≡ false
+    at zero i = ap (λ o. get_or o i false) ra.all_in ∙ none_out m i
+    at (suc zero) i = ap (λ o. get_or o i false) rb.all_in ∙ none_out n i
+    at (suc (suc k)) i = refl
 
-pub new_over : (p : PoolView) (s : Store) (count size : ℕ) → p ≡ unused count size 0 → 257 ≤ size → IsNew (Some p ∷ None ∷ None ∷ None ∷ None ∷ None ∷ None ∷ None ∷ []) s → IsOver s
-new_over p s count size e low new = record {
-  some = let l = ap length new.pools_are in omega (arith, l);
-  room = let r = ap (λ x. room_at x 0) new.pools_are in let z = ap (λ q. q.size) e in omega (arith, r, z, low);
+pub new_over : (a b : PoolView) (v : MbufsView) (m n x y : ℕ) (home home' : Home) → IsReadyPool m x home a → IsReadyPool n y home' b → 129 ≤ x → 129 ≤ y → IsNew (two_of a b) v → IsOver v.store
+new_over a b v m n x y home home' ra rb lx ly new = record {
+  two = ap length new.pools_are;
+  rooms = room;
 }
+  where
+    room : (k : ℕ) → k < 2 → 129 ≤ room_at v.store.pools k
+    room zero h = let r = ap (λ p. room_at p 0) new.pools_are in let s = ra.size in omega (arith, r, s, lx)
+    room (suc zero) h = let r = ap (λ p. room_at p 1) new.pools_are in let s = rb.size in omega (arith, r, s, ly)
+    room (suc (suc k)) h = absurd (omega (arith, h))
+
+pub new_in : (a b : PoolView) (v : MbufsView) (m n x y : ℕ) (ha hb home : Home) → IsReadyPool m x ha a → IsReadyPool n y hb b → ha ≡ home → hb ≡ home → IsNew (two_of a b) v → AreIn home v.zones
+new_in a b v m n x y ha hb home ra rb ea eb new = subst (AreIn home) (sym new.zones) (ra.home ∙ ea, (rb.home ∙ eb, tt))
+
+-- the pools that come back stand where they stood
+pub slots_in : (home : Home) (pools : List (Option PoolView)) → PoolsFirst pools → AreIn home (zones_of (present pools)) → AllByRecursion (SlotIn home) pools
+slots_in home [] f h = tt
+slots_in home (None ∷ pools) f h = (tt, none_in pools f)
+  where
+    none_in : (pools : List (Option PoolView)) → AllByRecursion (λ o. o ≡ None) pools → AllByRecursion (SlotIn home) pools
+    none_in [] all = tt
+    none_in (o ∷ pools) all = (subst (SlotIn home) (sym all.0) tt, none_in pools all.1)
+slots_in home (Some p ∷ pools) f h = (h.0, slots_in home pools f.1 h.1)
+
+pub back_in : (home : Home) (v : MbufsView) (pools : List (Option PoolView)) → AreIn home v.zones → AreBack v pools → AllByRecursion (SlotIn home) pools
+back_in home v pools h back = slots_in home pools back.first (subst (AreIn home) (sym back.zones) h)
+
+-- ---- the pools stay
 
 pub alloc_kept : (s s' : Store) (pool : ℕ) (r : Option ℕ) → Allocates s pool s' r → s'.pools ≡ s.pools
 alloc_kept s s' pool r g = gives_kept s s' pool 1 (allocated s.pools) ChangesOnly r g
@@ -71,8 +109,8 @@ pub clone_kept : (s s' : Store) (h pool : ℕ) (r : Option ℕ) → IsLive s h �
 clone_kept s s' h pool r live c =
     gives_kept s s' pool (length live.0) (λ ns. cloned ns live.0) (λ ns old new. new ≡ old) r (c live.0 live.1)
 
-pub append_kept : (s s' : Store) (h n : ℕ) → IsLive s h → Becomes s s' h (at_end (more_behind n)) (zeroed_behind n) → s'.pools ≡ s.pools
-append_kept s s' h n live b = ap (λ x. x.pools) (b live.0 live.1)
+pub free_kept : (s s' : Store) (h : ℕ) → s' ≡ with_slot h None s → s'.pools ≡ s.pools
+free_kept s s' h e = ap (λ x. x.pools) e
 
 pub chain_kept : (s s' : Store) (h t : ℕ) → IsLive s h → IsLive s t → Chains s h t s' → s'.pools ≡ s.pools
 chain_kept s s' h t live more c = ap (λ x. x.pools) (c live.0 live.1 more.0 more.1)

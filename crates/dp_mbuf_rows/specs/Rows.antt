@@ -1,9 +1,29 @@
 -- What the helpers of the tests keep.
-use Rattle.std.specs.Prelude.{ℕ, ◌≤◌, length}
+use Rattle.std.specs.Prelude.{◌≡◌, ℕ, ◌+◌, ◌<◌, ◌≤◌, false, length, List, Option, Some, None, replicate}
+use Rattle.std.specs.List.{AllByRecursion}
 use Rattle.dp_model.specs.Environments.{room_at}
 use Rattle.dp_model.specs.Stores.{Store}
+use Rattle.dp_region.specs.Ownership.{Home}
+use Rattle.dp_pool.specs.Pools.{PoolZones, PoolView, IsPool}
 
--- there is a first pool, with room for received bytes
+-- there are two pools, with room for received bytes
 pub record IsOver (s : Store) : Type 0 where
-  pub some : 1 ≤ length s.pools
-  pub room : 129 ≤ room_at s.pools 0
+  pub two : length s.pools ≡ 2
+  pub rooms : (k : ℕ) → k < 2 → 129 ≤ room_at s.pools k
+
+-- all zones are of one region
+abbrev pub AreIn : Home → List PoolZones → Type 0
+AreIn home zones = AllByRecursion (λ z. z.home ≡ home) zones
+
+-- and so are those of the place's pool, where it has one
+abbrev pub SlotIn : Home → Option PoolView → Type 0
+SlotIn home None = Unit {0}
+SlotIn home (Some p) = p.zones.home ≡ home
+
+-- a pool of so many objects for mbufs with so much room, all of them in, in zones of the region
+pub record IsReadyPool (n room : ℕ) (region : Home) (p : PoolView) : Type 0 where
+  pub pool : IsPool p
+  pub size : p.size ≡ room + 128
+  pub count : length p.objects ≡ n
+  pub all_in : p.out ≡ replicate n false
+  pub home : p.zones.home ≡ region

@@ -1,5 +1,11 @@
-//! Mbufs on worked examples, and on a long random walk beside a small model.
+//! Mbufs over pools in zones: worked examples, and a long random walk beside a small model.
 #![tactic(auto)]
 
 #[cfg(test)]
-mod tests;
+mod calls;
+#[cfg(test)]
+mod rows;
+#[cfg(test)]
+mod setup;
+#[cfg(test)]
+mod walk;

@@ -1,25 +1,34 @@
+use Rattle.std.proofs.Common.{◌∙◌}
+use Rattle.dp_mbuf.proofs.InHand.{released_zones}
+use Rattle.dp_mbuf.proofs.Live.{same_store, same_zones}
 use Rattle.dp_mbuf.proofs.Live.{live_object}
 use Rattle.dp_mbuf.proofs.Freeing.{freeing_start, freeing_can, freeing_step, freeing_end}
 use Rattle.dp_mbuf.proofs.mbufs.Mbufs.free.Goals as goal
 
 pub unhook-head-requires : goal.unhook-head-requires
-unhook-head-requires c = rw c.place_of.ensures (live_object _ _ c.args.packet c.self.view_is c.self.invariant c.requires)
+unhook-head-requires c = rw c.place_of.ensures (live_object _ _ c.args.packet (same_store c.self.view_is) c.self.invariant c.requires)
 
 pub loop-i-init : goal.loop-i-init
-loop-i-init c =
-    let set = rw c.place_of.ensures at c.unhook-head.ensures.now in
-    let was = rw c.place_of.ensures at c.unhook-head.ensures.was in
-    rw (c.place_of-place.ensures, was) (freeing_start _ _ _ _ c.self.view_is c.self.invariant c.requires set)
+loop-i-init c = record {
+  packets =
+      let set = rw c.place_of.ensures at c.unhook-head.ensures.now in
+      let was = rw c.place_of.ensures at c.unhook-head.ensures.was in
+      rw (c.place_of-place.ensures, was) (freeing_start _ _ _ _ (same_store c.self.view_is) c.self.invariant c.requires set);
+  zones = c.unhook-head.ensures.now.zones ∙ same_zones c.self.view_is;
+}
 
 pub release-place-requires : goal.release-place-requires
-release-place-requires c = freeing_can _ _ _ _ _ _ c.loop-i.invariant c.loop-i-test.true
+release-place-requires c = freeing_can _ _ _ _ _ _ c.loop-i.invariant.packets c.loop-i-test.true
 
 pub loop-i-preserved : goal.loop-i-preserved
-loop-i-preserved c =
-    freeing_step _ _ _ _ _ _ c.loop-i.invariant _ _ c.loop-i-test.true c.release-place.ensures.gone c.release-place.ensures.next
+loop-i-preserved c = record {
+  packets =
+      freeing_step _ _ _ _ _ _ c.loop-i.invariant.packets _ _ c.loop-i-test.true c.release-place.ensures.gone c.release-place.ensures.next;
+  zones = released_zones _ _ _ _ c.release-place.ensures.gone ∙ c.loop-i.invariant.zones;
+}
 
 pub invariant_of-self : goal.invariant_of-self
-invariant_of-self c = (freeing_end _ _ _ _ _ _ c.loop-i.invariant c.loop-i-test.false).0
+invariant_of-self c = (freeing_end _ _ _ _ _ _ c.loop-i.invariant.packets c.loop-i-test.false).0
 
-pub returns : goal.returns
-returns c = (freeing_end _ _ _ _ _ _ c.loop-i.invariant c.loop-i-test.false).1
+pub returns-clause-packets : goal.returns-clause-packets
+returns-clause-packets c = (freeing_end _ _ _ _ _ _ c.loop-i.invariant.packets c.loop-i-test.false).1

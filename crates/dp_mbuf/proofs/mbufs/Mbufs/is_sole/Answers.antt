@@ -3,56 +3,57 @@ use Rattle.std.proofs.lemmas.List.{drop_all}
 use Rattle.dp_model.specs.Packets.{IsSole}
 use Rattle.dp_model.specs.Stores.{segments_of}
 use Rattle.dp_mbuf.specs.Objects.{header_at}
+use Rattle.dp_mbuf.proofs.Live.{same_store}
 use Rattle.dp_mbuf.proofs.Live.{live_object}
 use Rattle.dp_mbuf.proofs.Reading.{links_of, many_of, part, walk_next, sole_more, sole_not}
 use Rattle.dp_mbuf.proofs.mbufs.Mbufs.is_sole.Goals as goal
 
 pub first_header-segs-requires : goal.first_header-segs-requires
-first_header-segs-requires c = live_object _ _ c.args.packet.now c.self.view_is c.self.invariant c.requires
+first_header-segs-requires c = live_object _ _ c.args.packet.now (same_store c.self.view_is) c.self.invariant c.requires
 
 pub loop-i-init : goal.loop-i-init
-loop-i-init c = λ p has. (rw c.place_of-place.ensures (links_of _ _ c.args.packet.now c.self.view_is c.self.invariant p has), λ s. s)
+loop-i-init c = λ p has. (rw c.place_of-place.ensures (links_of _ _ c.args.packet.now (same_store c.self.view_is) c.self.invariant p has), λ s. s)
 
 pub header-segment-requires : goal.header-segment-requires
 header-segment-requires c =
-    let many = many_of _ _ c.args.packet.now c.self.view_is c.self.invariant c.requires.0 c.requires.1 in
+    let many = many_of _ _ c.args.packet.now (same_store c.self.view_is) c.self.invariant c.requires.0 c.requires.1 in
     let segs = ap (λ h. h.segs) c.first_header-segs.ensures in
-    (part _ _ c.args.packet.now c.self.view_is c.self.invariant c.requires.0 _ c.loop-i.i c.requires.1 (omega (arith, c.loop-i-test.true, many, segs)) (c.loop-i.invariant c.requires.0 c.requires.1).0).object
+    (part _ _ c.args.packet.now (same_store c.self.view_is) c.self.invariant c.requires.0 _ c.loop-i.i c.requires.1 (omega (arith, c.loop-i-test.true, many, segs)) (c.loop-i.invariant c.requires.0 c.requires.1).0).object
 
 pub header-buffer-requires : goal.header-buffer-requires
 header-buffer-requires c =
-    let many = many_of _ _ c.args.packet.now c.self.view_is c.self.invariant c.requires.0 c.requires.1 in
+    let many = many_of _ _ c.args.packet.now (same_store c.self.view_is) c.self.invariant c.requires.0 c.requires.1 in
     let segs = ap (λ h. h.segs) c.first_header-segs.ensures in
     rw c.header-segment.ensures
-    (part _ _ c.args.packet.now c.self.view_is c.self.invariant c.requires.0 _ c.loop-i.i c.requires.1 (omega (arith, c.loop-i-test.true, many, segs)) (c.loop-i.invariant c.requires.0 c.requires.1).0).buffer
+    (part _ _ c.args.packet.now (same_store c.self.view_is) c.self.invariant c.requires.0 _ c.loop-i.i c.requires.1 (omega (arith, c.loop-i-test.true, many, segs)) (c.loop-i.invariant c.requires.0 c.requires.1).0).buffer
 
 pub loop-i-preserved : goal.loop-i-preserved
 loop-i-preserved c = λ p has.
-    let many = many_of _ _ c.args.packet.now c.self.view_is c.self.invariant p has in
+    let many = many_of _ _ c.args.packet.now (same_store c.self.view_is) c.self.invariant p has in
     let segs = ap (λ h. h.segs) c.first_header-segs.ensures in
     let b : c.loop-i.i < length p = omega (arith, c.loop-i-test.true, many, segs) in
     let now = c.loop-i.invariant p has in
     let buffer = rw c.header-segment.ensures at c.header-buffer.ensures in
     let one = sym (ap (λ h. h.refs) buffer) ∙ c.if-buffer-ne1.false in (
       rw c.header-segment.ensures (walk_next (header_at c.self.inside.objects) c.loop-i.place c.loop-i.i p b now.0),
-      sole_more _ _ c.args.packet.now c.self.view_is c.self.invariant p c.loop-i.place c.loop-i.i has b now.0 one now.1,
+      sole_more _ _ c.args.packet.now (same_store c.self.view_is) c.self.invariant p c.loop-i.place c.loop-i.i has b now.0 one now.1,
     )
 
 pub returns-then-buffer-ne1 : goal.returns-then-buffer-ne1
 returns-then-buffer-ne1 c = λ p has.
-    let many = many_of _ _ c.args.packet.now c.self.view_is c.self.invariant p has in
+    let many = many_of _ _ c.args.packet.now (same_store c.self.view_is) c.self.invariant p has in
     let segs = ap (λ h. h.segs) c.first_header-segs.ensures in
     let b : c.loop-i.i < length p = omega (arith, c.loop-i-test.true, many, segs) in
     let now = c.loop-i.invariant p has in
     let buffer = rw c.header-segment.ensures at c.header-buffer.ensures in (
       λ t. absurd (cc),
-      λ sole. absurd (sole_not _ _ c.args.packet.now c.self.view_is c.self.invariant p c.loop-i.place c.loop-i.i has b now.0 (λ e. c.if-buffer-ne1.true (ap (λ h. h.refs) buffer ∙ e)) sole),
+      λ sole. absurd (sole_not _ _ c.args.packet.now (same_store c.self.view_is) c.self.invariant p c.loop-i.place c.loop-i.i has b now.0 (λ e. c.if-buffer-ne1.true (ap (λ h. h.refs) buffer ∙ e)) sole),
     )
 
 pub returns : goal.returns
 returns c = λ p has.
-    let many = many_of _ _ c.args.packet.now c.self.view_is c.self.invariant p has in
+    let many = many_of _ _ c.args.packet.now (same_store c.self.view_is) c.self.invariant p has in
     let segs = ap (λ h. h.segs) c.first_header-segs.ensures in
     let now = c.loop-i.invariant p has in
     let none = drop_all c.loop-i.i p (omega (arith, c.loop-i-test.false, many, segs)) in
-    (λ _. now.1 (subst (IsSole (segments_of c.args.self.now)) (sym none) tt), λ _. refl)
+    (λ _. now.1 (subst (IsSole (segments_of c.args.self.now.store)) (sym none) tt), λ _. refl)

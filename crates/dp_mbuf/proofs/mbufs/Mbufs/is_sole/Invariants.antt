@@ -7,4 +7,4 @@ use Rattle.dp_mbuf.proofs.mbufs.Mbufs.is_sole.Given as goal
 
 abbrev pub invariant-loop-i : goal.invariant-loop-i
 invariant-loop-i l =
-    (p : Packet) → Has l.fn.self l.packet p → Linked (header_at l.self-inside.objects) l.place (drop l.i p) × (IsSole (segments_of l.fn.self) (drop l.i p) → IsSole (segments_of l.fn.self) p)
+    (p : Packet) → Has l.fn.self.store l.packet p → Linked (header_at l.self-inside.objects) l.place (drop l.i p) × (IsSole (segments_of l.fn.self.store) (drop l.i p) → IsSole (segments_of l.fn.self.store) p)

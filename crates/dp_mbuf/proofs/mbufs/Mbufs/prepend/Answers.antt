@@ -1,42 +1,43 @@
 use Rattle.std.proofs.Common.{refl, arith}
+use Rattle.dp_mbuf.proofs.Live.{same_store}
 use Rattle.dp_mbuf.proofs.Live.{live_object}
 use Rattle.dp_mbuf.proofs.InHand.{object_after}
 use Rattle.dp_mbuf.proofs.Bytes.{first_part, before_first, prepended_done}
 use Rattle.dp_mbuf.proofs.mbufs.Mbufs.prepend.Goals as goal
 
 pub first_header-head-requires : goal.first_header-head-requires
-first_header-head-requires c = live_object _ _ c.args.packet.now c.self.view_is c.self.invariant (c.requires.0, c.requires.1, tt)
+first_header-head-requires c = live_object _ _ c.args.packet.now (same_store c.self.view_is) c.self.invariant (c.requires.0, c.requires.1, tt)
 
 pub overflow_sub-offset : goal.overflow_sub-offset
-overflow_sub-offset c = before_first _ _ c.args.packet.now c.self.view_is c.self.invariant _ c.args.n c.first_header-head.ensures (c.requires.0, c.requires.1, c.requires.2.0)
+overflow_sub-offset c = before_first _ _ c.args.packet.now (same_store c.self.view_is) c.self.invariant _ c.args.n c.first_header-head.ensures (c.requires.0, c.requires.1, c.requires.2.0)
 
 pub zero-requires-clause-object : goal.zero-requires-clause-object
-zero-requires-clause-object c = (first_part _ _ c.args.packet.now c.self.view_is c.self.invariant _ c.requires.0 c.first_header-head.ensures c.requires.1).object
+zero-requires-clause-object c = (first_part _ _ c.args.packet.now (same_store c.self.view_is) c.self.invariant _ c.requires.0 c.first_header-head.ensures c.requires.1).object
 
 pub zero-requires-clause-fits : goal.zero-requires-clause-fits
 zero-requires-clause-fits c =
-    let b = before_first _ _ c.args.packet.now c.self.view_is c.self.invariant _ c.args.n c.first_header-head.ensures (c.requires.0, c.requires.1, c.requires.2.0) in
-    let f = (first_part _ _ c.args.packet.now c.self.view_is c.self.invariant _ c.requires.0 c.first_header-head.ensures c.requires.1).fits in
+    let b = before_first _ _ c.args.packet.now (same_store c.self.view_is) c.self.invariant _ c.args.n c.first_header-head.ensures (c.requires.0, c.requires.1, c.requires.2.0) in
+    let f = (first_part _ _ c.args.packet.now (same_store c.self.view_is) c.self.invariant _ c.requires.0 c.first_header-head.ensures c.requires.1).fits in
     omega (arith, b, f)
 
 pub overflow_add-head : goal.overflow_add-head
 overflow_add-head c =
-    let b = before_first _ _ c.args.packet.now c.self.view_is c.self.invariant _ c.args.n c.first_header-head.ensures (c.requires.0, c.requires.1, c.requires.2.0) in
-    let f = first_part _ _ c.args.packet.now c.self.view_is c.self.invariant _ c.requires.0 c.first_header-head.ensures c.requires.1 in
+    let b = before_first _ _ c.args.packet.now (same_store c.self.view_is) c.self.invariant _ c.args.n c.first_header-head.ensures (c.requires.0, c.requires.1, c.requires.2.0) in
+    let f = first_part _ _ c.args.packet.now (same_store c.self.view_is) c.self.invariant _ c.requires.0 c.first_header-head.ensures c.requires.1 in
     omega (arith, b, f.fits, f.small)
 
 pub set_header-requires : goal.set_header-requires
 set_header-requires c =
-    rw c.place_of.ensures (object_after _ _ _ c.zero.ensures.specs (live_object _ _ c.args.packet.now c.self.view_is c.self.invariant (c.requires.0, c.requires.1, tt)))
+    rw c.place_of.ensures (object_after _ _ _ c.zero.ensures.specs (live_object _ _ c.args.packet.now (same_store c.self.view_is) c.self.invariant (c.requires.0, c.requires.1, tt)))
 
 pub invariant_of-self : goal.invariant_of-self
 invariant_of-self c =
-    let b = before_first _ _ c.args.packet.now c.self.view_is c.self.invariant _ c.args.n c.first_header-head.ensures (c.requires.0, c.requires.1, c.requires.2.0) in
+    let b = before_first _ _ c.args.packet.now (same_store c.self.view_is) c.self.invariant _ c.args.n c.first_header-head.ensures (c.requires.0, c.requires.1, c.requires.2.0) in
     let set = rw c.place_of.ensures at c.set_header.ensures in
-    (prepended_done _ _ c.args.packet.now c.self.view_is c.self.invariant _ _ _ c.args.n _ c.first_header-head.ensures (c.requires.0, c.requires.1, tt) b refl c.zero.ensures set).0
+    (prepended_done _ _ c.args.packet.now (same_store c.self.view_is) c.self.invariant _ _ _ c.args.n _ c.first_header-head.ensures (c.requires.0, c.requires.1, tt) b refl c.zero.ensures set).0
 
-pub returns : goal.returns
-returns c =
-    let b = before_first _ _ c.args.packet.now c.self.view_is c.self.invariant _ c.args.n c.first_header-head.ensures (c.requires.0, c.requires.1, c.requires.2.0) in
+pub returns-clause-packets : goal.returns-clause-packets
+returns-clause-packets c =
+    let b = before_first _ _ c.args.packet.now (same_store c.self.view_is) c.self.invariant _ c.args.n c.first_header-head.ensures (c.requires.0, c.requires.1, c.requires.2.0) in
     let set = rw c.place_of.ensures at c.set_header.ensures in
-    (prepended_done _ _ c.args.packet.now c.self.view_is c.self.invariant _ _ _ c.args.n _ c.first_header-head.ensures (c.requires.0, c.requires.1, tt) b refl c.zero.ensures set).1
+    (prepended_done _ _ c.args.packet.now (same_store c.self.view_is) c.self.invariant _ _ _ c.args.n _ c.first_header-head.ensures (c.requires.0, c.requires.1, tt) b refl c.zero.ensures set).1

@@ -1,55 +1,63 @@
-use Rattle.std.proofs.Common.{◌≡◌, ◌≤◌, ◌-◌, length, refl, arith}
+use Rattle.std.proofs.Common.{◌≡◌, ◌≤◌, ◌-◌, length, refl, arith, ◌∙◌}
 use Rattle.dp_model.specs.Packets.{available}
 use Rattle.dp_model.specs.Stores.{segments_of}
+use Rattle.dp_mbuf.proofs.InHand.{filled_zones}
+use Rattle.dp_mbuf.proofs.Live.{same_store, same_zones}
 use Rattle.dp_mbuf.proofs.Receiving.{ready, need_is, receiving_start, fill_can, fill_last, fill_done, receive_object, receive_done}
 use Rattle.dp_mbuf.proofs.mbufs.Mbufs.receive.Goals as goal
 
-pub returns-then-available-need : goal.returns-then-available-need
-returns-then-available-need c =
-    let r = ready _ _ c.args.pool (c.room-full.result - 128) _ c.self.view_is c.self.invariant c.requires.room c.room-full.ensures refl in
-    let need = need_is c.args.self.now c.args.pool (c.room-full.result - 128) (length c.args.bytes.now) _ r.is c.count_needed-need.ensures in
+pub returns-then-available-need-clause-packets : goal.returns-then-available-need-clause-packets
+returns-then-available-need-clause-packets c =
+    let r = ready _ _ c.args.pool (c.room-full.result - 128) _ (same_store c.self.view_is) c.self.invariant c.requires.room c.room-full.ensures refl in
+    let need = need_is c.args.self.now.store c.args.pool (c.room-full.result - 128) (length c.args.bytes.now) _ r.is c.count_needed-need.ensures in
     (omega (arith, c.if-available-need.true, c.available.ensures, r.in_pool, need), refl)
 
 pub loop-i-init : goal.loop-i-init
-loop-i-init c =
-    let r = ready _ _ c.args.pool (c.room-full.result - 128) _ c.self.view_is c.self.invariant c.requires.room c.room-full.ensures refl in
-    receiving_start c.args.self.now c.args.pool (c.room-full.result - 128) c.args.bytes.now r.room r.some _ _ _ _ r.whole r.there c.fill_segment-first.ensures.pool r.specs r.buffers r.in_pool c.fill_segment-first.ensures.filled c.behind-rest.ensures
+loop-i-init c = record {
+  packets =
+      let r = ready _ _ c.args.pool (c.room-full.result - 128) _ (same_store c.self.view_is) c.self.invariant c.requires.room c.room-full.ensures refl in
+      receiving_start c.args.self.now.store c.args.pool (c.room-full.result - 128) c.args.bytes.now r.room r.some _ _ _ _ r.whole r.there c.fill_segment-first.ensures.pool r.specs r.buffers r.in_pool c.fill_segment-first.ensures.filled c.behind-rest.ensures;
+  zones = filled_zones _ _ _ _ c.fill_segment-first.ensures.filled ∙ same_zones c.self.view_is;
+}
 
 pub fill_segment-place-requires-clause-some : goal.fill_segment-place-requires-clause-some
 fill_segment-place-requires-clause-some c =
-    let r = ready _ _ c.args.pool (c.room-full.result - 128) _ c.self.view_is c.self.invariant c.requires.room c.room-full.ensures refl in
-    let enough : c.count_needed-need.result ≤ available c.args.self.now.pools (segments_of c.args.self.now) c.args.pool = omega (arith, c.if-available-need.false, c.available.ensures, r.in_pool) in
-    (fill_can c.args.self.now c.args.pool (c.room-full.result - 128) c.args.bytes.now r.room r.some _ _ _ _ _ c.loop-i.invariant c.count_needed-need.result c.loop-i-test.true enough).1
+    let r = ready _ _ c.args.pool (c.room-full.result - 128) _ (same_store c.self.view_is) c.self.invariant c.requires.room c.room-full.ensures refl in
+    let enough : c.count_needed-need.result ≤ available c.args.self.now.store.pools (segments_of c.args.self.now.store) c.args.pool = omega (arith, c.if-available-need.false, c.available.ensures, r.in_pool) in
+    (fill_can c.args.self.now.store c.args.pool (c.room-full.result - 128) c.args.bytes.now r.room r.some _ _ _ _ _ c.loop-i.invariant.packets c.count_needed-need.result c.loop-i-test.true enough).1
 
 pub relink-requires : goal.relink-requires
 relink-requires c =
-    let r = ready _ _ c.args.pool (c.room-full.result - 128) _ c.self.view_is c.self.invariant c.requires.room c.room-full.ensures refl in
-    fill_last c.args.self.now c.args.pool (c.room-full.result - 128) c.args.bytes.now r.room r.some _ _ _ _ _ c.loop-i.invariant _ _ c.fill_segment-place.ensures.pool c.fill_segment-place.ensures.filled
+    let r = ready _ _ c.args.pool (c.room-full.result - 128) _ (same_store c.self.view_is) c.self.invariant c.requires.room c.room-full.ensures refl in
+    fill_last c.args.self.now.store c.args.pool (c.room-full.result - 128) c.args.bytes.now r.room r.some _ _ _ _ _ c.loop-i.invariant.packets _ _ c.fill_segment-place.ensures.pool c.fill_segment-place.ensures.filled
 
 pub loop-i-preserved : goal.loop-i-preserved
-loop-i-preserved c =
-    let r = ready _ _ c.args.pool (c.room-full.result - 128) _ c.self.view_is c.self.invariant c.requires.room c.room-full.ensures refl in
-    fill_done c.args.self.now c.args.pool (c.room-full.result - 128) c.args.bytes.now r.room r.some _ _ _ _ _ c.loop-i.invariant _ _ _ _ c.fill_segment-place.ensures.pool c.fill_segment-place.ensures.filled c.relink.ensures c.behind-rest-in-loop-i.ensures
+loop-i-preserved c = record {
+  packets =
+      let r = ready _ _ c.args.pool (c.room-full.result - 128) _ (same_store c.self.view_is) c.self.invariant c.requires.room c.room-full.ensures refl in
+      fill_done c.args.self.now.store c.args.pool (c.room-full.result - 128) c.args.bytes.now r.room r.some _ _ _ _ _ c.loop-i.invariant.packets _ _ _ _ c.fill_segment-place.ensures.pool c.fill_segment-place.ensures.filled c.relink.ensures c.behind-rest-in-loop-i.ensures;
+  zones = c.relink.ensures.zones ∙ (filled_zones _ _ _ _ c.fill_segment-place.ensures.filled ∙ c.loop-i.invariant.zones);
+}
 
 pub hook-requires : goal.hook-requires
 hook-requires c =
-    let r = ready _ _ c.args.pool (c.room-full.result - 128) _ c.self.view_is c.self.invariant c.requires.room c.room-full.ensures refl in
+    let r = ready _ _ c.args.pool (c.room-full.result - 128) _ (same_store c.self.view_is) c.self.invariant c.requires.room c.room-full.ensures refl in
     let need = c.count_needed-need.ensures in
     let same : c.loop-i.i ≡ c.count_needed-need.result = omega (arith, need, c.loop-i-test.false, c.loop-i.auto.i-end) in
-    receive_object c.args.self.now c.args.pool (c.room-full.result - 128) c.args.bytes.now _ _ _ _ _ _ _ c.loop-i.invariant r need c.requires.fits same
+    receive_object c.args.self.now.store c.args.pool (c.room-full.result - 128) c.args.bytes.now _ _ _ _ _ _ _ c.loop-i.invariant.packets r need c.requires.fits same
 
 pub invariant_of-self : goal.invariant_of-self
 invariant_of-self c =
-    let r = ready _ _ c.args.pool (c.room-full.result - 128) _ c.self.view_is c.self.invariant c.requires.room c.room-full.ensures refl in
+    let r = ready _ _ c.args.pool (c.room-full.result - 128) _ (same_store c.self.view_is) c.self.invariant c.requires.room c.room-full.ensures refl in
     let need = c.count_needed-need.ensures in
     let same : c.loop-i.i ≡ c.count_needed-need.result = omega (arith, need, c.loop-i-test.false, c.loop-i.auto.i-end) in
-    let enough : c.count_needed-need.result ≤ available c.args.self.now.pools (segments_of c.args.self.now) c.args.pool = omega (arith, c.if-available-need.false, c.available.ensures, r.in_pool) in
-    (receive_done c.args.self.now c.args.pool (c.room-full.result - 128) c.args.bytes.now _ _ _ _ _ _ _ c.loop-i.invariant r need c.requires.fits same _ _ enough c.packet_of.ensures c.hook.ensures).0
+    let enough : c.count_needed-need.result ≤ available c.args.self.now.store.pools (segments_of c.args.self.now.store) c.args.pool = omega (arith, c.if-available-need.false, c.available.ensures, r.in_pool) in
+    (receive_done c.args.self.now.store c.args.pool (c.room-full.result - 128) c.args.bytes.now _ _ _ _ _ _ _ c.loop-i.invariant.packets r need c.requires.fits same _ _ enough c.packet_of.ensures c.hook.ensures).0
 
-pub returns : goal.returns
-returns c =
-    let r = ready _ _ c.args.pool (c.room-full.result - 128) _ c.self.view_is c.self.invariant c.requires.room c.room-full.ensures refl in
+pub returns-clause-packets : goal.returns-clause-packets
+returns-clause-packets c =
+    let r = ready _ _ c.args.pool (c.room-full.result - 128) _ (same_store c.self.view_is) c.self.invariant c.requires.room c.room-full.ensures refl in
     let need = c.count_needed-need.ensures in
     let same : c.loop-i.i ≡ c.count_needed-need.result = omega (arith, need, c.loop-i-test.false, c.loop-i.auto.i-end) in
-    let enough : c.count_needed-need.result ≤ available c.args.self.now.pools (segments_of c.args.self.now) c.args.pool = omega (arith, c.if-available-need.false, c.available.ensures, r.in_pool) in
-    (receive_done c.args.self.now c.args.pool (c.room-full.result - 128) c.args.bytes.now _ _ _ _ _ _ _ c.loop-i.invariant r need c.requires.fits same _ _ enough c.packet_of.ensures c.hook.ensures).1
+    let enough : c.count_needed-need.result ≤ available c.args.self.now.store.pools (segments_of c.args.self.now.store) c.args.pool = omega (arith, c.if-available-need.false, c.available.ensures, r.in_pool) in
+    (receive_done c.args.self.now.store c.args.pool (c.room-full.result - 128) c.args.bytes.now _ _ _ _ _ _ _ c.loop-i.invariant.packets r need c.requires.fits same _ _ enough c.packet_of.ensures c.hook.ensures).1

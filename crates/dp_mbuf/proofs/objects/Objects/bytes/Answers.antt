@@ -1,5 +1,5 @@
 use Rattle.std.proofs.Common.{◌≡◌, ◌-◌, sym, ◌∙◌, ap, arith, length, drop}
-use Rattle.dp_mbuf.specs.Pools.{object_in}
+use Rattle.dp_pool.specs.Pools.{object_in}
 use Rattle.dp_mbuf.specs.Objects.{pool_in}
 use Rattle.dp_mbuf.proofs.ObjectLemmas.{bytes_are, room_is}
 use Rattle.std.proofs.lemmas.List.{take_all, length-drop}

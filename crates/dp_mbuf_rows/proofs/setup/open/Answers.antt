@@ -1,0 +1,15 @@
+use Rattle.std.proofs.Common.{◌∙◌, sym}
+use Rattle.dp_mbuf_rows.proofs.RowLemmas.{ready_two, new_over, new_in}
+use Rattle.dp_mbuf_rows.proofs.setup.open.Goals as goal
+
+pub over-mbufs-requires : goal.over-mbufs-requires
+over-mbufs-requires g c =
+    ready_two c.make-one.result c.make-two.result c.args.first.count c.args.second.count c.args.first.room c.args.second.room _ _ c.make-one.ensures.pool c.make-two.ensures.pool c.requires.few c.requires.first.2 c.requires.second.1
+
+pub returns-clause-over : goal.returns-clause-over
+returns-clause-over g c =
+    new_over c.make-one.result c.make-two.result c.over-mbufs.result c.args.first.count c.args.second.count c.args.first.room c.args.second.room _ _ c.make-one.ensures.pool c.make-two.ensures.pool c.requires.first.1 c.requires.second.0 c.over-mbufs.ensures
+
+pub returns-clause-home : goal.returns-clause-home
+returns-clause-home g c =
+    new_in c.make-one.result c.make-two.result c.over-mbufs.result c.args.first.count c.args.second.count c.args.first.room c.args.second.room _ _ _ c.make-one.ensures.pool c.make-two.ensures.pool (sym (c.make-two.ensures.home ∙ c.make-one.ensures.home)) (sym c.make-two.ensures.home) c.over-mbufs.ensures

@@ -1,6 +1,0 @@
-use Rattle.std.proofs.Common.{ap}
-use Rattle.dp_mbuf_rows.proofs.RowLemmas.{over_kept, alloc_kept, receive_kept, clone_kept, append_kept, chain_kept}
-use Rattle.dp_mbuf_rows.proofs.tests.free.Goals as goal
-
-pub returns : goal.returns
-returns g c = over_kept c.args.m.now c.free.new.self (ap (λ s. s.pools) c.free.ensures) c.requires

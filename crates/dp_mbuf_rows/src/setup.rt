@@ -1,0 +1,96 @@
+//! Mbufs over two pools, made and taken apart.
+
+ghost use Rattle.std.specs.Prelude.{◌≡◌, ◌+◌, ◌*◌, ◌<◌, ◌≤◌, length};
+ghost use Rattle.dp_mbuf_rows.specs.Rows.{IsOver, AreIn, SlotIn, IsReadyPool};
+
+use dp_heap::Heap;
+use dp_mbuf::Mbufs;
+use dp_pool::Pool;
+use dp_region::Region;
+use dp_zone::Zones;
+use std::alloc::Global;
+use std::process::Abort;
+
+/// Mbufs over two pools, and what these stand in.
+pub(crate) struct Setup {
+    pub heap: Heap,
+    pub zones: Zones,
+    pub mbufs: Mbufs,
+}
+
+/// How many objects a pool has, for how much room, and what its cache is for.
+#[derive(Clone, Copy)]
+pub(crate) struct Sizes {
+    pub count: u32,
+    pub room: u32,
+    pub cache: u32,
+}
+
+// A pool of mbufs.
+fn make(rt: &impl Abort, heap: &mut Heap, zones: &mut Zones, name: &str, sizes: Sizes) -> Pool
+    requires { sizes.room ≤ 4096 }
+    ensures pool { IsReadyPool sizes.count sizes.room heap.old.home result }
+    ensures home { heap.new.home ≡ heap.old.home }
+{
+    let made = Pool::make(
+        heap,
+        zones,
+        name,
+        sizes.count,
+        sizes.room + 128,
+        sizes.cache,
+    );
+    let pool = made.expect(rt, "a pool");
+    let _ = pool.count();
+    pool
+}
+
+/// Mbufs over two pools of these sizes.
+pub(crate) fn open(rt: &impl Abort, alloc: Global, first: Sizes, second: Sizes) -> Setup
+    requires first { (1 ≤ first.count) × (129 ≤ first.room) × (first.room ≤ 4096) }
+    requires second { (129 ≤ second.room) × (second.room ≤ 4096) }
+    requires few { first.count + second.count ≤ 65535 }
+    ensures over { IsOver result.mbufs.store }
+    ensures home { AreIn result.heap.home result.mbufs.zones }
+{
+    let region = Region::new(alloc, 1_048_576).expect(rt, "memory");
+    let mut heap = Heap::new(region);
+    let mut zones = Zones::new();
+    let one = make(rt, &mut heap, &mut zones, "first", first);
+    let two = make(rt, &mut heap, &mut zones, "second", second);
+    let pools = [Some(one), Some(two), None, None, None, None, None, None];
+    let mbufs = Mbufs::over(pools);
+    Setup { heap, zones, mbufs }
+}
+
+// Gives the zones of a place's pool back.
+fn unmake(slot: Option<Pool>, heap: &mut Heap, zones: &mut Zones)
+    requires { SlotIn heap.old.home slot }
+    ensures { heap.new.home ≡ heap.old.home }
+{
+    if let Some(pool) = slot {
+        pool.unmake(heap, zones);
+    }
+}
+
+/// Takes all apart: there is no packet any more, each pool is whole, and nothing of the heap stays out.
+pub(crate) fn close(rt: &impl Abort, setup: Setup)
+    requires { AreIn setup.heap.home setup.mbufs.zones }
+{
+    let Setup { heap, zones, mbufs } = setup;
+    let (mut heap, mut zones) = (heap, zones);
+    let empty = mbufs.is_empty();
+    assert!(rt; empty, "a packet is left");
+    let [a, b, c, d, e, f, g, h] = mbufs.into_pools();
+    unmake(a, &mut heap, &mut zones);
+    unmake(b, &mut heap, &mut zones);
+    unmake(c, &mut heap, &mut zones);
+    unmake(d, &mut heap, &mut zones);
+    unmake(e, &mut heap, &mut zones);
+    unmake(f, &mut heap, &mut zones);
+    unmake(g, &mut heap, &mut zones);
+    unmake(h, &mut heap, &mut zones);
+    let stats = heap.stats();
+    assert!(rt; stats.busy_count == 0, "a zone is left");
+    heap.close().close();
+}

@@ -1,0 +1,354 @@
+//! A long random walk over two pools, beside a list of packets and their bytes.
+
+ghost use Rattle.std.specs.Prelude.{◌≡◌, ◌<◌, ◌≤◌, length};
+ghost use Rattle.dp_mbuf_rows.specs.Rows.{IsOver};
+
+use crate::calls::{
+    adj, alloc, append, chain, copy, free, free_count, load_one, prepend, receive, refs, rooms,
+    segments, spells, store, trim,
+};
+use crate::setup::{Sizes, close, open};
+use dp_mbuf::Mbufs;
+use dp_model::Packet;
+use std::alloc::{AllocError, Global};
+use std::process::Abort;
+
+// A packet, with the bytes that it must have.
+#[derive(Drop)]
+struct Shadow {
+    packet: Packet,
+    bytes: Vec<u8>,
+}
+
+fn next(seed: &mut u64) -> u64 {
+    *seed = seed
+        .wrapping_mul(6364136223846793005)
+        .wrapping_add(1442695040888963407);
+    *seed >> 33
+}
+
+fn pick(seed: &mut u64, count: usize) -> usize
+    requires { 0 < count }
+    ensures { result < count }
+{
+    (next(seed) % count as u64) as usize
+}
+
+fn pick_pool(seed: &mut u64) -> u32
+    ensures { result < 2 }
+{
+    (next(seed) % 2) as u32
+}
+
+// A number from 0 to this one, if it is small.
+fn pick_up_to(seed: &mut u64, most: u16) -> u16
+    ensures { result ≤ most }
+{
+    (next(seed) % (most.min(9) as u64 + 1)) as u16
+}
+
+fn walk_receive(
+    rt: &impl Abort,
+    alloc: Global,
+    m: &mut Mbufs,
+    shadows: &mut Vec<Shadow>,
+    seed: &mut u64,
+) -> Result<(), AllocError>
+    requires { IsOver m.old.store }
+    ensures over { IsOver m.new.store }
+    ensures zones { m.new.zones ≡ m.old.zones }
+{
+    let mut bytes = Vec::new(alloc);
+    for _ in 0..next(seed) % 150 {
+        bytes.push((next(seed) % 256) as u8)?;
+    }
+    let pool = pick_pool(seed);
+    if let Some(packet) = receive(rt, m, pool, &bytes) {
+        shadows.push(Shadow { packet, bytes })?;
+    }
+    Ok(())
+}
+
+fn walk_alloc(
+    alloc_in: Global,
+    m: &mut Mbufs,
+    shadows: &mut Vec<Shadow>,
+    seed: &mut u64,
+) -> Result<(), AllocError>
+    requires { IsOver m.old.store }
+    ensures over { IsOver m.new.store }
+    ensures zones { m.new.zones ≡ m.old.zones }
+{
+    let pool = pick_pool(seed);
+    if let Some(packet) = alloc(m, pool) {
+        let bytes = Vec::new(alloc_in);
+        shadows.push(Shadow { packet, bytes })?;
+    }
+    Ok(())
+}
+
+fn walk_copy(
+    rt: &impl Abort,
+    m: &mut Mbufs,
+    shadows: &mut Vec<Shadow>,
+    seed: &mut u64,
+) -> Result<(), AllocError>
+    requires { IsOver m.old.store }
+    ensures over { IsOver m.new.store }
+    ensures zones { m.new.zones ≡ m.old.zones }
+{
+    if shadows.is_empty() {
+        return Ok(());
+    }
+    let i = pick(seed, shadows.len());
+    let bytes = shadows[i].bytes.clone()?;
+    let source = shadows[i].packet;
+    let pool = pick_pool(seed);
+    if let Some(packet) = copy(rt, m, &source, pool) {
+        shadows.push(Shadow { packet, bytes })?;
+    }
+    Ok(())
+}
+
+fn walk_free(rt: &impl Abort, m: &mut Mbufs, shadows: &mut Vec<Shadow>, seed: &mut u64)
+    requires { IsOver m.old.store }
+    ensures over { IsOver m.new.store }
+    ensures zones { m.new.zones ≡ m.old.zones }
+{
+    if !shadows.is_empty() {
+        let i = pick(seed, shadows.len());
+        let shadow = shadows.swap_remove(i);
+        let same = spells(rt, m, &shadow.packet, &shadow.bytes);
+        assert!(rt; same, "the bytes of a freed packet");
+        free(rt, m, shadow.packet);
+    }
+}
+
+// Zeros behind, where the last buffer has one reference.
+fn walk_append(
+    rt: &impl Abort,
+    m: &mut Mbufs,
+    shadow: &mut Shadow,
+    seed: &mut u64,
+) -> Result<(), AllocError>
+    requires { IsOver m.old.store }
+    ensures over { IsOver m.new.store }
+    ensures zones { m.new.zones ≡ m.old.zones }
+{
+    let packet = shadow.packet;
+    let count = segments(rt, m, &packet);
+    if count > 0 && refs(rt, m, &packet, count - 1) == 1 {
+        let n = pick_up_to(seed, rooms(rt, m, &packet).1);
+        append(rt, m, &packet, n);
+        for _ in 0..n {
+            shadow.bytes.push(0)?;
+        }
+    }
+    Ok(())
+}
+
+// Zeros in front, where the first buffer has one reference.
+fn walk_prepend(
+    rt: &impl Abort,
+    m: &mut Mbufs,
+    shadow: &mut Shadow,
+    seed: &mut u64,
+) -> Result<(), AllocError>
+    requires { IsOver m.old.store }
+    ensures over { IsOver m.new.store }
+    ensures zones { m.new.zones ≡ m.old.zones }
+{
+    let packet = shadow.packet;
+    if refs(rt, m, &packet, 0) == 1 {
+        let n = pick_up_to(seed, rooms(rt, m, &packet).0);
+        prepend(rt, m, &packet, n);
+        for _ in 0..n {
+            shadow.bytes.insert(0, 0)?;
+        }
+    }
+    Ok(())
+}
+
+fn walk_adj(rt: &impl Abort, m: &mut Mbufs, shadow: &mut Shadow, seed: &mut u64)
+    requires { IsOver m.old.store }
+    ensures over { IsOver m.new.store }
+    ensures zones { m.new.zones ≡ m.old.zones }
+{
+    let packet = shadow.packet;
+    let n = pick_up_to(seed, rooms(rt, m, &packet).2);
+    adj(rt, m, &packet, n);
+    for _ in 0..n {
+        assert!(rt; !shadow.bytes.is_empty());
+        shadow.bytes.remove(0);
+    }
+}
+
+fn walk_trim(rt: &impl Abort, m: &mut Mbufs, shadow: &mut Shadow, seed: &mut u64)
+    requires { IsOver m.old.store }
+    ensures over { IsOver m.new.store }
+    ensures zones { m.new.zones ≡ m.old.zones }
+{
+    let packet = shadow.packet;
+    let n = pick_up_to(seed, rooms(rt, m, &packet).3);
+    trim(rt, m, &packet, n);
+    for _ in 0..n {
+        assert!(rt; shadow.bytes.pop().is_some());
+    }
+}
+
+// A byte of the first segment is read, and another written where its buffer has one reference.
+fn walk_store(rt: &impl Abort, m: &mut Mbufs, shadow: &mut Shadow, seed: &mut u64)
+    requires { IsOver m.old.store }
+    ensures over { IsOver m.new.store }
+    ensures zones { m.new.zones ≡ m.old.zones }
+{
+    let packet = shadow.packet;
+    let len = rooms(rt, m, &packet).2;
+    if len == 0 {
+        return;
+    }
+    let place = pick(seed, len as usize);
+    assert!(rt; place < shadow.bytes.len());
+    let byte = load_one(rt, m, &packet, place as u64);
+    assert_eq!(rt; byte, shadow.bytes[place] as u64);
+    if refs(rt, m, &packet, 0) == 1 {
+        let byte = (next(seed) % 256) as u8;
+        store(rt, m, &packet, place as u64, byte);
+        shadow.bytes[place] = byte;
+    }
+}
+
+fn walk_chain(
+    rt: &impl Abort,
+    m: &mut Mbufs,
+    shadows: &mut Vec<Shadow>,
+    seed: &mut u64,
+) -> Result<(), AllocError>
+    requires { IsOver m.old.store }
+    ensures over { IsOver m.new.store }
+    ensures zones { m.new.zones ≡ m.old.zones }
+{
+    if shadows.len() < 2 {
+        return Ok(());
+    }
+    let i = pick(seed, shadows.len());
+    let tail = shadows.swap_remove(i);
+    let j = pick(seed, shadows.len());
+    let head = shadows[j].packet;
+    if segments(rt, m, &head) > 30 || segments(rt, m, &tail.packet) > 30 {
+        shadows.push(tail)?;
+        return Ok(());
+    }
+    chain(rt, m, &head, tail.packet);
+    let shadow = &mut shadows[j];
+    for byte in &tail.bytes {
+        shadow.bytes.push(*byte)?;
+    }
+    Ok(())
+}
+
+// A change of one packet.
+fn walk_change(
+    rt: &impl Abort,
+    m: &mut Mbufs,
+    shadow: &mut Shadow,
+    seed: &mut u64,
+) -> Result<(), AllocError>
+    requires { IsOver m.old.store }
+    ensures over { IsOver m.new.store }
+    ensures zones { m.new.zones ≡ m.old.zones }
+{
+    match next(seed) % 5 {
+        0 => walk_append(rt, m, shadow, seed),
+        1 => walk_prepend(rt, m, shadow, seed),
+        2 => {
+            walk_adj(rt, m, shadow, seed);
+            Ok(())
+        }
+        3 => {
+            walk_trim(rt, m, shadow, seed);
+            Ok(())
+        }
+        _ => {
+            walk_store(rt, m, shadow, seed);
+            Ok(())
+        }
+    }
+}
+
+fn walk_one(
+    rt: &impl Abort,
+    m: &mut Mbufs,
+    shadows: &mut Vec<Shadow>,
+    seed: &mut u64,
+) -> Result<(), AllocError>
+    requires { IsOver m.old.store }
+    ensures over { IsOver m.new.store }
+    ensures zones { m.new.zones ≡ m.old.zones }
+{
+    if shadows.is_empty() {
+        return Ok(());
+    }
+    let i = pick(seed, shadows.len());
+    let shadow = &mut shadows[i];
+    walk_change(rt, m, shadow, seed)
+}
+
+fn step(
+    rt: &impl Abort,
+    alloc: Global,
+    m: &mut Mbufs,
+    shadows: &mut Vec<Shadow>,
+    seed: &mut u64,
+) -> Result<(), AllocError>
+    requires { IsOver m.old.store }
+    ensures over { IsOver m.new.store }
+    ensures zones { m.new.zones ≡ m.old.zones }
+{
+    match next(seed) % 12 {
+        0 | 1 => walk_receive(rt, alloc, m, shadows, seed),
+        2 => walk_alloc(alloc, m, shadows, seed),
+        3 | 4 => walk_copy(rt, m, shadows, seed),
+        5 => walk_chain(rt, m, shadows, seed),
+        6 | 7 => {
+            walk_free(rt, m, shadows, seed);
+            Ok(())
+        }
+        _ => walk_one(rt, m, shadows, seed),
+    }
+}
+
+// All packets have the bytes that they must have.
+fn compare(rt: &impl Abort, m: &Mbufs, shadows: &[Shadow]) {
+    for shadow in shadows {
+        let same = spells(rt, m, &shadow.packet, &shadow.bytes);
+        assert!(rt; same, "the bytes of a packet");
+    }
+}
+
+#[test]
+fn a_random_walk_ends_with_whole_pools(rt: HostRuntime) {
+    let first = Sizes {
+        count: 40,
+        room: 168,
+        cache: 8,
+    };
+    let second = Sizes {
+        count: 23,
+        room: 300,
+        cache: 0,
+    };
+    let mut s = open(&rt, rt.alloc(), first, second);
+    let m = &mut s.mbufs;
+    let mut shadows = Vec::new(rt.alloc());
+    let mut seed = 20261122u64;
+    for _ in 0..10000 {
+        step(&rt, rt.alloc(), m, &mut shadows, &mut seed).expect(&rt, "memory");
+        compare(&rt, m, &shadows);
+    }
+    for _ in 0..shadows.len() {
+        walk_free(&rt, m, &mut shadows, &mut seed);
+    }
+    assert_eq!(rt; (free_count(m, 0), free_count(m, 1)), (40, 23));
+    close(&rt, s);
+}
