@@ -9,6 +9,7 @@ pub mod Taking
 pub mod Turning
 pub mod Draining
 pub mod Writing
+pub mod Devices
 pub mod Listed
 pub mod Plains
 pub mod Attaching

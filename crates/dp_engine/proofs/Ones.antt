@@ -1,8 +1,8 @@
 -- What holds while a run of one port goes on.
-use Rattle.std.proofs.Common.{◌≡◌, ℕ, zero, suc, ◌+◌, ◌<◌, ◌≤◌, List, [], ◌∷◌, ◌++◌, length, take, map, replicate, Option, None, Some, Bool, true, refl, sym, ap, ◌∙◌, subst, append_assoc, append-nil, inr, inl, arith}
+use Rattle.std.proofs.Common.{◌≡◌, ℕ, zero, suc, ◌+◌, ◌<◌, ◌≤◌, List, [], ◌∷◌, ◌++◌, length, take, map, replicate, Option, None, Some, Bool, true, refl, sym, ap, ◌∙◌, subst, append_assoc, append-nil, inr, inl, arith, rules}
 use Rattle.std.specs.Prelude.{Ok, Err, ⊤, Result, is_err, IfOk, IfErr, false}
 use Rattle.std.specs.List.{flat_map}
-use Rattle.std.proofs.lemmas.List.{map-append}
+use Rattle.std.proofs.lemmas.List.{map-append, places}
 use Rattle.std.proofs.lemmas.List.Concat.{flat_map-append}
 use Rattle.std.proofs.KnownBytes.{Appends-trans}
 use Rattle.std.specs.Io.KnownBytes.{Appends}
@@ -14,11 +14,12 @@ use Rattle.dp_pcap.specs.Standing.{Standing}
 use Rattle.dp_pcap.specs.declared.source.Next.TheVariants.{Record}
 use Rattle.dp_pcap.specs.Capture.{PacketRecord as Packet}
 use Rattle.dp_pcap.specs.Source.{WhereKnown, HasRead, Continues, IsInRange, Moves, advanced}
-use Rattle.dp_pcap.specs.Text.{header_text, record_text, text, AppendsPart}
+use Rattle.dp_pcap.specs.Text.{header_text, head_text, record_text, text, AppendsPart}
 use Rattle.dp_model.specs.declared.instr.Instr.{Instr}
 use Rattle.dp_model.specs.Machine.{Setting, World}
 use Rattle.dp_model.specs.Runs.{Nodes, Arrival, Outcome, Turn, Run, joined, records_at, with_empty_outboxes}
-use Rattle.dp_engine.specs.Drains.{captured}
+use Rattle.dp_engine.specs.Devices.{IsCalledFor, IsCalledIn}
+use Rattle.dp_engine.specs.Drains.{captured, Written}
 use Rattle.dp_engine.specs.Turns.{EngineState}
 use Rattle.dp_engine.specs.Ones.{RunsOn, IsRun, arrival_of}
 use Rattle.dp_engine.specs.Drains.{WrotePart}
@@ -28,6 +29,7 @@ use Rattle.std.proofs.Math.Seq.{take-append-add}
 use Rattle.dp_engine.specs.declared.one.OneCause.TheVariants.{In, Out}
 use Rattle.dp_engine.specs.declared.report.Tallies.{Tallies}
 use Rattle.dp_engine.specs.Tallies.{Tallied, how_many, is_got, is_nobuf, is_oversize, counted}
+use Rattle.dp_engine.proofs.Devices.{length_head, called_front}
 use Rattle.dp_engine.proofs.Writing.{AppendsPart-after}
 use Rattle.dp_model.specs.Runs as runs
 
@@ -117,7 +119,7 @@ tallied_more from old turned new outcomes o sent more t is becomes =
 
 -- ---- records that were read, and a run on them that was written so far
 
-pub record Going (e e' : EngineState) (a b c d : Option (List ℕ)) (source : Standing) (unit : TimeUnit) : Type 0 where
+pub record Going (e e' : EngineState) (a b c d : Option (List ℕ)) (source : Standing) (unit : TimeUnit) (pulls pulls' pushes pushes' : ℕ) : Type 0 where
   pub packets : List Packet
   pub sent : List Packet
   pub outcomes : List Outcome
@@ -129,9 +131,15 @@ pub record Going (e e' : EngineState) (a b c d : Option (List ℕ)) (source : St
   pub setting : e'.setting ≡ e.setting
   pub nodes : e'.nodes ≡ e.nodes
   pub wrote : Appends c d (text unit sent)
+  pub reader : pulls' ≤ pulls + length (text unit packets)
+  pub writer : pushes' ≤ pushes + length (text unit sent)
 
-pub begun : (e : EngineState) (a b c d : Option (List ℕ)) (source : Standing) (unit : TimeUnit) → length e.setting.env.ports ≡ 1 → source.is_open ≡ true → unit ≡ source.unit → WhereKnown a b (λ bytes left. HasRead bytes source [] left) → Appends c d (header_text unit) → Going e e a b c d source unit
-begun e a b c d source unit one may_follow same read wrote = record {
+length_none : (unit : TimeUnit) → length (text unit []) ≡ 24
+unfolding header_text
+length_none unit = refl
+
+pub begun : (e : EngineState) (a b c d : Option (List ℕ)) (source : Standing) (unit : TimeUnit) (pulls pulls' pushes pushes' : ℕ) → length e.setting.env.ports ≡ 1 → source.is_open ≡ true → unit ≡ source.unit → WhereKnown a b (λ bytes left. HasRead bytes source [] left) → Appends c d (header_text unit) → pulls' ≤ pulls + 24 → pushes' ≤ pushes + 24 → Going e e a b c d source unit pulls pulls' pushes pushes'
+begun e a b c d source unit pulls pulls' pushes pushes' one may_follow same read wrote reader writer = record {
   packets = [];
   sent = [];
   outcomes = [];
@@ -143,6 +151,8 @@ begun e a b c d source unit one may_follow same read wrote = record {
   setting = refl;
   nodes = refl;
   wrote = rw (append-nil (header_text unit)) wrote;
+  reader = omega (arith, reader, length_none unit);
+  writer = omega (arith, writer, length_none unit);
 }
 
 known_joined : (a b c : Option (List ℕ)) (P Q S : List ℕ → List ℕ → Type 0) → WhereKnown a b P → WhereKnown b c Q → ((x y z : List ℕ) → P x y → Q y z → S x z) → WhereKnown a c S
@@ -152,7 +162,7 @@ known_joined (Some x) (Some y) None P Q S p q f = absurd q
 known_joined (Some x) (Some y) (Some z) P Q S p q f = f x y z p q
 
 -- a record was read, a turn taken
-pub record Turned (e : EngineState) (old turned : Tallies) (a b' c d : Option (List ℕ)) (new : Standing) (unit : TimeUnit) (time : Time) (mid : World) : Type 0 where
+pub record Turned (e : EngineState) (old turned : Tallies) (a b' c d : Option (List ℕ)) (new : Standing) (unit : TimeUnit) (time : Time) (mid : World) (pulls pulls' pushes pushes' : ℕ) : Type 0 where
   pub packets : List Packet
   pub sent : List Packet
   pub before : List Outcome
@@ -164,11 +174,31 @@ pub record Turned (e : EngineState) (old turned : Tallies) (a b' c d : Option (L
   pub tallied : Tallied e.tallies old before (length sent)
   pub counts : turned ≡ counted outcome old
   pub wrote : Appends c d (text unit sent)
+  pub reader : pulls' ≤ pulls + length (text unit packets)
+  pub writer : pushes' ≤ pushes + length (text unit sent)
 
-pub turned : (e e' : EngineState) (a b b' c d : Option (List ℕ)) (old new : Standing) (unit : TimeUnit) (buf : List ℕ) (time : Time) (len : ℕ) (outcome : Outcome) (many : ℕ) (now : List Bool) (mid : World) (t : Tallies)
-    → Going e e' a b c d old unit → WhereKnown b b' (λ left rest. Continues old new left rest buf (Ok (Record time len))) → new ≡ advanced old len
-    → Turn e'.setting e'.nodes 0 (take len buf) e'.world outcome many now mid → t ≡ counted outcome e'.tallies → Turned e e'.tallies t a b' c d new unit time mid
-turned e e' a b b' c d old new unit buf time len outcome many now mid t going more moved turn counts =
+length_more : (unit : TimeUnit) (sent more : List Packet) → length (text unit (sent ++ more)) ≡ length (text unit sent) + length (flat_map (record_text unit) more)
+length_more unit sent more = ap length (sym (text-more unit sent more)) ∙ length-append (text unit sent) (flat_map (record_text unit) more)
+
+-- one record more was read
+read_more : (unit : TimeUnit) (packets : List Packet) (time : Time) (buf : List ℕ) (len pulls pulls' pulls2 : ℕ) → len ≤ length buf → pulls' ≤ pulls + length (text unit packets) → pulls2 ≤ pulls' + (16 + len) → pulls2 ≤ pulls + length (text unit (packets ++ record { time = time; bytes = take len buf } ∷ []))
+read_more unit packets time buf len pulls pulls' pulls2 fits before now =
+    let taken : length (take len buf) ≡ len = search (rules, places) in
+    omega (
+      arith,
+      before,
+      now,
+      taken,
+      length_more unit packets (record { time = time; bytes = take len buf } ∷ []),
+      length_head unit time (length (take len buf)),
+      length-append (head_text unit time (length (take len buf))) (take len buf),
+      length-append (record_text unit (record { time = time; bytes = take len buf })) [],
+    )
+
+pub turned : (e e' : EngineState) (a b b' c d : Option (List ℕ)) (old new : Standing) (unit : TimeUnit) (buf : List ℕ) (time : Time) (len : ℕ) (outcome : Outcome) (many : ℕ) (now : List Bool) (mid : World) (t : Tallies) (pulls pulls' pulls2 pushes pushes' : ℕ)
+    → Going e e' a b c d old unit pulls pulls' pushes pushes' → WhereKnown b b' (λ left rest. Continues old new left rest buf (Ok (Record time len))) → new ≡ advanced old len
+    → Turn e'.setting e'.nodes 0 (take len buf) e'.world outcome many now mid → t ≡ counted outcome e'.tallies → len ≤ length buf → pulls2 ≤ pulls' + (16 + len) → Turned e e'.tallies t a b' c d new unit time mid pulls pulls2 pushes pushes'
+turned e e' a b b' c d old new unit buf time len outcome many now mid t pulls pulls' pulls2 pushes pushes' going more moved turn counts fits called =
     let p : Packet = record { time = time; bytes = take len buf } in
     let t1 : Turn e.setting e'.nodes 0 (take len buf) e'.world outcome many now mid = subst (λ s. Turn s e'.nodes 0 (take len buf) e'.world outcome many now mid) going.setting turn in
     let t2 : Turn e.setting e.nodes 0 (take len buf) e'.world outcome many now mid = subst (λ n. Turn e.setting n 0 (take len buf) e'.world outcome many now mid) going.nodes t1 in
@@ -184,11 +214,25 @@ turned e e' a b b' c d old new unit buf time len outcome many now mid t going mo
       tallied = going.tallied;
       counts = counts;
       wrote = going.wrote;
+      reader = read_more unit going.packets time buf len pulls pulls' pulls2 fits going.reader called;
+      writer = going.writer;
     }
 
+-- what a drain at most calls, added to what was called before
+pub written_more : (unit : TimeUnit) (sent more : List Packet) (many pushes pushes' pushes2 : ℕ) → pushes' ≤ pushes + length (text unit sent) → IsCalledFor pushes' pushes2 unit (take (many + 1) more) → pushes2 ≤ pushes + length (text unit (sent ++ more))
+written_more unit sent more many pushes pushes' pushes2 before now =
+    omega (arith, before, called_front pushes' pushes2 [] (record_text unit) more (many + 1) now, length_more unit sent more)
+
+-- of the records of a drain
+pub at_records : (unit : TimeUnit) (time : Time) (w : World) (records : List (Time × List ℕ)) (P : List Packet → Type 0) → records_at time w ≡ records ∷ [] → Written unit time w P → P (map captured records)
+at_records unit time w records P at (others, at', p) = subst (λ r. P (map captured r)) (same_first _ _ (sym at' ∙ at)) p
+  where
+    same_first : (x y : List (Time × List ℕ)) → x ∷ [] ≡ y ∷ [] → x ≡ y
+    same_first x y e = cc
+
 -- and drained
-pub drained_on : (e e2 : EngineState) (old t : Tallies) (a b' c d d' : Option (List ℕ)) (new : Standing) (unit : TimeUnit) (time : Time) (mid : World) (records : List (Time × List ℕ)) (many : ℕ) → Turned e old t a b' c d new unit time mid → records_at time mid ≡ records ∷ [] → many ≡ length (map captured records) → Appends d d' (flat_map (record_text unit) (map captured records)) → e2.world ≡ with_empty_outboxes mid → e2.setting ≡ e.setting → e2.nodes ≡ e.nodes → e2.tallies ≡ record t { sent = t.sent + many } → Going e e2 a b' c d' new unit
-drained_on e e2 old t a b' c d d' new unit time mid records many u at count wrote world setting nodes tallies = record {
+pub drained_on : (e e2 : EngineState) (old t : Tallies) (a b' c d d' : Option (List ℕ)) (new : Standing) (unit : TimeUnit) (time : Time) (mid : World) (records : List (Time × List ℕ)) (many pulls pulls' pushes pushes' pushes2 : ℕ) → Turned e old t a b' c d new unit time mid pulls pulls' pushes pushes' → records_at time mid ≡ records ∷ [] → many ≡ length (map captured records) → Appends d d' (flat_map (record_text unit) (map captured records)) → e2.world ≡ with_empty_outboxes mid → e2.setting ≡ e.setting → e2.nodes ≡ e.nodes → e2.tallies ≡ record t { sent = t.sent + many } → IsCalledFor pushes' pushes2 unit (take (many + 1) (map captured records)) → Going e e2 a b' c d' new unit pulls pulls' pushes pushes2
+drained_on e e2 old t a b' c d d' new unit time mid records many pulls pulls' pushes pushes' pushes2 u at count wrote world setting nodes tallies called = record {
   packets = u.packets;
   sent = u.sent ++ map captured records;
   outcomes = u.before ++ u.outcome ∷ [];
@@ -200,6 +244,8 @@ drained_on e e2 old t a b' c d d' new unit time mid records many u at count wrot
   setting = setting;
   nodes = nodes;
   wrote = rw (← text-more unit u.sent (map captured records)) (Appends-trans c d d' _ _ u.wrote wrote);
+  reader = u.reader;
+  writer = written_more unit u.sent (map captured records) many pushes pushes' pushes2 u.writer called;
 }
 
 kept : (o : Option (List ℕ)) → WhereKnown o o (λ _ _. ⊤)
@@ -212,8 +258,8 @@ get_behind (x ∷ xs) ys i y e =
     let n : suc (length xs) + i ≡ suc (length xs + i) = omega arith in
     ap (slice_get (x ∷ (xs ++ ys))) n ∙ get_behind xs ys i y e
 
-pub drain_failed : (e e2 : EngineState) (old t : Tallies) (a b' c d d' : Option (List ℕ)) (new : Standing) (unit : TimeUnit) (time : Time) (mid : World) (records : List (Time × List ℕ)) (many : ℕ) → Turned e old t a b' c d new unit time mid → records_at time mid ≡ records ∷ [] → WrotePart d d' unit (map captured records) many → e2.world ≡ with_empty_outboxes mid → e2.tallies ≡ record t { sent = t.sent + many } → IsRun e e2 a b' c d' (Err Out)
-drain_failed e e2 old t a b' c d d' new unit time mid records many u at part world tallies =
+pub drain_failed : (e e2 : EngineState) (old t : Tallies) (a b' c d d' : Option (List ℕ)) (new : Standing) (unit : TimeUnit) (time : Time) (mid : World) (records : List (Time × List ℕ)) (many pulls pulls' pushes pushes' : ℕ) → Turned e old t a b' c d new unit time mid pulls pulls' pushes pushes' → records_at time mid ≡ records ∷ [] → WrotePart d d' unit (map captured records) many → e2.world ≡ with_empty_outboxes mid → e2.tallies ≡ record t { sent = t.sent + many } → IsRun e e2 a b' c d' (Err Out)
+drain_failed e e2 old t a b' c d d' new unit time mid records many pulls pulls' pushes pushes' u at part world tallies =
     let more : List Packet = map captured records in
     let whole : text unit (take (length u.sent + many) (u.sent ++ more)) ≡ text unit u.sent ++ flat_map (record_text unit) (take many more) =
     ap (text unit) (take-append-add u.sent more many) ∙ sym (text-more unit u.sent (take many more)) in
@@ -244,21 +290,49 @@ header_failed e a b c d source unit one read same wrote = (
   inl (refl, refl, wrote),
 )
 
-pub refused : (e e' : EngineState) (a b b' c d : Option (List ℕ)) (old new : Standing) (unit : TimeUnit) (buf : List ℕ) (error : PcapError) → Going e e' a b c d old unit
+pub refused : (e e' : EngineState) (a b b' c d : Option (List ℕ)) (old new : Standing) (unit : TimeUnit) (buf : List ℕ) (error : PcapError) (pulls pulls' pushes pushes' : ℕ) → Going e e' a b c d old unit pulls pulls' pushes pushes'
     → WhereKnown b b' (λ left rest. Continues old new left rest buf (Err error)) → IsInRange old (Err error) → IsRun e e' a b' c d (Err (In error))
-refused e e' a b b' c d old new unit buf BadTime going more fits =
+refused e e' a b b' c d old new unit buf BadTime pulls pulls' pushes pushes' going more fits =
     inr (unit, going.packets, going.sent, going.outcomes, known_joined a b b' _ _ _ going.read more (λ x y z had goes. rw (← going.same_unit) (goes x going.packets had)), going.runs, going.tallied, going.wrote)
-refused e e' a b b' c d old new unit buf TooLong going more fits =
+refused e e' a b b' c d old new unit buf TooLong pulls pulls' pushes pushes' going more fits =
     inr (unit, going.packets, going.sent, going.outcomes, known_joined a b b' _ _ _ going.read more (λ x y z had goes. rw (← going.same_unit) (goes x going.packets had)), going.runs, going.tallied, going.wrote)
-refused e e' a b b' c d old new unit buf TooMany going more fits =
+refused e e' a b b' c d old new unit buf TooMany pulls pulls' pushes pushes' going more fits =
     inr (unit, going.packets, going.sent, going.outcomes, known_joined a b b' _ _ _ going.read more (λ x y z had goes. rw (← going.same_unit) (goes x going.packets had)), going.runs, going.tallied, going.wrote)
-refused e e' a b b' c d old new unit buf Read going more fits =
+refused e e' a b b' c d old new unit buf Read pulls pulls' pushes pushes' going more fits =
     inr (unit, going.packets, going.sent, going.outcomes, known_joined a b b' _ _ _ going.read more (λ x y z had _. (old, y, had, going.same_unit)), going.runs, going.tallied, going.wrote)
-refused e e' a b b' c d old new unit buf BadMagic going more fits = absurd fits
-refused e e' a b b' c d old new unit buf BadVersion going more fits = absurd fits
-refused e e' a b b' c d old new unit buf BadLink going more fits = absurd fits
-refused e e' a b b' c d old new unit buf ShortHeader going more fits = absurd fits
-refused e e' a b b' c d old new unit buf Write going more fits = absurd fits
+refused e e' a b b' c d old new unit buf BadMagic pulls pulls' pushes pushes' going more fits = absurd fits
+refused e e' a b b' c d old new unit buf BadVersion pulls pulls' pushes pushes' going more fits = absurd fits
+refused e e' a b b' c d old new unit buf BadLink pulls pulls' pushes pushes' going more fits = absurd fits
+refused e e' a b b' c d old new unit buf ShortHeader pulls pulls' pushes pushes' going more fits = absurd fits
+refused e e' a b b' c d old new unit buf Write pulls pulls' pushes pushes' going more fits = absurd fits
+
+-- ---- how often the devices were called
+
+-- the writer failed at the header
+pub called_header : (e : EngineState) (a b : Option (List ℕ)) (source : Standing) (unit : TimeUnit) (pulls pulls' pushes pushes' : ℕ) → length e.setting.env.ports ≡ 1 → WhereKnown a b (λ bytes rest. HasRead bytes source [] rest) → unit ≡ source.unit → pulls' ≤ pulls + 24 → pushes' ≤ pushes + 24 → IsCalledIn e e a b pulls pulls' pushes pushes' 0
+called_header e a b source unit pulls pulls' pushes pushes' one read same reader writer = record {
+  unit = unit;
+  packets = [];
+  sent = [];
+  outcomes = [];
+  read = known_joined a b b _ (λ _ _. ⊤) _ read (kept b) (λ x y z had _. (source, y, had, sym same));
+  runs = ran_none e one;
+  reader = omega (arith, reader, length_none unit);
+  writer = omega (arith, writer, length_none unit);
+}
+
+-- the writer failed behind a turn
+pub called_drain : (e e2 : EngineState) (old t : Tallies) (a b' c d : Option (List ℕ)) (new : Standing) (unit : TimeUnit) (time : Time) (mid : World) (records : List (Time × List ℕ)) (many pulls pulls' pushes pushes' pushes2 : ℕ) → Turned e old t a b' c d new unit time mid pulls pulls' pushes pushes' → records_at time mid ≡ records ∷ [] → e2.world ≡ with_empty_outboxes mid → IsCalledFor pushes' pushes2 unit (take (many + 1) (map captured records)) → IsCalledIn e e2 a b' pulls pulls' pushes pushes2 0
+called_drain e e2 old t a b' c d new unit time mid records many pulls pulls' pushes pushes' pushes2 u at world called = record {
+  unit = unit;
+  packets = u.packets;
+  sent = u.sent ++ map captured records;
+  outcomes = u.before ++ u.outcome ∷ [];
+  read = known_joined a b' b' _ (λ _ _. ⊤) _ u.read (kept b') (λ x y z had _. (new, y, had, u.same_unit));
+  runs = rw world (u.runs records at);
+  reader = omega (arith, u.reader);
+  writer = written_more unit u.sent (map captured records) many pushes pushes' pushes2 u.writer called;
+}
 
 pub ok_some : {A E : Type 0} (r : Result A E) (P : A → Type 0) → false ≡ is_err r → IfOk r P → (x : A) × (r ≡ Ok x) × P x
 ok_some (Ok x) P e h = (x, refl, h)

@@ -50,11 +50,13 @@ pieces f (y ∷ xs) (suc i) x e =
 
 -- ---- one piece more
 
+pub piece_more : {A : Type 0} (head : List ℕ) (f : A → List ℕ) (xs : List A) (i : ℕ) (x : A) → slice_get xs i ≡ Some x → (head ++ flat_map f (take i xs)) ++ f x ≡ head ++ flat_map f (take (i + 1) xs)
+piece_more head f xs i x here =
+    append_assoc head (flat_map f (take i xs)) (f x) ∙ ap (λ l. head ++ l) (ap (λ l. flat_map f (take i xs) ++ l) (sym (append-nil (f x))) ∙ sym (flat_map-append f (take i xs) (x ∷ [])) ∙ ap (flat_map f) (sym (take_more xs i x here))) ∙ ap (λ n. head ++ flat_map f (take n xs)) (sym (add-one i))
+
 pub appends_piece : {A : Type 0} (a b d : Option (List ℕ)) (head : List ℕ) (f : A → List ℕ) (xs : List A) (i : ℕ) (x : A) (bytes : List ℕ) → slice_get xs i ≡ Some x → bytes ≡ f x → Appends a b (head ++ flat_map f (take i xs)) → Appends b d bytes → Appends a d (head ++ flat_map f (take (i + 1) xs))
 appends_piece a b d head f xs i x bytes here is before now =
-    let e : (head ++ flat_map f (take i xs)) ++ f x ≡ head ++ flat_map f (take (i + 1) xs) =
-    append_assoc head (flat_map f (take i xs)) (f x) ∙ ap (λ l. head ++ l) (ap (λ l. flat_map f (take i xs) ++ l) (sym (append-nil (f x))) ∙ sym (flat_map-append f (take i xs) (x ∷ [])) ∙ ap (flat_map f) (sym (take_more xs i x here))) ∙ ap (λ n. head ++ flat_map f (take n xs)) (sym (add-one i)) in
-    subst (Appends a d) e (Appends-trans a b d (head ++ flat_map f (take i xs)) (f x) before (subst (Appends b d) is now))
+    subst (Appends a d) (piece_more head f xs i x here) (Appends-trans a b d (head ++ flat_map f (take i xs)) (f x) before (subst (Appends b d) is now))
 
 -- the whole of xs, and then a part of ys
 pub AppendsPart-after : (a b c : Option (List ℕ)) (xs ys : List ℕ) → Appends a b xs → AppendsPart b c ys → AppendsPart a c (xs ++ ys)
@@ -113,11 +115,11 @@ timed : (time : Time) (buffers : Buffers) (packets : List Packet) → map captur
 timed time buffers [] = refl
 timed time buffers (k ∷ packets) = ap (λ l. packet_record time buffers k ∷ l) (timed time buffers packets)
 
-length_map : {A B : Type 0} (f : A → B) (xs : List A) → length (map f xs) ≡ length xs
+pub length_map : {A B : Type 0} (f : A → B) (xs : List A) → length (map f xs) ≡ length xs
 length_map f [] = refl
 length_map f (x ∷ xs) = let more = length_map f xs in omega (arith, more)
 
-map_take : {A B : Type 0} (f : A → B) (n : ℕ) (xs : List A) → take n (map f xs) ≡ map f (take n xs)
+pub map_take : {A B : Type 0} (f : A → B) (n : ℕ) (xs : List A) → take n (map f xs) ≡ map f (take n xs)
 map_take f zero xs = refl
 map_take f (suc n) [] = refl
 map_take f (suc n) (x ∷ xs) = ap (λ l. f x ∷ l) (map_take f n xs)

@@ -1,4 +1,5 @@
 pub mod Counts
+pub mod Devices
 pub mod Drains
 pub mod Handles
 pub mod Ones

@@ -1,5 +1,5 @@
 //! The engine: turns and drains.
-ghost use Rattle.std.specs.Prelude.{◌≡◌, ℕ, ◌+◌, ◌^◌, ◌<◌, ◌≤◌, Bool, false, List, [], ◌∷◌, length, flat_map, IfOk, IfErr, IsOk, IsErr, IsTrue};
+ghost use Rattle.std.specs.Prelude.{◌≡◌, ℕ, ◌+◌, ◌^◌, ◌<◌, ◌≤◌, Bool, false, List, [], ◌∷◌, length, flat_map, take, MatchResult, IfOk, IfErr, IsOk, IsErr, IsTrue};
 ghost use Rattle.dp_model.specs.Environments.{room_at};
 ghost use Rattle.dp_model.specs.Packets.{Packet, needed as segments_needed};
 ghost use Rattle.dp_model.specs.Runs.{Turn as IsTurn, between};
@@ -7,6 +7,7 @@ ghost use Rattle.dp_model.specs.Machine.{live};
 ghost use Rattle.std.specs.Io.KnownBytes.{Appends};
 ghost use Rattle.dp_pcap.specs.Text.{record_text};
 ghost use Rattle.dp_engine.specs.Drains.{Written, WrotePart, emptied, drained_of, sent_of};
+ghost use Rattle.dp_engine.specs.Devices.{IsCalledFor};
 ghost use Rattle.dp_engine.specs.Tallies.{counted, refused_of};
 ghost use Rattle.dp_engine.specs.Turns.{IsAscending, IsPlainSetup, IsOpened};
 ghost use Rattle.dp_engine.specs.Reports.{IsReport};
@@ -160,6 +161,8 @@ impl<P: PacketLayer> Engine<P> {
         ensures broken { IsErr result → IsTrue (W.is_broken w.new) }
         ensures sound { IsOk result → W.is_broken w.old ≡ false → W.is_broken w.new ≡ false }
         ensures empty { self.new ≡ drained_of self.old (sent_of result) }
+        ensures counted { Written unit time self.old.world (λ records. IsCalledFor (W.calls w.old) (W.calls w.new) unit (take (sent_of result + 1) records)) }
+        ensures failures { MatchResult result (λ _. W.failures w.new ≡ W.failures w.old) (λ _. W.failures w.new ≡ W.failures w.old + 1) }
     {
         let _port = port;
         let outcome = self.machine.put_all(time, unit, w);

@@ -12,11 +12,12 @@ ghost use Rattle.dp_engine.specs.Handles.{moved};
 ghost use Rattle.dp_engine.specs.Steps.{setting_of, with_numbers, ShiftsWithin};
 ghost use Rattle.std.specs.Prelude.{OnOk, OnErr, IfOk, IfErr, IsOk, IsErr, ◌↔◌, false, flat_map};
 ghost use Rattle.std.specs.Io.KnownBytes.{Appends};
-ghost use Rattle.dp_pcap.specs.Text.{AppendsPart, record_text};
+ghost use Rattle.dp_pcap.specs.Text.{AppendsPart, record_text, failed_pushes};
 ghost use Rattle.dp_engine.specs.Drains.{record_of, AtPacket, Written, WrotePart};
+ghost use Rattle.dp_engine.specs.Devices.{IsCalledFor, whole_of};
 ghost use Rattle.dp_engine.specs.Turns.{IsReceived, with_one_call};
 ghost use Rattle.dp_engine.specs.Tallies.{listed_count, packet_count};
-ghost use Rattle.std.specs.Prelude.{MatchResult, slice_get, replicate};
+ghost use Rattle.std.specs.Prelude.{MatchResult, slice_get, replicate, take};
 ghost use Rattle.std.specs.Vec.{vec_capacity};
 ghost use Rattle.dp_model.specs.Packets.{available};
 ghost use Rattle.dp_model.specs.Machine.{live};
@@ -252,6 +253,9 @@ impl<P: PacketLayer> Machine<P> {
         ensures err { OnErr result (AtPacket self.now at (λ k. AppendsPart (W.contents w.old) (W.contents w.new) (record_of unit time self.now.state.world.buffers k))) }
         ensures failed { IsErr result ↔ IsTrue (W.is_broken w.new) }
         ensures stays { IsTrue (W.is_broken w.old) → IsTrue (W.is_broken w.new) }
+        ensures write { IfErr result (λ e. e ≡ PcapError.Write) }
+        ensures counted { AtPacket self.now at (λ k. W.calls w.new ≤ W.calls w.old + length (record_of unit time self.now.state.world.buffers k)) }
+        ensures failures { W.failures w.new ≡ W.failures w.old + failed_pushes result }
     {
         put_packet(&self.layer, Handle::of(self.outbox[at]), time, unit, w)
     }
@@ -277,6 +281,8 @@ impl<P: PacketLayer> Machine<P> {
         ensures broken { IsErr result → IsTrue (W.is_broken w.new) }
         ensures sound { IsOk result → W.is_broken w.old ≡ false → W.is_broken w.new ≡ false }
         ensures most { MatchResult result (λ sent. sent ≤ listed_count self.now.state.world.outboxes) (λ sent. sent ≤ listed_count self.now.state.world.outboxes) }
+        ensures counted { Written unit time self.now.state.world (λ records. IsCalledFor (W.calls w.old) (W.calls w.new) unit (take (whole_of result + 1) records)) }
+        ensures failures { MatchResult result (λ _. W.failures w.new ≡ W.failures w.old) (λ _. W.failures w.new ≡ W.failures w.old + 1) }
     {
         let count = self.queued();
         let mut sent = 0u32;

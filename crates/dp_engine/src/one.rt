@@ -1,8 +1,9 @@
 //! A run of one port, from a capture to a capture.
-ghost use Rattle.std.specs.Prelude.{◌≡◌, ℕ, ◌+◌, ◌^◌, ◌<◌, ◌≤◌, ◌↔◌, false, [], length, IsOk, IsErr, IsErrOf, IfErr, IfSome, IfNone, IsTrue};
+ghost use Rattle.std.specs.Prelude.{◌≡◌, ℕ, ◌+◌, ◌^◌, ◌<◌, ◌≤◌, ◌↔◌, ◌⊎◌, MatchResult, false, [], length, IsOk, IsErr, IsErrOf, IfErr, IsTrue};
 ghost use Rattle.dp_model.specs.Machine.{live};
 ghost use Rattle.dp_model.specs.Runs.{between};
 ghost use Rattle.dp_engine.specs.Ones.{IsRun, OneAnswers, AllFree, state_of};
+ghost use Rattle.dp_engine.specs.Devices.{IsCalledIn, OneCalls, failed_reads, failed_writes, looks};
 ghost use Rattle.dp_engine.specs.Reports.{IsUnopened};
 ghost use Rattle.dp_engine.specs.Turns.{IsPlainSetup};
 
@@ -44,6 +45,9 @@ pub(crate) fn run_records<P: PacketLayer, R: Feed, W: Sink>(
     ensures writer { IsErrOf result OneCause.Out → IsTrue (W.is_broken w.new) }
     ensures sound { IsOk result → W.is_broken w.new ≡ false }
     ensures setting { engine.new.setting ≡ engine.old.setting }
+    ensures pulls { MatchResult result (λ _. R.failures r.new ≡ R.failures r.old) (λ cause. R.failures r.new ≡ R.failures r.old + failed_reads cause) }
+    ensures pushes { MatchResult result (λ _. W.failures w.new ≡ W.failures w.old) (λ cause. W.failures w.new ≡ W.failures w.old + failed_writes cause) }
+    ensures calls { ((R.calls r.new ≤ R.calls r.old + 24) × (w.new ≡ w.old)) ⊎ IsCalledIn engine.old engine.new (R.remaining r.old) (R.remaining r.new) (R.calls r.old) (R.calls r.new) (W.calls w.old) (W.calls w.new) (looks result) }
 {
     let _queued = engine.one_port();
     let mut source = match read_header(r) {
@@ -120,6 +124,10 @@ pub fn run_one<R: Feed, W: Sink>(
     ensures sound { IsOk result → (R.is_broken r.new ≡ false) × (W.is_broken w.new ≡ false) }
     ensures reader { IfErr result (λ f. f.cause ≡ OneCause.In PcapError.Read → IsTrue (R.is_broken r.new)) }
     ensures writer { IfErr result (λ f. f.cause ≡ OneCause.Out → IsTrue (W.is_broken w.new)) }
+    ensures pulls { MatchResult result (λ _. R.failures r.new ≡ R.failures r.old) (λ f. R.failures r.new ≡ R.failures r.old + failed_reads f.cause) }
+    ensures pushes { MatchResult result (λ _. W.failures w.new ≡ W.failures w.old) (λ f. W.failures w.new ≡ W.failures w.old + failed_writes f.cause) }
+    ensures calls { ((R.calls r.new ≤ R.calls r.old + 24) × (w.new ≡ w.old)) ⊎ OneCalls checked (R.remaining r.old) (R.remaining r.new) (R.calls r.old) (R.calls r.new) (W.calls w.old) (W.calls w.new) result }
+    ensures untouched { IfErr result (λ f. f.cause ≡ OneCause.Memory → (r.new ≡ r.old) × (w.new ≡ w.old)) }
 {
     env.within_limits();
     let _program = checked.program();

@@ -1,7 +1,7 @@
 //! Writes the record of a packet, segment by segment.
-ghost use Rattle.std.specs.Prelude.{◌≡◌, ◌<◌, ◌↔◌, OnOk, OnErr, IsErr, IsTrue};
+ghost use Rattle.std.specs.Prelude.{◌≡◌, ◌+◌, ◌<◌, ◌≤◌, ◌↔◌, length, OnOk, OnErr, IfErr, IsErr, IsTrue};
 ghost use Rattle.std.specs.Io.KnownBytes.{Appends};
-ghost use Rattle.dp_pcap.specs.Text.{AppendsPart};
+ghost use Rattle.dp_pcap.specs.Text.{AppendsPart, failed_pushes};
 ghost use Rattle.dp_model.specs.Stores.{IsLive, Of};
 ghost use Rattle.dp_engine.specs.Drains.{record_of};
 
@@ -21,6 +21,9 @@ pub(crate) fn put_packet<P: PacketLayer, W: Sink>(
     ensures err { OnErr result (Of (P.store layer.now) packet (λ k. AppendsPart (W.contents w.old) (W.contents w.new) (record_of unit time (P.store layer.now).buffers k))) }
     ensures failed { IsErr result ↔ IsTrue (W.is_broken w.new) }
     ensures stays { IsTrue (W.is_broken w.old) → IsTrue (W.is_broken w.new) }
+    ensures write { IfErr result (λ e. e ≡ PcapError.Write) }
+    ensures counted { Of (P.store layer.now) packet (λ k. W.calls w.new ≤ W.calls w.old + length (record_of unit time (P.store layer.now).buffers k)) }
+    ensures failures { W.failures w.new ≡ W.failures w.old + failed_pushes result }
 {
     put_head(w, unit, time, layer.length(packet) as usize)?;
     for index in 0..layer.segments(packet) {

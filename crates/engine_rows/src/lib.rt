@@ -2,4 +2,10 @@
 #![tactic(auto)]
 
 #[cfg(test)]
+mod forms;
+#[cfg(test)]
+mod given;
+#[cfg(test)]
+mod refusals;
+#[cfg(test)]
 mod runs;

@@ -5,6 +5,7 @@ use Rattle.dp_engine.specs.declared.report.InputState.TheVariants.{Open}
 use Rattle.dp_engine.specs.Ones.{state_of}
 use Rattle.dp_engine.specs.Reports.{IsReport}
 use Rattle.dp_engine.specs.Turns.{IsPlainSetup, EngineState}
+use Rattle.dp_engine.proofs.Devices.{one_called}
 use Rattle.dp_engine.proofs.Opened.{long}
 use Rattle.dp_engine.proofs.Opening.{ran_is, stopped, whole_report}
 use Rattle.dp_engine.proofs.one.run_one.Goals as goal
@@ -35,3 +36,8 @@ pub returns-in-Ok-outcome-clause-free : goal.returns-in-Ok-outcome-clause-free
 returns-in-Ok-outcome-clause-free g c =
     let env : c.flush.new.self.setting.env ≡ c.args.env.now = ap (λ (e : EngineState). e.setting.env) c.flush.ensures.empty ∙ ap (λ (x : Setting). x.env) (c.run_records-outcome.ensures.setting ∙ c.in-Ok-open_plain.ensures.setting) ∙ c.requires.checked.0 in
     whole_report c.args.env.now c.flush.new.self _ _ env c.flush.ensures.free c.report_with.ensures
+
+pub returns-in-Ok-outcome-clause-calls : goal.returns-in-Ok-outcome-clause-calls
+returns-in-Ok-outcome-clause-calls g c =
+    let reports = subst (λ state. IsReport c.flush.new.self state c.report_with.result) c.state_of.ensures c.report_with.ensures in
+    one_called c.args.checked _ _ _ _ _ _ c.in-Ok-open_plain.engine c.run_records-outcome.new.engine c.in-Ok-outcome.cut c.report_with.result _ c.in-Ok-open_plain.ensures (c.flush.new.self.tallies, reports.ports) c.in-Ok-outcome.ensures.calls

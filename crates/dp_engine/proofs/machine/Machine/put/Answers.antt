@@ -1,4 +1,4 @@
-use Rattle.std.proofs.Common.{◌≡◌, sym, ap, ◌∙◌, subst, arith, rules}
+use Rattle.std.proofs.Common.{◌≡◌, ◌+◌, ◌≤◌, length, sym, ap, ◌∙◌, subst, arith, rules}
 use Rattle.std.proofs.lemmas.Result.{on_ok_weaker, on_err_weaker}
 use Rattle.dp_pcap.specs.Text.{AppendsPart}
 use Rattle.std.specs.Io.KnownBytes.{Appends}
@@ -25,3 +25,9 @@ returns-clause-err g c =
     let has = listed_at _ _ c.self.inside.registers c.self.inside.numbers c.self.inside.outbox.items c.self.inside.calls c.self.inside.steps.count c.args.self.now c.args.at c.of.result c.index.result.now packets k c.self.view_is c.self.invariant box here (c.of.ensures ∙ c.index.ensures) in
     let bytes = buffers_are _ _ c.self.inside.registers c.self.inside.numbers c.self.inside.outbox.items c.self.inside.calls c.self.inside.steps.count c.args.self.now c.self.view_is in
     subst (λ b. AppendsPart (g.W.Sink.contents c.args.w.now) (g.W.Sink.contents c.put_packet.new.w) (record_of c.args.unit c.args.time b k)) bytes (all k has)) c.put_packet.ensures.err
+
+pub returns-clause-counted : goal.returns-clause-counted
+returns-clause-counted g c packets k box here =
+    let has = listed_at _ _ c.self.inside.registers c.self.inside.numbers c.self.inside.outbox.items c.self.inside.calls c.self.inside.steps.count c.args.self.now c.args.at c.of.result c.index.result.now packets k c.self.view_is c.self.invariant box here (c.of.ensures ∙ c.index.ensures) in
+    let bytes = buffers_are _ _ c.self.inside.registers c.self.inside.numbers c.self.inside.outbox.items c.self.inside.calls c.self.inside.steps.count c.args.self.now c.self.view_is in
+    subst (λ b. g.W.Sink.calls c.put_packet.new.w ≤ g.W.Sink.calls c.args.w.now + length (record_of c.args.unit c.args.time b k)) bytes (c.put_packet.ensures.counted k has)
