@@ -8,13 +8,11 @@ The figures of dpv include reading the script and printing its answers.
 """
 import pathlib
 import random
-import re
-import shutil
 import subprocess
 import sys
 import tempfile
 
-from timing import best
+from timing import best, dpdk, instructions
 
 TOP = pathlib.Path(__file__).resolve().parent.parent
 REGION = 1 << 27
@@ -80,27 +78,13 @@ def scripts() -> dict[str, list[str]]:
     }
 
 
-def instructions(command: list[str]) -> int | None:
-    """How many machine instructions a run takes, where perf or valgrind can say so."""
-    tools = {
-        "perf": (["perf", "stat", "-x,", "-e", "instructions:u"], r"^(\d+),"),
-        "valgrind": (["valgrind", "--tool=callgrind", "--callgrind-out-file=/dev/null"], r"Collected : (\d+)"),
-    }
-    for tool, (words, pattern) in tools.items():
-        if shutil.which(tool):
-            run = subprocess.run([*words, *command], stdout=subprocess.DEVNULL, stderr=subprocess.PIPE, text=True)
-            if found := re.search(pattern, run.stderr, re.M):
-                return int(found.group(1))
-    return None
-
-
 def rte(folder: pathlib.Path) -> str | None:
     """The program over rte_malloc, where DPDK is installed."""
-    flags = subprocess.run(["pkg-config", "--cflags", "--libs", "libdpdk"], capture_output=True, text=True) if shutil.which("pkg-config") else None
-    if flags is None or flags.returncode != 0:
+    flags = dpdk()
+    if flags is None:
         return None
     (folder / "rte.c").write_text(RTE)
-    subprocess.run(["cc", "-O2", str(folder / "rte.c"), "-o", str(folder / "rte"), *flags.stdout.split()], check=True)
+    subprocess.run(["cc", "-O2", str(folder / "rte.c"), "-o", str(folder / "rte"), *flags], check=True)
     return str(folder / "rte")
 
 

@@ -1,4 +1,6 @@
 """What the benches share."""
+import re
+import shutil
 import subprocess
 import time
 
@@ -11,3 +13,25 @@ def best(command: list[str]) -> float:
         subprocess.run(command, check=True, stdout=subprocess.DEVNULL)
         times.append(time.perf_counter() - start)
     return min(times)
+
+
+def instructions(command: list[str]) -> int | None:
+    """How many machine instructions a run takes, where perf or valgrind can say so."""
+    tools = {
+        "perf": (["perf", "stat", "-x,", "-e", "instructions:u"], r"^(\d+),"),
+        "valgrind": (["valgrind", "--tool=callgrind", "--callgrind-out-file=/dev/null"], r"Collected : (\d+)"),
+    }
+    for tool, (words, pattern) in tools.items():
+        if shutil.which(tool):
+            run = subprocess.run([*words, *command], stdout=subprocess.DEVNULL, stderr=subprocess.PIPE, text=True)
+            if found := re.search(pattern, run.stderr, re.M):
+                return int(found.group(1))
+    return None
+
+
+def dpdk() -> list[str] | None:
+    """The words with which a C program is compiled over DPDK, where that is installed."""
+    if not shutil.which("pkg-config"):
+        return None
+    flags = subprocess.run(["pkg-config", "--cflags", "--libs", "libdpdk"], capture_output=True, text=True)
+    return flags.stdout.split() if flags.returncode == 0 else None

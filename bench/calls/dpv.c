@@ -1,0 +1,32 @@
+// Calls one of the library's benches: dpv NAME ROUNDS. It prints what the bench answers.
+#include <stdbool.h>
+#include <stdint.h>
+#include <stdio.h>
+#include <stdlib.h>
+#include <string.h>
+
+uint32_t dpv_blocks(uint32_t rounds);
+uint32_t dpv_ring(uint32_t rounds);
+uint32_t dpv_ring_bulk(uint32_t rounds);
+uint32_t dpv_pool(bool cached, uint32_t rounds);
+uint64_t dpv_routes(uint32_t rules, uint32_t addresses, uint32_t deletes);
+
+#define RULES 60000
+
+int main(int argc, char **argv) {
+    if (argc != 3) return 2;
+    const char *name = argv[1];
+    uint32_t rounds = strtoul(argv[2], NULL, 10);
+    uint64_t answer;
+    if (!strcmp(name, "block")) answer = dpv_blocks(rounds);
+    else if (!strcmp(name, "ring")) answer = dpv_ring(rounds);
+    else if (!strcmp(name, "bulk")) answer = dpv_ring_bulk(rounds);
+    else if (!strcmp(name, "cached")) answer = dpv_pool(true, rounds);
+    else if (!strcmp(name, "uncached")) answer = dpv_pool(false, rounds);
+    else if (!strcmp(name, "add")) answer = dpv_routes(rounds, 0, 0);
+    else if (!strcmp(name, "lookup")) answer = dpv_routes(RULES, rounds, 0);
+    else if (!strcmp(name, "delete")) answer = dpv_routes(RULES, 0, rounds);
+    else return 2;
+    printf("%llu\n", (unsigned long long)answer);
+    return 0;
+}

@@ -1,0 +1,56 @@
+//! Blocks of a heap.
+ghost use Rattle.std.specs.Prelude.{◌≡◌, ◌≤◌};
+
+use crate::heaps::heap;
+use dp_heap::Heap;
+use std::alloc::Global;
+
+// How many bytes a block has, and how many others are out.
+const SIZE: u32 = 64;
+
+const OTHERS: u32 = 100;
+
+// Takes a block and frees it, so many times, and answers how often there was one.
+fn pairs(heap: &mut Heap, rounds: u32) -> u32
+    ensures served { result ≤ rounds }
+    ensures same { heap.new ≡ heap.old }
+{
+    let mut served = 0;
+    for _ in 0..rounds {
+        if let Ok(block) = heap.malloc(SIZE, 0) {
+            heap.free(block);
+            served += 1;
+        }
+    }
+    served
+}
+
+// The same with so many other blocks out.
+fn pairs_beside(heap: &mut Heap, others: u32, rounds: u32) -> u32
+    ensures served { result ≤ rounds }
+    ensures same { heap.new ≡ heap.old }
+{
+    if others == 0 {
+        return pairs(heap, rounds);
+    }
+    match heap.malloc(SIZE, 0) {
+        Ok(block) => {
+            let served = pairs_beside(heap, others - 1, rounds);
+            heap.free(block);
+            served
+        }
+        Err(_) => 0,
+    }
+}
+
+/// The same in a heap of its own.
+pub fn served(alloc: Global, rounds: u32) -> u32
+    ensures { result ≤ rounds }
+{
+    let Some(mut heap) = heap(alloc) else {
+        return 0;
+    };
+    let served = pairs_beside(&mut heap, OTHERS, rounds);
+    heap.close().close();
+    served
+}

@@ -1,0 +1,22 @@
+//! Numbers that look random, the same in each run.
+/// A sequence of such numbers.
+#[derive(Clone, Copy)]
+pub struct Numbers {
+    state: u64,
+}
+
+impl Numbers {
+    /// The sequence that begins from a seed.
+    pub fn new(seed: u64) -> Numbers {
+        Numbers { state: seed }
+    }
+
+    /// The next one. No clause says which: safety is all that is claimed.
+    pub fn next(&mut self) -> u32 {
+        self.state = self
+            .state
+            .wrapping_mul(6_364_136_223_846_793_005)
+            .wrapping_add(1_442_695_040_888_963_407);
+        (self.state >> 32) as u32
+    }
+}

@@ -1,0 +1,108 @@
+//! Tables of longest prefixes.
+ghost use Rattle.std.specs.Prelude.{◌≡◌, ◌+◌, ◌≤◌, is_some};
+ghost use Rattle.dp_model.specs.Prefixes.{hop_for};
+
+use crate::numbers::Numbers;
+use dp_lpm::Lpm;
+use std::alloc::Global;
+
+// How many rules a table can hold, and how many groups it has.
+const RULES: u32 = 65_536;
+
+const GROUPS: u32 = 256;
+
+// The first of the numbers of which rules and addresses are made.
+const OF_RULES: u64 = 1;
+
+const OF_ADDRESSES: u64 = 2;
+
+// A rule.
+#[derive(Clone, Copy)]
+struct Rule {
+    ip: u32,
+    depth: u8,
+    hop: u32,
+}
+
+// A depth for a number: 24 for 60 of 100, 16 to 23 for 35 and 8 to 15 for 5.
+fn depth_of(number: u32) -> u8 {
+    let eighth = (number / 256 % 8) as u8;
+    match number % 100 {
+        0..60 => 24,
+        60..95 => 16 + eighth,
+        _ => 8 + eighth,
+    }
+}
+
+// The next rule. No clause says which: safety is all that is claimed.
+fn next_rule(numbers: &mut Numbers) -> Rule {
+    let ip = numbers.next();
+    let depth = depth_of(numbers.next());
+    let hop = numbers.next() % 256;
+    Rule { ip, depth, hop }
+}
+
+// Adds so many rules, and answers how many went in.
+fn add_all(table: &mut Lpm, rules: u32) -> u32
+    ensures { result ≤ rules }
+{
+    let mut numbers = Numbers::new(OF_RULES);
+    let mut added = 0;
+    for _ in 0..rules {
+        let Rule { ip, depth, hop } = next_rule(&mut numbers);
+        if table.add(ip, depth, hop).is_ok() {
+            added += 1;
+        }
+    }
+    added
+}
+
+// Whether there is a rule for an address.
+#[inline(never)]
+fn is_routed(table: &Lpm, ip: u32) -> bool
+    ensures { result ≡ is_some (hop_for table.now.routes ip) }
+{
+    table.lookup(ip).is_some()
+}
+
+// Looks so many addresses up, and answers for how many there was a rule.
+fn look_up_all(table: &Lpm, addresses: u32) -> u32
+    ensures { result ≤ addresses }
+{
+    let mut numbers = Numbers::new(OF_ADDRESSES);
+    let mut found = 0;
+    for _ in 0..addresses {
+        if is_routed(table, numbers.next()) {
+            found += 1;
+        }
+    }
+    found
+}
+
+// Deletes the first so many rules, and answers how many were there.
+fn delete_all(table: &mut Lpm, rules: u32) -> u32
+    ensures { result ≤ rules }
+{
+    let mut numbers = Numbers::new(OF_RULES);
+    let mut deleted = 0;
+    for _ in 0..rules {
+        let Rule { ip, depth, .. } = next_rule(&mut numbers);
+        if table.delete(ip, depth).is_ok() {
+            deleted += 1;
+        }
+    }
+    deleted
+}
+
+/// All three with a table of its own.
+pub fn found(alloc: Global, rules: u32, addresses: u32, deletes: u32) -> u64
+    ensures { result ≤ rules + addresses + deletes }
+{
+    let Ok(mut table) = Lpm::new(alloc, RULES, GROUPS) else {
+        return 0;
+    };
+    let added = add_all(&mut table, rules) as u64;
+    let found = look_up_all(&table, addresses) as u64;
+    let deleted = delete_all(&mut table, deletes) as u64;
+    added + found + deleted
+}
