@@ -138,7 +138,3 @@ full s t r kept is few deep none =
     ap (λ b. if b then Some RulesFull else if nat_lt 24 r.depth && nat_lt (length s.table.counts.items) (groups_needed (route_of r ∷ R)) then Some GroupsFull else None) (lt-leb s.max_rules (length R) (omega (arith, few, length-map s.rules.items route_of)))
     ∙ (ap (λ b. if b && nat_lt (length s.table.counts.items) (groups_needed (route_of r ∷ R)) then Some GroupsFull else None) (lt-ltb 24 r.depth deep)
     ∙ ap (λ b. if b then Some GroupsFull else None) (lt-ltb (length s.table.counts.items) (groups_needed (route_of r ∷ R)) (omega (arith, more, all, kept.needed))))
-
--- what an insert that succeeds makes of a list
-pub inserted : (b : Bool) (xs ys zs : List Rule) (place : ℕ) (r : Rule) → b ≡ true → ys ≡ (if b then insert xs place r else xs) → xs ≡ zs → ys ≡ take place zs ++ r ∷ drop place zs
-inserted b xs ys zs place r taken is same = is ∙ (ap (λ b. if b then insert xs place r else xs) taken ∙ ap (λ l. take place l ++ r ∷ drop place l) same)

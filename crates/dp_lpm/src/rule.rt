@@ -1,6 +1,6 @@
 // The rules of a table, in order of depth, and of prefix where the depth is the same.
 
-ghost use Rattle.std.specs.Prelude.{◌≡◌, ℕ, ◌+◌, ◌*◌, ◌/◌, ◌-◌, ◌^◌, ◌<◌, ◌≤◌, List, length, take, drop, nat_lt, IfOk, IfErr};
+ghost use Rattle.std.specs.Prelude.{◌≡◌, ℕ, ◌+◌, ◌*◌, ◌/◌, ◌-◌, ◌^◌, ◌<◌, ◌≤◌, List, ◌∷◌, ◌++◌, length, take, drop, nat_lt, vec_capacity, IfOk, IfErr};
 ghost use Rattle.dp_lpm.specs.Rules.{rank, rank_of, IsOrdered, IsLowerBound, IsFound, IsMissing, routes_of, entry_of};
 ghost use Rattle.dp_lpm.specs.Routes.{prefix_of, deepest_within};
 
@@ -77,4 +77,25 @@ pub fn entry_within(rules: &[Rule], ip: u32, depth: u8) -> Entry
         },
         Err(_) => entry_within(rules, ip, depth - 1),
     }
+}
+
+/// The rules go one place up, the last one is let go, and a rule goes first.
+fn put_first(rules: &mut [Rule], rule: Rule)
+    requires { 0 < length rules.old }
+    ensures { rules.new ≡ rule ∷ take (length rules.old - 1) rules.old }
+{
+    let last = rules.len() - 1;
+    rules.copy_within(0..last, 1);
+    rules[0] = rule;
+}
+
+/// A rule goes in at a place. There is room for it.
+pub fn insert(rules: &mut Vec<Rule>, place: usize, rule: Rule)
+    requires place { place ≤ length rules.old.items }
+    requires room { length rules.old.items < vec_capacity rules.old }
+    ensures items { rules.new.items ≡ take place rules.old.items ++ rule ∷ drop place rules.old.items }
+    ensures capacity { vec_capacity rules.old ≤ vec_capacity rules.new }
+{
+    let _ = rules.push(rule);
+    put_first(&mut rules[place..], rule);
 }

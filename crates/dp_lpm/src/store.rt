@@ -6,7 +6,7 @@ ghost use Rattle.dp_lpm.specs.Faults.{add_fault, delete_fault, added};
 
 use crate::cell::{Cell, Entry};
 use crate::error::{LpmError, Memory};
-use crate::rule::{Rule, entry_within, prefix_of, search};
+use crate::rule::{Rule, entry_within, insert, prefix_of, search};
 use crate::table::Table;
 use std::alloc::Global;
 
@@ -98,7 +98,7 @@ impl Store {
         if rule.depth > 24 && !self.table.open((rule.prefix >> (rule.depth - 24)) as usize) {
             return Err(LpmError::GroupsFull);
         }
-        let _ = self.rules.insert(place, rule);
+        insert(&mut self.rules, place, rule);
         Ok(())
     }
 

@@ -14,7 +14,7 @@ length_entries bytes count first (suc n) = let rest = length_entries bytes count
 -- ---- places
 
 -- a place behind another, with or without a turn
-place_cases : (count first n : ℕ) → ((first + n < count) × (place_behind count first n ≡ first + n)) ⊎ ((count ≤ first + n) × (place_behind count first n ≡ first + n - count))
+pub place_cases : (count first n : ℕ) → ((first + n < count) × (place_behind count first n ≡ first + n)) ⊎ ((count ≤ first + n) × (place_behind count first n ≡ first + n - count))
 place_cases count first n = elim (cases_Bool (ltb (first + n) count)) [
   | inl yes' ↦ inl (ltb-true (first + n) count yes', ap (λ t. cond t (first + n) (first + n - count)) yes')
   | inr no' ↦ inr (ltb-false (first + n) count no', ap (λ t. cond t (first + n) (first + n - count)) no')
@@ -39,7 +39,7 @@ place_behind-small count first n small few = elim (place_cases count first n) [
 ]
 
 -- one further behind is as far behind the next
-place_behind-next : (count first n : ℕ) → first < count → suc n < count → place_behind count (next_place count first) n ≡ place_behind count first (suc n)
+pub place_behind-next : (count first n : ℕ) → first < count → suc n < count → place_behind count (next_place count first) n ≡ place_behind count first (suc n)
 place_behind-next count first n small few = elim (next_cases count first) [
   | inl c ↦ elim (place_cases count (next_place count first) n) [
     | inl d ↦ elim (place_cases count first (suc n)) [
@@ -124,7 +124,7 @@ entries_pushed bytes count first used v small few room fits =
 
 -- ---- the entries one by one
 
-slice_get_entries : (bytes : List ℕ) (count first n k : ℕ) → first < count → n < count → k < n → slice_get (entries_from bytes count first n) k ≡ Some (number_at bytes (4 * place_behind count first k) 4)
+pub slice_get_entries : (bytes : List ℕ) (count first n k : ℕ) → first < count → n < count → k < n → slice_get (entries_from bytes count first n) k ≡ Some (number_at bytes (4 * place_behind count first k) 4)
 slice_get_entries bytes count first zero k small few less = absurd (omega (arith, less))
 slice_get_entries bytes count first (suc n) zero small few less =
     ap (λ p. Some (number_at bytes (4 * p) 4)) (elim (place_cases count first 0) [

@@ -1,3 +1,5 @@
 pub mod Entries
 pub mod Taking
 pub mod Searching
+pub mod Writing
+pub mod Turning

@@ -1,5 +1,5 @@
 -- Rings of numbers in a zone.
-use Rattle.std.specs.Prelude.{refl, ℕ, zero, suc, ◌+◌, ◌-◌, ◌*◌, ◌≤◌, nat_lt, if◌then◌else◌, List, [], ◌∷◌, ◌++◌, length, drop}
+use Rattle.std.specs.Prelude.{◌≡◌, refl, ℕ, zero, suc, ◌+◌, ◌-◌, ◌*◌, ◌<◌, ◌≤◌, ◌⊎◌, slice_index, nat_lt, if◌then◌else◌, List, [], ◌∷◌, ◌++◌, length, drop}
 use Rattle.std.specs.Coded.{Coded, code_by, coded×, coded_list, coded_ℕ}
 use Rattle.dp_region.specs.Ownership.{Home, home_code}
 use Rattle.dp_region.specs.Region.{number_at}
@@ -56,3 +56,13 @@ entries_from bytes count first (suc n) = number_at bytes (4 * first) 4 ∷ entri
 -- the place that is so far behind one
 abbrev pub place_behind : ℕ → ℕ → ℕ → ℕ
 place_behind count first n = if nat_lt (first + n) count then first + n else first + n - count
+
+-- the numbers stand in the places from one on
+abbrev pub IsRun : List ℕ → ℕ → List ℕ → Type 0
+IsRun bytes place numbers = (k : ℕ) → k < length numbers → number_at bytes (4 * (place + k)) 4 ≡ slice_index numbers k
+
+-- they do so in the new bytes, and each number that is beside them is as in the old ones
+pub record Stores (place : ℕ) (numbers old new : List ℕ) : Type 0 where
+  pub long : length new ≡ length old
+  pub stored : IsRun new place numbers
+  pub others : (q : ℕ) → q + 4 ≤ length old → (q + 4 ≤ 4 * place) ⊎ (4 * (place + length numbers) ≤ q) → number_at new q 4 ≡ number_at old q 4

@@ -2,5 +2,6 @@
 #![tactic(auto)]
 
 mod ring;
+mod runs;
 
 pub use ring::Ring;

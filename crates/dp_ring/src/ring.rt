@@ -1,9 +1,10 @@
 //! A ring of numbers.
 
-ghost use Rattle.std.specs.Prelude.{◌≡◌, ℕ, ◌+◌, ◌-◌, ◌*◌, ◌<◌, ◌≤◌, ◌++◌, [], ◌∷◌, length, take, drop, min, nat_lt, nat_le, if◌then◌else◌, slice_get, Some, None, MatchOption, ◌==◌};
+ghost use Rattle.std.specs.Prelude.{◌≡◌, ℕ, ◌+◌, ◌-◌, ◌*◌, ◌<◌, ◌≤◌, ◌⊎◌, ◌++◌, [], ◌∷◌, length, take, drop, min, nat_lt, nat_le, if◌then◌else◌, slice_get, Some, None, MatchOption, ◌==◌};
 ghost use Rattle.std.specs.List.{list_any};
 ghost use Rattle.dp_ring.specs.Rings.{IsCount, empty_over, room_in, with_more, without_first, place_behind, next_place};
 
+use crate::runs::{load_run, store_run};
 use dp_zone::Zone;
 use std::marker::Model;
 
@@ -54,6 +55,16 @@ fn next_place(count: u32, place: u32) -> u32
 {
     let next = place + 1;
     if next < count { next } else { 0 }
+}
+
+// How many of so many numbers stand from a place on before the places begin again.
+fn before_turn(count: u32, place: u32, number: usize) -> usize
+    requires { place < count }
+    ensures most { (result ≤ number) × (result ≤ count - place) }
+    ensures cut { (result ≡ number) ⊎ (result ≡ count - place) }
+{
+    let left = (count - place) as usize;
+    if number < left { number } else { left }
 }
 
 impl Ring {
@@ -166,9 +177,32 @@ impl Ring {
         requires { length values.now ≤ room_in self.old }
         ensures { self.new ≡ with_more self.old values.now }
     {
-        for value in values {
-            self.push(*value);
-        }
+        let place = place_behind(self.count, self.first, self.used);
+        let number = before_turn(self.count, place, values.len());
+        store_run(&mut self.zone, place, &values[..number]);
+        store_run(&mut self.zone, 0, &values[number..]);
+        self.used += values.len() as u32;
+    }
+
+    // Fills the list with the first entries, in order.
+    fn read_all(&self, values: &mut [u32])
+        requires { length values.old ≤ length self.now.entries }
+        ensures { values.new ≡ take (length values.old) self.now.entries }
+    {
+        let number = before_turn(self.count, self.first, values.len());
+        let (near, far) = values.split_at_mut(number);
+        load_run(&self.zone, self.first, near);
+        load_run(&self.zone, 0, far);
+    }
+
+    // Lets the first entries go.
+    fn skip(&mut self, number: usize)
+        requires { number ≤ length self.old.entries }
+        ensures { self.new ≡ without_first self.old number }
+    {
+        let left = self.used - number as u32;
+        self.first = place_behind(self.count, self.first, number as u32);
+        self.used = left;
     }
 
     // Takes the first entries out, in order, as many as there are places for them.
@@ -177,9 +211,8 @@ impl Ring {
         ensures first { values.new ≡ take (length values.old) self.old.entries }
         ensures rest { self.new ≡ without_first self.old (length values.old) }
     {
-        for value in values.iter_mut() {
-            *value = self.pop();
-        }
+        self.read_all(values);
+        self.skip(values.len());
     }
 
     /// Puts all entries behind the others, in order, or none and answers false where the free places are fewer.

@@ -1,5 +1,5 @@
 -- A new rule has room, and its first bits a group; or it is refused.
-use Rattle.std.proofs.Common.{◌≡◌, ◌<◌, sym, ap, subst, arith, inl, inr}
+use Rattle.std.proofs.Common.{◌≡◌, ◌<◌, ◌++◌, ◌∷◌, take, drop, ◌∙◌, sym, ap, subst, arith, inl, inr}
 use Rattle.std.specs.Prelude.{vec_len, vec_capacity}
 use Rattle.std.proofs.lemmas.List.{length-map}
 use Rattle.dp_lpm.specs.Rules.{route_of}
@@ -7,7 +7,7 @@ use Rattle.dp_lpm.specs.Tables.{Opened}
 use Rattle.dp_lpm.specs.Kept.{routes_in, first_of}
 use Rattle.dp_lpm.specs.declared.store.Store.{Store}
 use Rattle.dp_lpm.proofs.Counting.{deep_count_few}
-use Rattle.dp_lpm.proofs.Growing.{grown, full, first_small, Makes, inserted}
+use Rattle.dp_lpm.proofs.Growing.{grown, full, first_small, Makes}
 use Rattle.dp_lpm.proofs.store.Store.put.Goals.{else-rule-gt24-via-then-rule-gt24+else-not-open, else-rule-gt24-via-else-rule-gt24}
 use Rattle.dp_lpm.proofs.store.Store.put.Goals as goal
 
@@ -31,10 +31,9 @@ pub returns : goal.returns
 returns c =
     let old = c.args.self.now in
     let mid = c.else-rule-gt24.self in
-    let new : Store = record { rules = c.insert.new.self; table = mid.table; max_rules = mid.max_rules } in
+    let new : Store = record { rules = c.insert.new.rules; table = mid.table; max_rules = mid.max_rules } in
     let rules : mid.rules ≡ old.rules = elim c.else-rule-gt24.branch [ else-rule-gt24-via-then-rule-gt24+else-not-open w ↦ ap (λ s. s.rules) w.self-is | else-rule-gt24-via-else-rule-gt24 w ↦ ap (λ s. s.rules) w.self-is ] in
     let max : mid.max_rules ≡ old.max_rules = elim c.else-rule-gt24.branch [ else-rule-gt24-via-then-rule-gt24+else-not-open w ↦ ap (λ s. s.max_rules) w.self-is | else-rule-gt24-via-else-rule-gt24 w ↦ ap (λ s. s.max_rules) w.self-is ] in
     let makes : Makes c.args.rule old.table mid.table = elim c.else-rule-gt24.branch [ else-rule-gt24-via-then-rule-gt24+else-not-open w ↦ inr (w.if-rule-gt24.true, subst (Opened (first_of (route_of c.args.rule)) c.args.self.now.table) (sym (ap (λ s. s.table) w.self-is)) w.if-not-open.ensures) | else-rule-gt24-via-else-rule-gt24 w ↦ inl (w.if-rule-gt24.false, ap (λ s. s.table) w.self-is) ] in
-    let room : vec_len mid.rules < vec_capacity mid.rules = omega (arith, ap vec_len rules, ap vec_capacity rules, c.len.ensures, c.requires.kept.room) in
-    let items = inserted _ mid.rules.items c.insert.new.self.items old.rules.items c.args.place c.args.rule (c.insert.ensures.succeeds room) c.insert.ensures.items (ap (λ v. v.items) rules) in
+    let items = c.insert.ensures.items ∙ ap (λ v. take c.args.place v.items ++ c.args.rule ∷ drop c.args.place v.items) rules in
     grown old new c.args.place c.args.rule c.requires.kept c.requires.rule c.requires.place (omega (arith, c.len.ensures)) items (omega (arith, ap vec_capacity rules, c.insert.ensures.capacity)) max makes

@@ -1,0 +1,45 @@
+//! Runs of numbers in a zone, one behind the other.
+ghost use Rattle.std.specs.Prelude.{◌≡◌, ℕ, ◌+◌, ◌*◌, ◌<◌, ◌≤◌, length, slice_index};
+ghost use Rattle.dp_region.specs.Region.{number_at, with_number};
+ghost use Rattle.dp_ring.specs.Rings.{IsRun, Stores};
+
+use byteorder::{ByteOrder, LittleEndian};
+use dp_zone::Zone;
+
+// Writes a number into the 4 bytes from a place on.
+fn write_number(bytes: &mut [u8], at: usize, number: u32)
+    requires { at + 4 ≤ length bytes.old }
+    ensures { bytes.new ≡ with_number bytes.old at 4 number }
+{
+    LittleEndian::write_u32(&mut bytes[at..at + 4], number);
+}
+
+// Writes numbers over bytes, of which there are just enough.
+fn write_numbers(bytes: &mut [u8], numbers: &[u32])
+    requires { length bytes.old ≡ 4 * length numbers.now }
+    ensures run { IsRun bytes.new 0 numbers.now }
+    ensures long { length bytes.new ≡ 4 * length numbers.now }
+{
+    for (k, number) in numbers.iter().enumerate() {
+        write_number(bytes, 4 * k, *number);
+    }
+}
+
+/// Writes numbers into the places of a zone from one on.
+pub(crate) fn store_run(zone: &mut Zone, place: u32, numbers: &[u32])
+    requires { 4 * (place + length numbers.now) ≤ length zone.old.bytes }
+    ensures bytes { Stores place numbers.now zone.old.bytes zone.new.bytes }
+    ensures others { (zone.new.name ≡ zone.old.name) × (zone.new.home ≡ zone.old.home) × (zone.new.place ≡ zone.old.place) }
+{
+    let at = 4 * place as usize;
+    write_numbers(&mut zone.bytes_mut()[at..at + 4 * numbers.len()], numbers);
+}
+
+/// Reads the numbers in the places of a zone from one on.
+pub(crate) fn load_run(zone: &Zone, place: u32, numbers: &mut [u32])
+    requires { 4 * (place + length numbers.old) ≤ length zone.now.bytes }
+    ensures { IsRun zone.now.bytes place numbers.new }
+{
+    let at = 4 * place as usize;
+    LittleEndian::read_u32_into(&zone.bytes()[at..at + 4 * numbers.len()], numbers);
+}
