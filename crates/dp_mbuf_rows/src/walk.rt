@@ -20,6 +20,18 @@ struct Shadow {
     bytes: Vec<u8>,
 }
 
+// How often a clone went to the other pool, and how often a chain joined packets of both.
+#[derive(Drop)]
+struct Across {
+    clones: u32,
+    chains: u32,
+}
+
+// The pool of a packet's first mbuf.
+fn pool_of(packet: &Packet) -> u32 {
+    packet.number() / 65_536
+}
+
 fn next(seed: &mut u64) -> u64 {
     *seed = seed
         .wrapping_mul(6364136223846793005)
@@ -92,6 +104,7 @@ fn walk_copy(
     m: &mut Mbufs,
     shadows: &mut Vec<Shadow>,
     seed: &mut u64,
+    across: &mut Across,
 ) -> Result<(), AllocError>
     requires { IsOver m.old.store }
     ensures over { IsOver m.new.store }
@@ -105,6 +118,9 @@ fn walk_copy(
     let source = shadows[i].packet;
     let pool = pick_pool(seed);
     if let Some(packet) = copy(rt, m, &source, pool) {
+        if pool_of(&source) != pool {
+            across.clones = across.clones.saturating_add(1);
+        }
         shadows.push(Shadow { packet, bytes })?;
     }
     Ok(())
@@ -223,6 +239,7 @@ fn walk_chain(
     m: &mut Mbufs,
     shadows: &mut Vec<Shadow>,
     seed: &mut u64,
+    across: &mut Across,
 ) -> Result<(), AllocError>
     requires { IsOver m.old.store }
     ensures over { IsOver m.new.store }
@@ -238,6 +255,9 @@ fn walk_chain(
     if segments(rt, m, &head) > 30 || segments(rt, m, &tail.packet) > 30 {
         shadows.push(tail)?;
         return Ok(());
+    }
+    if pool_of(&head) != pool_of(&tail.packet) {
+        across.chains = across.chains.saturating_add(1);
     }
     chain(rt, m, &head, tail.packet);
     let shadow = &mut shadows[j];
@@ -300,6 +320,7 @@ fn step(
     m: &mut Mbufs,
     shadows: &mut Vec<Shadow>,
     seed: &mut u64,
+    across: &mut Across,
 ) -> Result<(), AllocError>
     requires { IsOver m.old.store }
     ensures over { IsOver m.new.store }
@@ -308,8 +329,8 @@ fn step(
     match next(seed) % 12 {
         0 | 1 => walk_receive(rt, alloc, m, shadows, seed),
         2 => walk_alloc(alloc, m, shadows, seed),
-        3 | 4 => walk_copy(rt, m, shadows, seed),
-        5 => walk_chain(rt, m, shadows, seed),
+        3 | 4 => walk_copy(rt, m, shadows, seed, across),
+        5 => walk_chain(rt, m, shadows, seed, across),
         6 | 7 => {
             walk_free(rt, m, shadows, seed);
             Ok(())
@@ -342,10 +363,15 @@ fn a_random_walk_ends_with_whole_pools(rt: HostRuntime) {
     let m = &mut s.mbufs;
     let mut shadows = Vec::new(rt.alloc());
     let mut seed = 20261122u64;
+    let mut across = Across {
+        clones: 0,
+        chains: 0,
+    };
     for _ in 0..10000 {
-        step(&rt, rt.alloc(), m, &mut shadows, &mut seed).expect(&rt, "memory");
+        step(&rt, rt.alloc(), m, &mut shadows, &mut seed, &mut across).expect(&rt, "memory");
         compare(&rt, m, &shadows);
     }
+    assert!(rt; across.clones > 100 && across.chains > 100);
     for _ in 0..shadows.len() {
         walk_free(&rt, m, &mut shadows, &mut seed);
     }
