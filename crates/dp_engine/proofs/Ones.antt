@@ -1,5 +1,5 @@
 -- What holds while a run of one port goes on.
-use Rattle.std.proofs.Common.{◌≡◌, ℕ, zero, suc, ◌+◌, ◌<◌, ◌≤◌, List, [], ◌∷◌, ◌++◌, length, take, map, replicate, Option, None, Some, Bool, true, refl, sym, ap, ◌∙◌, subst, append_assoc, append-nil, inr, inl, arith, rules}
+use Rattle.std.proofs.Common.{◌≡◌, ℕ, zero, suc, ◌+◌, ◌≤◌, List, [], ◌∷◌, ◌++◌, length, take, map, replicate, Option, None, Some, Bool, true, refl, sym, ap, ◌∙◌, subst, append_assoc, append-nil, inr, inl, arith, rules}
 use Rattle.std.specs.Prelude.{Ok, Err, ⊤, Result, is_err, IfOk, IfErr, false}
 use Rattle.std.specs.List.{flat_map}
 use Rattle.std.proofs.lemmas.List.{map-append, places}
@@ -13,9 +13,8 @@ use Rattle.dp_pcap.specs.declared.error.PcapError.TheVariants.{BadMagic, BadVers
 use Rattle.dp_pcap.specs.Standing.{Standing}
 use Rattle.dp_pcap.specs.declared.source.Next.TheVariants.{Record}
 use Rattle.dp_pcap.specs.Capture.{PacketRecord as Packet}
-use Rattle.dp_pcap.specs.Source.{WhereKnown, HasRead, Continues, IsInRange, Moves, advanced}
+use Rattle.dp_pcap.specs.Source.{WhereKnown, HasRead, Continues, IsInRange, advanced}
 use Rattle.dp_pcap.specs.Text.{header_text, head_text, record_text, text, AppendsPart}
-use Rattle.dp_model.specs.declared.instr.Instr.{Instr}
 use Rattle.dp_model.specs.Machine.{Setting, World}
 use Rattle.dp_model.specs.Runs.{Nodes, Arrival, Outcome, Turn, Run, joined, records_at, with_empty_outboxes}
 use Rattle.dp_engine.specs.Devices.{IsCalledFor, IsCalledIn}

@@ -1,17 +1,15 @@
 -- A record that comes to a machine that rests.
-use Rattle.std.proofs.Common.{◌≡◌, ◌≢◌, ℕ, zero, suc, ◌+◌, ◌<◌, ◌≤◌, Bool, true, false, not, ◌||◌, List, [], ◌∷◌, ◌++◌, length, map, replicate, Option, Some, None, refl, sym, ◌∙◌, ap, subst, arith, nat_eq, nat_lt, nat_le}
-use Rattle.std.specs.Prelude.{slice_get, slice_set, ◌==◌}
+use Rattle.std.proofs.Common.{◌≡◌, ℕ, ◌+◌, ◌<◌, ◌≤◌, Bool, true, false, ◌||◌, List, [], ◌∷◌, length, replicate, Option, Some, None, refl, sym, ◌∙◌, ap, subst, arith, nat_eq, nat_lt}
+use Rattle.std.specs.Prelude.{slice_get, slice_set}
 use Rattle.std.specs.List.{list_any, AllByRecursion}
-use Rattle.std.proofs.lemmas.Bool.{eq-eqb, eqb-true}
-use Rattle.dp_model.specs.declared.env.PoolSpec.{PoolSpec}
 use Rattle.dp_model.specs.Environments.{room_at}
 use Rattle.dp_model.specs.Buffers.{Buffers}
-use Rattle.dp_model.specs.Packets.{Segment, Packet, available, needed, received, Filled, AreFresh}
-use Rattle.dp_model.specs.Machine.{Setting, World, State, live, is_denied}
+use Rattle.dp_model.specs.Packets.{Packet, available, needed, received}
+use Rattle.dp_model.specs.Machine.{Setting, State, live, is_denied}
 use Rattle.dp_model.specs.Runs.{first_state, between}
-use Rattle.dp_model.proofs.Refs.{get_set_other, get_set_same}
+use Rattle.dp_model.proofs.Refs.{get_set_same}
 use Rattle.dp_model.specs.Stores.{Store, segments_of, ReceivesInto}
-use Rattle.dp_engine.specs.Handles.{held_of, packet_at, register_at, handles_held, once, occurs, in_slot, StandOnce, Core, core_of, moved}
+use Rattle.dp_engine.specs.Handles.{held_of, packet_at, handles_held, occurs, in_slot, StandOnce, Core, core_of}
 use Rattle.dp_engine.specs.Turns.{IsReceived}
 use Rattle.dp_engine.proofs.Handles.{not_there, slot_filled}
 use Rattle.dp_engine.proofs.Counts.{CountSame, idle_handles, idle_counts, available_same, fresh_same}

@@ -1,11 +1,11 @@
 -- What is written, piece by piece.
-use Rattle.std.proofs.Common.{◌≡◌, ℕ, zero, suc, ◌+◌, ◌<◌, ◌≤◌, Bool, true, false, List, [], ◌∷◌, ◌++◌, length, take, drop, map, Option, Some, None, refl, sym, ◌∙◌, ap, subst, arith, append_assoc, append-nil, length-append, get_or, add-one}
-use Rattle.std.specs.Prelude.{slice_get, Result, Ok, Err, is_err, OnOk, OnErr, IsTrue}
+use Rattle.std.proofs.Common.{◌≡◌, ℕ, zero, suc, ◌+◌, ◌<◌, ◌≤◌, Bool, true, false, List, [], ◌∷◌, ◌++◌, length, take, drop, map, Option, Some, refl, sym, ◌∙◌, ap, subst, arith, append_assoc, append-nil, length-append, get_or, add-one}
+use Rattle.std.specs.Prelude.{slice_get, Result, Ok, Err, is_err, OnOk, OnErr}
 use Rattle.std.specs.List.{flat_map}
 use Rattle.std.specs.Io.KnownBytes.{Appends}
 use Rattle.std.proofs.KnownBytes.{Appends-trans}
-use Rattle.std.proofs.lemmas.List.{take-append-le, length_push}
-use Rattle.std.proofs.lemmas.List.Concat.{flat_map-append, flat_map-cons}
+use Rattle.std.proofs.lemmas.List.{take-append-le}
+use Rattle.std.proofs.lemmas.List.Concat.{flat_map-append}
 use Rattle.std.proofs.lemmas.List.Folds.{flat_map-map}
 use Rattle.std.proofs.Math.Seq.{take-append-add}
 use Rattle.std.proofs.lemmas.Option.{same_Some}
@@ -16,9 +16,9 @@ use Rattle.dp_pcap.specs.Text.{record_text, AppendsPart}
 use Rattle.dp_model.specs.Buffers.{Buffers}
 use Rattle.dp_model.specs.Packets.{Packet, packet_bytes}
 use Rattle.dp_model.specs.Machine.{World}
-use Rattle.dp_model.specs.Runs.{records_at, drained}
+use Rattle.dp_model.specs.Runs.{drained}
 use Rattle.dp_model.specs.Stores.{Store, Has}
-use Rattle.dp_engine.specs.Handles.{held_of, packet_at, handles_held, occurs, in_slot, StandOnce, Core, core_of}
+use Rattle.dp_engine.specs.Handles.{held_of, packet_at, occurs, StandOnce, Core, core_of}
 use Rattle.dp_engine.specs.Drains.{record_of, captured, WrotePart, Written}
 use Rattle.dp_engine.proofs.Handles.{get_map, in_slot_some, is_one}
 
@@ -101,9 +101,6 @@ listed_at s room registers numbers outbox calls steps core i h d packets k is st
     listed [] i x e = cc
     listed (y ∷ xs) zero x e = omega (arith, is_one y x (same_Some y x e))
     listed (y ∷ xs) (suc i) x e = let more = listed xs i x e in omega (arith, more)
-
-pub buffers_are : (s : Store) (room : ℕ) (registers : List (Option ℕ)) (numbers outbox : List ℕ) (calls steps : ℕ) (core : Core) → core_of s room registers numbers outbox calls steps ≡ core → s.buffers ≡ core.state.world.buffers
-buffers_are s room registers numbers outbox calls steps core is = ap (λ (c : Core). c.state.world.buffers) is
 
 -- ---- records
 

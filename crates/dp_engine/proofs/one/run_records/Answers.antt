@@ -1,4 +1,4 @@
-use Rattle.std.proofs.Common.{rules, ◌≡◌, ◌+◌, ◌≤◌, length, take, inl, inr, sym, ap, ◌∙◌, refl, arith, false}
+use Rattle.std.proofs.Common.{rules, ◌+◌, ◌≤◌, length, take, inr, ap, ◌∙◌, arith}
 use Rattle.dp_pcap.specs.Standing.{Standing}
 use Rattle.dp_engine.specs.Devices.{IsCalledFor}
 use Rattle.dp_engine.specs.Drains.{sent_of}

@@ -1,4 +1,4 @@
-use Rattle.std.proofs.Common.{◌≡◌, ◌+◌, ◌++◌, ◌<◌, ◌≤◌, length, sym, ap, ◌∙◌, subst, arith, rules, refl, append-nil, [], ℕ}
+use Rattle.std.proofs.Common.{◌+◌, ◌<◌, length, arith, rules, refl, append-nil, []}
 use Rattle.dp_model.specs.Packets.{packet_bytes, segment_bytes}
 use Rattle.dp_pcap.specs.Text.{head_text}
 use Rattle.dp_engine.proofs.Devices.{called_head, called_piece, called_front}

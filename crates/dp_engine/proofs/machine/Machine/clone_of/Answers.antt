@@ -1,4 +1,4 @@
-use Rattle.std.proofs.Common.{◌≡◌, ◌∙◌, length, sym, ap}
+use Rattle.std.proofs.Common.{◌≡◌, length, sym}
 use Rattle.dp_model.specs.Packets.{cloned}
 use Rattle.dp_engine.specs.Steps.{setting_of}
 use Rattle.dp_engine.proofs.Registers.{handle, held, taken, too_few, keeps_bytes, called}

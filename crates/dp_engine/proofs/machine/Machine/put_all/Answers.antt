@@ -1,5 +1,4 @@
-use Rattle.std.proofs.Common.{◌≡◌, ◌+◌, ◌<◌, ◌≤◌, List, [], ◌∷◌, length, refl, sym, ap, ◌∙◌, subst, arith, rules, take}
-use Rattle.std.specs.List.{flat_map}
+use Rattle.std.proofs.Common.{◌≡◌, ◌+◌, ◌<◌, List, [], ◌∷◌, length, refl, sym, ap, ◌∙◌, arith, rules}
 use Rattle.dp_model.specs.Packets.{Packet}
 use Rattle.dp_engine.specs.Drains.{record_of}
 use Rattle.dp_engine.proofs.Devices.{called_piece, called_written, called_more}
