@@ -16,7 +16,7 @@ def best(command: list[str]) -> float:
 
 
 def instructions(command: list[str]) -> int | None:
-    """How many machine instructions a run takes, where perf or valgrind can say so."""
+    """How many machine instructions a run takes, where it succeeds and perf or valgrind can say so."""
     tools = {
         "perf": (["perf", "stat", "-x,", "-e", "instructions:u"], r"^(\d+),"),
         "valgrind": (["valgrind", "--tool=callgrind", "--callgrind-out-file=/dev/null"], r"Collected : (\d+)"),
@@ -24,7 +24,7 @@ def instructions(command: list[str]) -> int | None:
     for tool, (words, pattern) in tools.items():
         if shutil.which(tool):
             run = subprocess.run([*words, *command], stdout=subprocess.DEVNULL, stderr=subprocess.PIPE, text=True)
-            if found := re.search(pattern, run.stderr, re.M):
+            if run.returncode == 0 and (found := re.search(pattern, run.stderr, re.M)):
                 return int(found.group(1))
     return None
 
