@@ -1,6 +1,6 @@
 -- A new rule has room, and its first bits a group; or it is refused.
-use Rattle.std.proofs.Common.{◌≡◌, ◌<◌, ◌++◌, ◌∷◌, take, drop, ◌∙◌, sym, ap, subst, arith, inl, inr}
-use Rattle.std.specs.Prelude.{vec_len, vec_capacity}
+use Rattle.std.proofs.Common.{◌≡◌, ◌++◌, ◌∷◌, take, drop, ◌∙◌, sym, ap, subst, arith, inl, inr}
+use Rattle.std.specs.Prelude.{vec_capacity}
 use Rattle.std.proofs.lemmas.List.{length-map}
 use Rattle.dp_lpm.specs.Rules.{route_of}
 use Rattle.dp_lpm.specs.Tables.{Opened}
