@@ -82,8 +82,7 @@ unhooked_from ps ps' hand slots h k x w e done segs kept link =
     let in_k = first_in (header_at ps) n k s.some s.links in
     let one = w.counted.once n in
     let none : is_head ps' n ≡ false =
-    ap (λ y. is_out ps' n && is_positive y.segs) done.here
-    ∙ (ap (λ j. is_out ps' n && is_positive j) segs ∙ and_false (is_out ps' n)) in (
+    ap (λ y. is_positive y.segs) done.here ∙ ap is_positive segs in (
       record {
         are = done.are;
         counted = counted_same ps ps' (hand ++ segments_held slots) ((k ++ hand) ++ segments_held (set slots h None)) w.counted
@@ -130,9 +129,8 @@ relinked ps ps' hand slots m x w in_hand done kept segs =
           (same_or m n))
           (λ n _ f. ⊎_elim
           (λ same. subst (λ j. is_head ps' j ≡ false) same
-          (ap (λ y. is_out ps' m && is_positive y.segs) done.here
-          ∙ (ap (λ y. is_out ps' m && is_positive y) segs
-          ∙ (ap (λ b. b && is_positive (header_at ps m).segs) (done.outs m) ∙ subst (λ j. is_head ps j ≡ false) (sym same) f))))
+          (ap (λ y. is_positive y.segs) done.here
+          ∙ (ap is_positive segs ∙ subst (λ j. is_head ps j ≡ false) (sym same) f)))
           (λ d. head_other ps ps' m x done n d ∙ f)
           (same_or m n));
     }
@@ -252,7 +250,7 @@ edited ps ps' slots h before s s' rest x w e done segs last kept next buffer off
           absurd (omega (arith, two, here, d, q, in_k, one)))
           (λ d. stays_other ps ps' s.mbuf x done m d)
           (same_or s.mbuf m))
-          (λ i ne f. ap (λ j. is_out ps' (numbered i) && is_positive j) (head_seg (numbered i)) ∙ (ap (λ v. v && is_positive (header_at ps (numbered i)).segs) (done.outs (numbered i)) ∙ f))
+          (λ i ne f. ap is_positive (head_seg (numbered i)) ∙ f)
           stands;
     }
   where

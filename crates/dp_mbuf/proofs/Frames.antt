@@ -1,6 +1,6 @@
 -- What the headers show, when one packet changes and all others stay.
-use Rattle.std.proofs.Common.{◌≡◌, ◌≢◌, ℕ, zero, suc, ◌+◌, ◌*◌, ◌<◌, ◌≤◌, Bool, true, false, List, length, Option, Some, None, refl, sym, ◌∙◌, ap, subst, arith, ⊎_elim, get_or, set}
-use Rattle.std.specs.Prelude.{◌&&◌, if◌then◌else◌}
+use Rattle.std.proofs.Common.{◌≡◌, ◌≢◌, ℕ, zero, suc, ◌+◌, ◌*◌, ◌<◌, ◌≤◌, true, false, List, length, Option, Some, None, refl, sym, ◌∙◌, ap, subst, arith, ⊎_elim, get_or, set}
+use Rattle.std.specs.Prelude.{if◌then◌else◌}
 use Rattle.std.specs.List.{AllByRecursion}
 use Rattle.std.proofs.lemmas.Bool.{cases_eq}
 use Rattle.std.proofs.lemmas.List.{length-set, get_or-set_other, get_or-set_same, ext_get_or}
@@ -54,13 +54,9 @@ pub not_positive : (n : ℕ) → is_positive n ≡ false → n ≡ 0
 not_positive zero e = refl
 not_positive (suc n) e = cc
 
-and_true : (a b : Bool) → a ≡ true → b ≡ true → (a && b) ≡ true
-and_true a b e d = cc
-
 pub head_of : (ps : List PoolView) (n : Number) (k : Packet) → Stands ps n k → is_head ps n ≡ true
 head_of ps n k s =
-    and_true (is_out ps n) (is_positive (header_at ps n).segs) s.out
-    (ap is_positive s.segs ∙ positive (length k) s.some)
+    ap is_positive s.segs ∙ positive (length k) s.some
 
 pub packet_is : (ps : List PoolView) (n : Number) (o : Option Packet) → StandsAt ps n o → packet_at ps n ≡ o
 packet_is ps n None e =
@@ -101,7 +97,7 @@ pub record Stays (ps ps' : List PoolView) (m : Number) : Type 0 where
 
 pub head_stays : (ps ps' : List PoolView) (m : Number) → Stays ps ps' m → is_head ps' m ≡ is_head ps m
 head_stays ps ps' m s =
-    ap (λ b. b && is_positive (header_at ps' m).segs) s.out ∙ ap (λ j. is_out ps m && is_positive j) s.header.segs
+    ap is_positive s.header.segs
 
 pub stands_kept : (ps ps' : List PoolView) (n : Number) (k : Packet) → Stands ps n k → ((m : Number) → 1 ≤ mbufs k m → Stays ps ps' m) → Stands ps' n k
 stands_kept ps ps' n k s e =

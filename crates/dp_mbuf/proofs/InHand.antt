@@ -62,16 +62,8 @@ less ps ps' slots s more w f stored outs =
           c.out m number
           ∙ positive (mbufs (s ∷ ss) m + refs (s ∷ ss) m) (omega (arith, e, q, mbufs-cons s ss m)) in
           record { out = new ∙ sym old; header = f.headers m })
-          (λ m _ none. down ps ps' m (is_out ps m) refl (f.outs m) (f.headers m).segs none);
+          (λ m _ none. ap is_positive (f.headers m).segs ∙ none);
     }
-  where
-    down : (ps ps' : List PoolView) (m : Number) (b : Bool) → is_out ps m ≡ b → (is_out ps m ≡ false → is_out ps' m ≡ false) → (header_at ps' m).segs ≡ (header_at ps m).segs → is_head ps m ≡ false → is_head ps' m ≡ false
-    down ps ps' m false e f segs none = ap (λ v. v && is_positive (header_at ps' m).segs) (f e)
-    down ps ps' m true e f segs none =
-        let z : is_positive (header_at ps m).segs ≡ false =
-        sym (ap (λ v. v && is_positive (header_at ps m).segs) e) ∙ none in
-        ap (λ j. is_out ps' m && is_positive j) segs
-        ∙ (ap (λ v. is_out ps' m && v) z ∙ and_false (is_out ps' m))
 
 -- the links of what is left
 pub less_links : (ps ps' : List PoolView) (n : Number) (s : Segment) (more : Packet) → Linked (header_at ps) n (s ∷ more) → Fewer ps ps' → Linked (header_at ps') (header_at ps n).next more
@@ -309,7 +301,7 @@ grown ps ps' hand slots s w f lies stored kind =
           (λ d. record { out = f.outs m d; header = f.headers m d })
           (same_or n m))
           (λ m _ none. ⊎_elim
-          (λ e. subst (λ j. is_head ps' j ≡ false) e (ap (λ j. is_out ps' n && is_positive j) f.no_head ∙ and_false (is_out ps' n)))
+          (λ e. subst (λ j. is_head ps' j ≡ false) e (ap is_positive f.no_head))
           (λ d. head_stays ps ps' m (record { out = f.outs m d; header = f.headers m d }) ∙ none)
           (same_or n m));
     }

@@ -8,6 +8,7 @@ pub mod Edits
 pub mod Live
 pub mod InHand
 pub mod Freeing
+pub mod Unhooking
 pub mod Taking
 pub mod Bytes
 pub mod Allocs

@@ -1,6 +1,6 @@
 -- The calls on objects: what they ask of a place for a pool, and what they leave.
 use Rattle.std.proofs.Common.{◌≡◌, ℕ, zero, suc, ◌+◌, ◌<◌, ◌≤◌, Bool, true, false, List, [], ◌∷◌, length, Option, Some, None, refl, sym, ◌∙◌, ap, subst, arith, get_or, set}
-use Rattle.std.specs.Prelude.{slice_get, count_by, not, unwrap_or}
+use Rattle.std.specs.Prelude.{slice_get, count_by, not}
 use Rattle.std.proofs.lemmas.List.{length-set, get_or_past}
 use Rattle.std.specs.List.{AllByRecursion}
 use Rattle.dp_model.specs.Environments.{room_at}
@@ -8,7 +8,7 @@ use Rattle.dp_model.specs.Buffers.{Number}
 use Rattle.dp_mbuf.specs.declared.header.Header.{Header}
 use Rattle.dp_mbuf.specs.Headers.{header_bytes}
 use Rattle.dp_pool.specs.Pools.{PoolView, with_written, got, put_back}
-use Rattle.dp_mbuf.specs.Objects.{present, pool_in, is_out, count_in, specs_of, HasObject, HasRooms, PoolsFirst, ArePools, HeaderSet, RoomWritten, Taken, Given, SlotHas, SlotFits, SlotIsOut, SlotBecomes, SlotGives, slot_out, no_pool}
+use Rattle.dp_mbuf.specs.Objects.{present, pool_in, is_out, count_in, specs_of, HasObject, HasRooms, PoolsFirst, ArePools, HeaderSet, RoomWritten, Taken, Given, SlotHas, SlotFits, SlotIsOut, SlotBecomes, SlotGives, slot_count, no_pool}
 use Rattle.dp_mbuf.proofs.PoolLemmas.{Small, pool_out}
 use Rattle.dp_mbuf.proofs.ObjectLemmas.{are_pools, object_pool, room_is, header_set, room_written, rooms_written, taken, given, slot_is, slot_below, slot_set, slot_first}
 
@@ -121,32 +121,26 @@ module _ (pools : List (Option PoolView)) (ps : List PoolView) (e : present pool
       same (p ∷ ps) zero = refl
       same (p ∷ ps) (suc k) = ap (λ r. p ∷ r) (same ps k)
 
--- ---- whether an object is out
+-- ---- how many objects there are
 
-pub told_out : (row : List Bool) (i : ℕ) → unwrap_or (slice_get row i) false ≡ get_or row i false
-told_out [] i = refl
-told_out (x ∷ row) zero = refl
-told_out (x ∷ row) (suc i) = told_out row i
+no_slot : (pools : List (Option PoolView)) (k : ℕ) (d : Option PoolView) → AllByRecursion (λ o. o ≡ None) pools → k < length pools → slot_count (get_or pools k d) ≡ 0
+no_slot [] k d all h = absurd (omega arith)
+no_slot (o ∷ pools) zero d all h = ap slot_count all.0
+no_slot (o ∷ pools) (suc k) d all h = no_slot pools k d all.1 (omega arith)
 
-no_slot : (pools : List (Option PoolView)) (k i : ℕ) (d : Option PoolView) → AllByRecursion (λ o. o ≡ None) pools → k < length pools → slot_out (get_or pools k d) i ≡ false
-no_slot [] k i d all h = absurd (omega arith)
-no_slot (o ∷ pools) zero i d all h = ap (λ x. slot_out x i) all.0
-no_slot (o ∷ pools) (suc k) i d all h = no_slot pools k i d all.1 (omega arith)
+slot_count_is : (pools : List (Option PoolView)) (k : ℕ) (d : Option PoolView) → PoolsFirst pools → k < length pools → slot_count (get_or pools k d) ≡ length (pool_in (present pools) k).objects
+slot_count_is [] k d first h = absurd (omega arith)
+slot_count_is (None ∷ pools) zero d first h = refl
+slot_count_is (None ∷ pools) (suc k) d first h = no_slot pools k d first (omega arith)
+slot_count_is (Some p ∷ pools) zero d first h = refl
+slot_count_is (Some p ∷ pools) (suc k) d first h = slot_count_is pools k d first.1 (omega arith)
 
-pub slot_out_is : (pools : List (Option PoolView)) (k i : ℕ) (d : Option PoolView) → PoolsFirst pools → k < length pools → slot_out (get_or pools k d) i ≡ get_or (pool_in (present pools) k).out i false
-slot_out_is [] k i d first h = absurd (omega arith)
-slot_out_is (None ∷ pools) zero i d first h = refl
-slot_out_is (None ∷ pools) (suc k) i d first h = no_slot pools k i d first (omega arith)
-slot_out_is (Some p ∷ pools) zero i d first h = refl
-slot_out_is (Some p ∷ pools) (suc k) i d first h = slot_out_is pools k i d first.1 (omega arith)
+pub counted : (pools : List (Option PoolView)) (ps : List PoolView) (k j : ℕ) (d : Option PoolView) → present pools ≡ ps → (length pools ≡ 8) × PoolsFirst pools → k ≡ j → j < 8 → slot_count (get_or pools k d) ≡ length (pool_in ps j).objects
+counted pools ps k j d e inv ek h =
+    ap (λ i. slot_count (get_or pools i d)) ek
+    ∙ (slot_count_is pools j d inv.1 (omega (arith, h, inv.0)) ∙ ap (λ q. length (pool_in q j).objects) e)
 
-pub out_is : (pools : List (Option PoolView)) (ps : List PoolView) (n : Number) (k i : ℕ) (d : Option PoolView) → present pools ≡ ps → (length pools ≡ 8) × PoolsFirst pools → k ≡ n.pool → i ≡ n.index → n.pool < 8 → slot_out (get_or pools k d) i ≡ is_out ps n
-out_is pools ps n k i d e inv ek ei h =
-    ap (λ j. slot_out (get_or pools j d) i) ek
-    ∙ (ap (λ j. slot_out (get_or pools n.pool d) j) ei
-    ∙ (slot_out_is pools n.pool n.index d inv.1 (omega (arith, h, inv.0)) ∙ ap (λ q. is_out q n) e))
-
-pub no_pool_out : (pools : List (Option PoolView)) (ps : List PoolView) (n : Number) → present pools ≡ ps → (length pools ≡ 8) × PoolsFirst pools → 8 ≤ n.pool → is_out ps n ≡ false
-no_pool_out pools ps n e inv h =
+pub counted_none : (pools : List (Option PoolView)) (ps : List PoolView) (j : ℕ) → present pools ≡ ps → (length pools ≡ 8) × PoolsFirst pools → 8 ≤ j → length (pool_in ps j).objects ≡ 0
+counted_none pools ps j e inv h =
     let few = (are pools ps e inv).few in
-    ap (λ p. get_or p.out n.index false) (get_or_past ps n.pool no_pool (omega (arith, few, h)))
+    ap (λ p. length p.objects) (get_or_past ps j no_pool (omega (arith, few, h)))

@@ -11,7 +11,7 @@ use Rattle.dp_model.specs.Packets.{Packet, refs}
 use Rattle.dp_model.specs.Machine.{segments_held}
 use Rattle.dp_model.specs.Stores.{Store, IsLive}
 use Rattle.dp_pool.specs.Pools.{PoolView}
-use Rattle.dp_mbuf.specs.Objects.{header_at, is_out, specs_of, buffers_of, zones_of, present, pool_in, PoolsFirst, HasObject, ArePools, AreAllIn, slot_whole}
+use Rattle.dp_mbuf.specs.Objects.{header_at, is_out, specs_of, buffers_of, zones_of, present, pool_in, PoolsFirst, ArePools, Unhooked, AreAllIn, slot_whole}
 use Rattle.dp_mbuf.specs.Mbufs.{numbered, is_positive, is_head, mbufs, slots_of, shown, MbufsView, viewed, StandsAt, Counted, Whole, Sound, AreReady, IsNew, HasNone, AreBack}
 use Rattle.dp_mbuf.proofs.PoolLemmas.{one_if}
 use Rattle.dp_mbuf.proofs.ObjectLemmas.{length_specs, count_is}
@@ -28,8 +28,8 @@ none_there zero h = refl
 none_there (suc n) zero = refl
 none_there (suc n) (suc h) = none_there n h
 
-pub whole_new : (ps : List PoolView) → ArePools ps → AreAllIn ps → Whole ps [] (replicate (65536 * length ps) None)
-whole_new ps are all_in = record {
+pub whole_new : (ps : List PoolView) → ArePools ps → AreAllIn ps → ((m : Number) → (header_at ps m).segs ≡ 0) → Whole ps [] (replicate (65536 * length ps) None)
+whole_new ps are all_in heads = record {
   are = are;
   counted = subst (Counted ps) (sym (none_held (65536 * length ps))) (record {
     once = λ n. omega arith;
@@ -46,18 +46,19 @@ whole_new ps are all_in = record {
 }
   where
     none : (o : Option Packet) (n : Number) → o ≡ None → StandsAt ps n o
-    none None n e = ap (λ b. b && is_positive (header_at ps n).segs) (all_in n)
+    none None n e = ap is_positive (heads n)
     none (Some k) n e = absurd (cc)
 
-pub new_is : (pools : List (Option PoolView)) (ps : List PoolView) → ps ≡ present pools → ArePools ps → AreReady pools → Sound ps × IsNew pools (viewed ps)
-new_is pools ps e are ready =
-    let d = settled ps (replicate (65536 * length ps) None) (whole_new ps are (subst AreAllIn (sym e) ready.all_in)) in (
+pub new_is : (pools : List (Option PoolView)) (ps ps' : List PoolView) → ps ≡ present pools → Unhooked (λ m. Unit {0}) ps ps' → AreReady pools → Sound ps' × IsNew pools (viewed ps')
+new_is pools ps ps' e u ready =
+    let all_in : AreAllIn ps = subst AreAllIn (sym e) ready.all_in in
+    let d = settled ps' (replicate (65536 * length ps') None) (whole_new ps' u.are (λ n. u.outs n ∙ all_in n) (λ m. u.heads m tt)) in (
       d.0,
       record {
-        pools_are = ap specs_of e;
-        buffers = ap buffers_of e;
-        zones = ap zones_of e;
-        empty = d.1 ∙ ap (λ n. replicate (65536 * n) None) (sym (length_specs ps));
+        pools_are = u.specs ∙ ap specs_of e;
+        buffers = u.buffers ∙ ap buffers_of e;
+        zones = u.zones ∙ ap zones_of e;
+        empty = d.1 ∙ ap (λ n. replicate (65536 * n) None) (sym (length_specs ps'));
       },
     )
 
@@ -168,12 +169,6 @@ live_from_head ps v h e sound head =
 pub head_from_live : (ps : List PoolView) (v : Store) (h : ℕ) → shown ps ≡ v → Sound ps → IsLive v h → is_head ps (numbered h) ≡ true
 head_from_live ps v h e sound live =
     head_of ps (numbered h) live.0 (opened ps v h live.0 e sound live.1).stands
-
-pub out_object : (ps : List PoolView) (n : Number) → ArePools ps → is_out ps n ≡ true → HasObject ps n
-out_object ps n are out = ⊎_elim
-    (λ b. let c = count_is ps n.pool in omega (arith, b, c))
-    (λ past. let f = past_out ps n are past in absurd (cc))
-    (cases_lt n.index (count_at (specs_of ps) n.pool))
 
 pub positive_is : (n : ℕ) → is_positive n ≡ not (nat_eq n 0)
 positive_is zero = refl

@@ -34,7 +34,7 @@ walk h (suc k) n = segment_at h n ∷ walk h k (h n).next
 
 -- whether a packet begins there
 abbrev pub is_head : List PoolView → Number → Bool
-is_head ps n = is_out ps n && is_positive (header_at ps n).segs
+is_head ps n = is_positive (header_at ps n).segs
 
 abbrev pub packet_at : List PoolView → Number → Option Packet
 packet_at ps n = if is_head ps n then Some (walk (header_at ps) (header_at ps n).segs n) else None

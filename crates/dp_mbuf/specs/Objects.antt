@@ -109,6 +109,16 @@ pub record RoomWritten (pools : List PoolView) (n : Number) (at : ℕ) (bytes : 
   pub ins : (k : ℕ) → count_in pools' k ≡ count_in pools k
   pub headers : (m : Number) → header_at pools' m ≡ header_at pools m
 
+-- no packet begins any more at the numbers of which this holds, nor anew at others
+pub record Unhooked (P : Number → Type 0) (pools pools' : List PoolView) : Type 0 where
+  pub are : ArePools pools'
+  pub specs : specs_of pools' ≡ specs_of pools
+  pub zones : zones_of pools' ≡ zones_of pools
+  pub buffers : buffers_of pools' ≡ buffers_of pools
+  pub outs : (m : Number) → is_out pools' m ≡ is_out pools m
+  pub heads : (m : Number) → P m → (header_at pools' m).segs ≡ 0
+  pub kept : (m : Number) → (header_at pools m).segs ≡ 0 → (header_at pools' m).segs ≡ 0
+
 -- n has been handed out, which was in
 pub record Taken (pools : List PoolView) (n : Number) (pools' : List PoolView) : Type 0 where
   pub are : ArePools pools'
@@ -144,10 +154,10 @@ abbrev pub SlotFits : Option PoolView → ℕ → ℕ → Type 0
 SlotFits None i n = ⊥
 SlotFits (Some p) i n = HasRooms p × (i < length p.objects) × (n ≤ p.size)
 
--- whether the object is handed out, and false where there is none
-abbrev pub slot_out : Option PoolView → ℕ → Bool
-slot_out None i = false
-slot_out (Some p) i = slice_index_or p.out i false
+-- how many objects the place's pool has
+abbrev pub slot_count : Option PoolView → ℕ
+slot_count None = 0
+slot_count (Some p) = length p.objects
 
 -- whether all objects of the place's pool are in
 abbrev pub slot_whole : Option PoolView → Bool

@@ -10,7 +10,7 @@ ghost use Rattle.dp_mbuf.specs.Objects.{header_at, specs_of, buffers_of, HasObje
 ghost use Rattle.dp_mbuf.specs.Mbufs.{numbered, handle, AreReady, IsNew, HasNone, AreBack, Linked, HasWalk, mbufs_in_all};
 
 use crate::hands::{
-    behind, clone_segment, fill_segment, fresh_header, hook, release, relink, unhook,
+    behind, clone_segment, fill_segment, fresh_header, hook, release, relink, unhook, unhook_all,
 };
 use crate::header::{Header, Place};
 use crate::numbers::{bytes_of_number, read_number};
@@ -104,9 +104,9 @@ impl Mbufs {
         requires { AreReady pools }
         ensures { IsNew pools result }
     {
-        Mbufs {
-            objects: Objects::over(pools),
-        }
+        let mut objects = Objects::over(pools);
+        unhook_all(&mut objects);
+        Mbufs { objects }
     }
 
     /// Whether there is no packet, live or parked.
@@ -148,7 +148,8 @@ impl Mbufs {
         ensures { IsTrue result ↔ IsLive self.now.store packet.now }
     {
         let place = place_of(packet);
-        self.objects.is_out(place) && self.objects.header(place).segs != 0
+        (place.index() as u32) < self.objects.count(place.pool())
+            && self.objects.header(place).segs != 0
     }
 
     /// The room before the first segment's bytes.

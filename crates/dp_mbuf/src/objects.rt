@@ -5,7 +5,7 @@ ghost use Rattle.std.specs.List.{list_all};
 ghost use Rattle.dp_model.specs.Buffers.{bytes_of};
 ghost use Rattle.dp_model.specs.Environments.{room_at};
 ghost use Rattle.dp_pool.specs.Pools.{with_written, put_back};
-ghost use Rattle.dp_mbuf.specs.Objects.{present, pool_in, header_at, is_out, count_in, specs_of, buffers_of, HasObject, HasRooms, PoolsFirst, ArePools, HeaderSet, RoomWritten, Taken, Given, SlotHas, SlotFits, SlotIsOut, SlotBecomes, SlotGives, slot_out, slot_whole, AreAllIn};
+ghost use Rattle.dp_mbuf.specs.Objects.{present, pool_in, header_at, is_out, count_in, specs_of, buffers_of, HasObject, HasRooms, PoolsFirst, ArePools, HeaderSet, RoomWritten, Taken, Given, SlotHas, SlotFits, SlotIsOut, SlotBecomes, SlotGives, slot_count, slot_whole, AreAllIn};
 
 use crate::header::{Header, Place, bytes_of_header, read_header};
 use dp_pool::Pool;
@@ -72,13 +72,13 @@ fn put_in(slot: &mut Option<Pool>, index: u16)
     }
 }
 
-// Whether an object of a place's pool is handed out.
-fn is_out_in(slot: &Option<Pool>, index: u16) -> bool
-    ensures { result ≡ slot_out slot.now index }
+// How many objects a place's pool has.
+fn count_in_slot(slot: &Option<Pool>) -> u32
+    ensures { result ≡ slot_count slot.now }
 {
     match slot {
-        Some(pool) => pool.is_out(index as u32),
-        None => false,
+        Some(pool) => pool.count(),
+        None => 0,
     }
 }
 
@@ -132,16 +132,16 @@ impl Objects {
         read_header(pool_at(&self.pools, n.pool()).object(n.index() as u32))
     }
 
-    /// Whether an object is handed out; `false` where there is no such object.
-    pub fn is_out(&self, n: Place) -> bool
-        ensures { result ≡ is_out self.now n }
+    /// How many objects a pool has; 0 where there is no such pool.
+    pub fn count(&self, pool: u16) -> u32
+        ensures { result ≡ length (pool_in self.now pool).objects }
     {
         let pools = &self.pools;
-        let k = n.pool() as usize;
+        let k = pool as usize;
         if k >= 8 {
-            return false;
+            return 0;
         }
-        is_out_in(&pools[k], n.index())
+        count_in_slot(&pools[k])
     }
 
     /// The data room of a pool's objects.

@@ -1,25 +1,24 @@
-use Rattle.std.proofs.Common.{◌≡◌, ◌∙◌, ap, sym, true, false}
-use Rattle.std.specs.Prelude.{◌&&◌}
-use Rattle.dp_mbuf.specs.Objects.{header_at, is_out}
+use Rattle.std.proofs.Common.{◌≡◌, ◌∙◌, ap, sym, length, arith}
+use Rattle.std.proofs.lemmas.Bool.{le-ltb}
+use Rattle.dp_mbuf.specs.Objects.{pool_in}
 use Rattle.dp_mbuf.specs.Mbufs.{numbered, is_positive}
 use Rattle.dp_mbuf.proofs.Live.{same_store}
+use Rattle.dp_mbuf.proofs.Unhooking.{no_head_past}
 use Rattle.dp_mbuf.proofs.Starting.{live_iff, positive_is}
 use Rattle.dp_mbuf.proofs.mbufs.Mbufs.is_live.Goals as goal
 
-pub returns-then-is_out : goal.returns-then-is_out
-returns-then-is_out c =
-    let out : is_out c.self.inside.objects (numbered c.args.packet.now) ≡ true =
-    ap (is_out c.self.inside.objects) (sym c.place_of-place.ensures) ∙ (sym c.is_out.ensures ∙ c.if-is_out.true) in
+pub returns-then-index-count : goal.returns-then-index-count
+returns-then-index-count c =
     let header = rw c.place_of-place.ensures at c.header.ensures in
     live_iff _ _ c.args.packet.now _ (same_store c.self.view_is) c.self.invariant
-    (sym (positive_is c.header.result.segs)
-    ∙ (ap (λ h. is_positive h.segs) header
-    ∙ ap (λ b. b && is_positive (header_at c.self.inside.objects (numbered c.args.packet.now)).segs) (sym out)))
+    (sym (positive_is c.header.result.segs) ∙ ap (λ h. is_positive h.segs) header)
 
-pub returns-else-is_out : goal.returns-else-is_out
-returns-else-is_out c =
-    let out : is_out c.self.inside.objects (numbered c.args.packet.now) ≡ false =
-    ap (is_out c.self.inside.objects) (sym c.place_of-place.ensures) ∙ (sym c.is_out.ensures ∙ c.if-is_out.false) in
+pub returns-else-index-count : goal.returns-else-index-count
+returns-else-index-count c =
+    let i : c.index.result ≡ (numbered c.args.packet.now).index = c.index.ensures ∙ ap (λ n. n.index) c.place_of-place.ensures in
+    let k : c.pool.result ≡ (numbered c.args.packet.now).pool = c.pool.ensures ∙ ap (λ n. n.pool) c.place_of-place.ensures in
+    let many : c.count.result ≡ length (pool_in c.self.inside.objects (numbered c.args.packet.now).pool).objects =
+    c.count.ensures ∙ ap (λ j. length (pool_in c.self.inside.objects j).objects) k in
     live_iff _ _ c.args.packet.now _ (same_store c.self.view_is) c.self.invariant
-    (c.if-is_out.false
-    ∙ ap (λ b. b && is_positive (header_at c.self.inside.objects (numbered c.args.packet.now)).segs) (sym out))
+    (le-ltb c.index.result c.count.result c.if-index-count.false
+    ∙ sym (ap is_positive (no_head_past c.self.inside.objects (numbered c.args.packet.now) (omega (arith, i, many, c.if-index-count.false)))))

@@ -2,7 +2,7 @@ use Rattle.dp_mbuf.proofs.Starting.{new_is}
 use Rattle.dp_mbuf.proofs.mbufs.Mbufs.over.Goals as goal
 
 pub invariant_of-result : goal.invariant_of-result
-invariant_of-result c = (new_is c.args.pools _ c.over.ensures.value c.over.ensures.pools c.requires).0
+invariant_of-result c = (new_is c.args.pools _ _ c.over-objects.ensures.value c.unhook_all.ensures c.requires).0
 
 pub returns : goal.returns
-returns c = (new_is c.args.pools _ c.over.ensures.value c.over.ensures.pools c.requires).1
+returns c = (new_is c.args.pools _ _ c.over-objects.ensures.value c.unhook_all.ensures c.requires).1
