@@ -5,6 +5,7 @@
 
 mod blocks;
 mod heaps;
+mod mbufs;
 mod numbers;
 mod pools;
 mod rings;
@@ -44,6 +45,20 @@ pub extern "C" fn dpv_pool(alloc: Global, cached: bool, rounds: u32) -> u32
     ensures { (result ≡ rounds) ⊎ (result ≡ 0) }
 {
     pools::served(alloc, cached, rounds)
+}
+
+/// A packet of one segment without bytes is taken from a pool with a cache for 256 and given up; the numbers 1 and 2
+/// stand for a clone of such a packet, and for 16 bytes that come in front of it and are cut off.
+#[unsafe(no_mangle)]
+pub extern "C" fn dpv_mbufs(alloc: Global, deed: u32, rounds: u32) -> u32
+    ensures { result ≤ rounds }
+{
+    let deed = match deed {
+        0 => mbufs::Deed::Alloc,
+        1 => mbufs::Deed::Clone,
+        _ => mbufs::Deed::Front,
+    };
+    mbufs::served(alloc, deed, rounds)
 }
 
 /// A table for 65,536 rules gets `rules` random ones, is asked for `addresses` random ones, and loses the first

@@ -1,0 +1,10 @@
+use Rattle.std.proofs.Common.{◌∙◌, sym, refl}
+use Rattle.dp_bench.proofs.Packets.{ready_one, new_some, new_none, back_one}
+use Rattle.dp_bench.proofs.mbufs.served_in.Goals as goal
+
+pub over-mbufs-requires : goal.over-mbufs-requires
+over-mbufs-requires c = ready_one _ c.in-Some.pool c.in-Some.ensures.pool
+
+pub unmake-requires : goal.unmake-requires
+unmake-requires c =
+    back_one c.make.new.heap.home c.in-Some.pool c.into_pools.result c.into_pools.type_inv.1.1.0.1 c.into_pools.ensures.first (c.into_pools.ensures.zones ∙ (c.served_by-served.ensures.same.2 ∙ c.over-mbufs.ensures.zones)) (c.in-Some.ensures.pool.home ∙ sym c.make.ensures.home)

@@ -1,0 +1,38 @@
+-- What the rounds over mbufs keep.
+use Rattle.std.specs.Prelude.{◌≡◌, ℕ, ◌≤◌, false, length, List, [], ◌∷◌, Option, Some, None, replicate}
+use Rattle.dp_model.specs.Packets.{headroom, IsHeadSole}
+use Rattle.dp_model.specs.Stores.{Store, HasSome, segments_of}
+use Rattle.dp_region.specs.Ownership.{Home}
+use Rattle.dp_pool.specs.Pools.{PoolView, IsPool}
+use Rattle.dp_mbuf.specs.Mbufs.{MbufsView}
+
+-- the packets and the pools are as before, in their zones; bytes that no packet has may differ
+abbrev pub AreAsBefore : MbufsView → MbufsView → Type 0
+AreAsBefore old new = (new.store.slots ≡ old.store.slots) × (new.store.pools ≡ old.store.pools) × (new.zones ≡ old.zones)
+
+-- there is room for so many bytes in front of the packet, and its first buffer has one reference
+abbrev pub HasFront : Store → ℕ → ℕ → Type 0
+HasFront s h n = HasSome s h (λ k. (n ≤ headroom k) × IsHeadSole (segments_of s) k)
+
+-- a pool of mbufs with all in, in zones of the region
+pub record IsReadyPool (region : Home) (p : PoolView) : Type 0 where
+  pub pool : IsPool p
+  pub size : p.size ≡ 2304
+  pub count : length p.objects ≡ 400
+  pub all_in : p.out ≡ replicate 400 false
+  pub home : p.zones.home ≡ region
+
+-- where the place has a pool, it stands in zones of the region
+abbrev pub IsIn : Home → Option PoolView → Type 0
+IsIn region None = Unit {0}
+IsIn region (Some p) = p.zones.home ≡ region
+
+-- in how many zones the place's pool stands
+abbrev pub zones_in : Option PoolView → ℕ
+zones_in None = 0
+zones_in (Some p) = 2
+
+-- one pool in the first place, in zones of the region
+abbrev pub IsOnePool : Home → List (Option PoolView) → Type 0
+IsOnePool region pools =
+    (p : PoolView) × (p.zones.home ≡ region) × (pools ≡ Some p ∷ None ∷ None ∷ None ∷ None ∷ None ∷ None ∷ None ∷ [])
