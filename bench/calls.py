@@ -1,5 +1,5 @@
 #!/usr/bin/env python3
-"""Counts the machine instructions of calls of the heap, the ring, the pool and the table of longest prefixes, beside DPDK.
+"""Counts the machine instructions of calls of the heap, the ring, the pool, mbufs and the table of longest prefixes, beside DPDK.
 
 Usage: bench/calls.py
 It proves and builds the static library of crates/dp_bench and calls it from C (bench/calls/dpv.c), and where DPDK is
@@ -31,13 +31,16 @@ OPERATIONS = {
     "pool: get and put, cache for 256": ("cached", "cached", 10_000, 1, None),
     "pool: get and put, no cache": ("uncached", "uncached", 10_000, 1, None),
     "the same beside a pool for one lcore": ("uncached", "single", 10_000, 1, None),
+    "mbuf: alloc and free, cache for 256": ("alloc", "alloc", 10_000, 1, None),
+    "mbuf: clone and free": ("clone", "clone", 10_000, 1, None),
+    "mbuf: prepend and adj of 16 bytes": ("front", "front", 10_000, 1, None),
     "lpm: look-up among 60,000 rules": ("lookup", "lookup", 100_000, 1, ("add", RULES)),
     "lpm: add, of 60,000 rules": ("add", "add", RULES, 1, ("add", 0)),
     "lpm: delete, of 60,000 rules": ("delete", "delete", RULES, 1, ("add", RULES)),
 }
 
 # DPDK's figures of another machine.
-TAKEN = {"ring": 36, "bulk": 7, "cached": 41, "uncached": 109, "lookup": 19, "add": 63_000, "delete": 99_000}
+TAKEN = {"ring": 36, "bulk": 7, "cached": 41, "uncached": 109, "alloc": 106, "clone": 260, "front": 27, "lookup": 19, "add": 63_000, "delete": 99_000}
 
 
 def compiled(source: str, folder: pathlib.Path, words: list[str]) -> str:

@@ -7,6 +7,7 @@
 #include <rte_eal.h>
 #include <rte_lpm.h>
 #include <rte_malloc.h>
+#include <rte_mbuf.h>
 #include <rte_mempool.h>
 #include <rte_ring.h>
 
@@ -14,6 +15,8 @@
 #define PLACES 1024
 #define BULK 32
 #define OBJECTS 8191
+#define MBUFS 400
+#define FRONT 16
 #define MAX_RULES 65536
 #define GROUPS 256
 #define RULES 60000
@@ -93,6 +96,36 @@ static uint32_t pairs(unsigned cache, unsigned flags, uint32_t rounds) {
     return served;
 }
 
+__attribute__((noinline)) static int taken(struct rte_mempool *pool) {
+    struct rte_mbuf *packet = rte_pktmbuf_alloc(pool);
+    if (!packet) return 0;
+    rte_pktmbuf_free(packet);
+    return 1;
+}
+
+__attribute__((noinline)) static int cloned(struct rte_mempool *pool, struct rte_mbuf *packet) {
+    struct rte_mbuf *clone = rte_pktmbuf_clone(packet, pool);
+    if (!clone) return 0;
+    rte_pktmbuf_free(clone);
+    return 1;
+}
+
+__attribute__((noinline)) static int fronted(struct rte_mbuf *packet) {
+    return rte_pktmbuf_prepend(packet, FRONT) && rte_pktmbuf_adj(packet, FRONT);
+}
+
+// What is done in a round goes by the name's first letter: alloc, clone or front.
+static uint32_t mbufs(char deed, uint32_t rounds) {
+    struct rte_mempool *pool = rte_pktmbuf_pool_create("mbufs", MBUFS, 256, 0, RTE_MBUF_DEFAULT_BUF_SIZE, SOCKET_ID_ANY);
+    struct rte_mbuf *packet = pool ? rte_pktmbuf_alloc(pool) : NULL;
+    if (!packet) return 0;
+    uint32_t served = 0;
+    for (uint32_t k = 0; k < rounds; k++) served += deed == 'a' ? taken(pool) : deed == 'c' ? cloned(pool, packet) : fronted(packet);
+    rte_pktmbuf_free(packet);
+    rte_mempool_free(pool);
+    return served;
+}
+
 static uint8_t depth_of(uint32_t number) {
     uint8_t eighth = number / 256 % 8;
     return number % 100 < 60 ? 24 : number % 100 < 95 ? 16 + eighth : 8 + eighth;
@@ -134,6 +167,7 @@ int main(int argc, char **argv) {
     else if (!strcmp(name, "cached")) answer = pairs(256, 0, rounds);
     else if (!strcmp(name, "uncached")) answer = pairs(0, 0, rounds);
     else if (!strcmp(name, "single")) answer = pairs(0, RTE_MEMPOOL_F_SP_PUT | RTE_MEMPOOL_F_SC_GET, rounds);
+    else if (!strcmp(name, "alloc") || !strcmp(name, "clone") || !strcmp(name, "front")) answer = mbufs(name[0], rounds);
     else if (!strcmp(name, "add")) answer = routes(rounds, 0, 0);
     else if (!strcmp(name, "lookup")) answer = routes(RULES, rounds, 0);
     else if (!strcmp(name, "delete")) answer = routes(RULES, 0, rounds);

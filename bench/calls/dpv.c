@@ -9,6 +9,7 @@ uint32_t dpv_blocks(uint32_t rounds);
 uint32_t dpv_ring(uint32_t rounds);
 uint32_t dpv_ring_bulk(uint32_t rounds);
 uint32_t dpv_pool(bool cached, uint32_t rounds);
+uint32_t dpv_mbufs(uint32_t deed, uint32_t rounds);
 uint64_t dpv_routes(uint32_t rules, uint32_t addresses, uint32_t deletes);
 
 #define RULES 60000
@@ -23,6 +24,9 @@ int main(int argc, char **argv) {
     else if (!strcmp(name, "bulk")) answer = dpv_ring_bulk(rounds);
     else if (!strcmp(name, "cached")) answer = dpv_pool(true, rounds);
     else if (!strcmp(name, "uncached")) answer = dpv_pool(false, rounds);
+    else if (!strcmp(name, "alloc")) answer = dpv_mbufs(0, rounds);
+    else if (!strcmp(name, "clone")) answer = dpv_mbufs(1, rounds);
+    else if (!strcmp(name, "front")) answer = dpv_mbufs(2, rounds);
     else if (!strcmp(name, "add")) answer = dpv_routes(rounds, 0, 0);
     else if (!strcmp(name, "lookup")) answer = dpv_routes(RULES, rounds, 0);
     else if (!strcmp(name, "delete")) answer = dpv_routes(RULES, 0, rounds);

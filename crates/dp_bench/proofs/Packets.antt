@@ -9,9 +9,9 @@ use Rattle.dp_model.specs.Machine.{segments_held}
 use Rattle.dp_model.specs.Stores.{Store, Has, HasSome, IsLive, Becomes, unwritten, with_slot, Gives, Allocates, Clones}
 use Rattle.dp_region.specs.Ownership.{Home}
 use Rattle.dp_pool.specs.Pools.{PoolView, PoolZones}
-use Rattle.dp_mbuf.specs.Objects.{present, PoolsFirst, HasRooms, pool_in, zones_of}
-use Rattle.dp_mbuf.specs.Mbufs.{MbufsView, AreReady, IsNew, HasNone, AreBack}
-use Rattle.dp_bench.specs.Mbufs.{AreAsBefore, HasFront, IsReadyPool, IsOnePool}
+use Rattle.dp_mbuf.specs.Objects.{present, PoolsFirst, pool_in, zones_of}
+use Rattle.dp_mbuf.specs.Mbufs.{MbufsView, AreReady, IsNew, HasNone}
+use Rattle.dp_bench.specs.Mbufs.{HasFront, IsReadyPool, IsOnePool}
 
 -- ---- a place that is filled and emptied
 
@@ -82,12 +82,11 @@ module _ (s s' : Store) (h n : ℕ) (some : 0 < n) (f : HasFront s h n) (b : Bec
   pub front_back : (s'' : Store) → Becomes s' s'' h (at_front (less_before n)) unwritten → (s''.slots ≡ s.slots) × (s''.pools ≡ s.pools)
   front_back s'' c =
       let cut = c grown has_grown in
-      let first = b f.0 f.1 in
-      (
+      let first = b f.0 f.1 in (
         ap (λ (x : Store). x.slots) cut
-        ∙ (ap (λ (k : Packet). slice_set s'.slots h (Some k)) (as_before f.0 n f.2.0)
-        ∙ (ap (λ (x : Store). slice_set x.slots h (Some f.0)) first
-        ∙ put_back s.slots h (Some f.0) (Some grown) f.1)),
+            ∙ (ap (λ (k : Packet). slice_set s'.slots h (Some k)) (as_before f.0 n f.2.0)
+            ∙ (ap (λ (x : Store). slice_set x.slots h (Some f.0)) first
+            ∙ put_back s.slots h (Some f.0) (Some grown) f.1)),
         ap (λ (x : Store). x.pools) cut ∙ ap (λ (x : Store). x.pools) first,
       )
 

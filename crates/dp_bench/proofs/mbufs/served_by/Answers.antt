@@ -1,5 +1,5 @@
-use Rattle.std.proofs.Common.{◌∙◌, sym}
-use Rattle.dp_bench.proofs.Packets.{alloc_live, alloc_pools, alloc_back, live_kept, some_kept, returned}
+use Rattle.std.proofs.Common.{◌∙◌}
+use Rattle.dp_bench.proofs.Packets.{alloc_live, alloc_pools, live_kept, some_kept, returned}
 use Rattle.dp_bench.proofs.mbufs.served_by.Goals as goal
 
 pub served_beside-served-requires-clause-live : goal.served_beside-served-requires-clause-live

@@ -1,5 +1,5 @@
-use Rattle.std.proofs.Common.{◌∙◌, sym, refl}
-use Rattle.dp_bench.proofs.Packets.{ready_one, new_some, new_none, back_one}
+use Rattle.std.proofs.Common.{◌∙◌, sym}
+use Rattle.dp_bench.proofs.Packets.{ready_one, back_one}
 use Rattle.dp_bench.proofs.mbufs.served_in.Goals as goal
 
 pub over-mbufs-requires : goal.over-mbufs-requires
