@@ -4,6 +4,7 @@ ghost use Rattle.std.specs.Prelude.{◌≡◌, ◌<◌, ◌≤◌, ◌+◌, ◌/
 ghost use Rattle.dp_model.specs.Buffers.{same_number};
 ghost use Rattle.dp_mbuf.specs.Headers.{header_of, word, header_bytes};
 
+use byteorder::{ByteOrder, LittleEndian};
 use std::marker::Model;
 
 /// A buffer: its pool, and its index there.
@@ -69,7 +70,7 @@ fn read_word(bytes: &[u8], at: usize) -> u16
     requires { at + 2 ≤ length bytes.now }
     ensures { result ≡ word bytes.now at }
 {
-    bytes[at] as u16 + bytes[at + 1] as u16 * 256
+    LittleEndian::read_u16(&bytes[at..at + 2])
 }
 
 /// The header of an object.
@@ -91,13 +92,13 @@ pub(crate) fn read_header(object: &[u8]) -> Header
 fn low(x: u16) -> u8
     ensures { result ≡ x % 256 }
 {
-    (x % 256) as u8
+    x.to_le_bytes()[0]
 }
 
 fn high(x: u16) -> u8
     ensures { result ≡ x / 256 }
 {
-    (x / 256) as u8
+    x.to_le_bytes()[1]
 }
 
 /// The bytes of a header.
