@@ -14,6 +14,7 @@ ghost use Rattle.dp_engine.specs.Reports.{IsReport};
 ghost use Rattle.dp_engine.specs.Outcomes.{outcome_of};
 
 use crate::machine::Machine;
+use crate::parts::count_parts;
 use crate::plain::Plain;
 use crate::report::{InputState, Memory, PoolReport, PortReport, Report, Tallies};
 use crate::run::run;
@@ -71,8 +72,7 @@ fn needed(pools: &[PoolSpec], pool: u32, len: usize) -> usize
     requires len { len ≤ 262144 }
     ensures { result ≡ segments_needed pools.now pool len }
 {
-    let room = pools[pool as usize].room as usize - 128;
-    1usize.max((len + (room - 1)) / room)
+    count_parts(len, pools[pool as usize].room as usize - 128)
 }
 
 impl<P: PacketLayer> Engine<P> {

@@ -6,6 +6,7 @@ mod machine;
 mod numbers;
 mod one;
 mod packets;
+mod parts;
 mod plain;
 mod put;
 mod report;

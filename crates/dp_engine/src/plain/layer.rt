@@ -10,6 +10,7 @@ ghost use Rattle.dp_model.specs.Stores.{Store};
 
 use super::part::Part;
 use super::store::Plain;
+use crate::parts::count_parts;
 use dp_model::{Packet, PacketLayer, Width};
 
 // How many bytes a width is.
@@ -109,7 +110,7 @@ impl PacketLayer for Plain {
     fn receive(&mut self, pool: u32, bytes: &[u8]) -> Option<Packet> {
         let _pool = pool;
         let room = self.room() as usize - 128;
-        let need = 1usize.max((bytes.len() + (room - 1)) / room);
+        let need = count_parts(bytes.len(), room);
         if self.free_buffers() < need {
             return None;
         }
