@@ -25,6 +25,7 @@ ghost use Rattle.dp_engine.specs.Handles.{in_slot, core_of};
 
 mod calls;
 
+use calls::handle_in;
 use crate::numbers::calculate;
 use crate::put::put_packet;
 use dp_model::{Env, Instr, NumberRegister, Packet as Handle, PacketLayer, PacketRegister};
@@ -142,36 +143,25 @@ impl<P: PacketLayer> Machine<P> {
         requires { (k : Packet) × Holds self.now.state p k }
         ensures { (k : Packet) → Holds self.now.state p k → result ≡ first_len k }
     {
-        let at = p.number() as usize;
-        match self.registers[at] {
-            Some(packet) => self.layer.first_len(Handle::of(packet)),
-            None => unreachable!(),
-        }
+        let packet = handle_in(&self.registers, p);
+        self.layer.first_len(packet)
     }
 
     pub(crate) fn adj(&mut self, p: PacketRegister, n: u16)
         requires { (k : Packet) × Holds self.old.state p k × (n ≤ first_len k) }
         ensures { (k : Packet) → Holds self.old.state p k → self.new ≡ moved (with_packet p (at_front (less_before n) k) self.old.state) self.old }
     {
-        let at = p.number() as usize;
-        match self.registers[at] {
-            Some(packet) => self.layer.adj(Handle::of(packet), n),
-            None => unreachable!(),
-        }
+        let packet = handle_in(&self.registers, p);
+        self.layer.adj(packet, n)
     }
 
     pub(crate) fn free(&mut self, p: PacketRegister)
         requires { (k : Packet) × Holds self.old.state p k }
         ensures { self.new ≡ moved (without_packet p self.old.state) self.old }
     {
-        let at = p.number() as usize;
-        match self.registers[at] {
-            Some(packet) => {
-                self.layer.free(Handle::of(packet));
-                self.registers[at] = None;
-            }
-            None => unreachable!(),
-        }
+        let packet = handle_in(&self.registers, p);
+        self.layer.free(packet);
+        self.registers[p.number() as usize] = None;
     }
 
     // To the end of the transmit list.
@@ -180,14 +170,9 @@ impl<P: PacketLayer> Machine<P> {
         ensures { (k : Packet) (packets : List Packet) → Holds self.old.state p k → self.old.state.world.outboxes ≡ packets ∷ []
             → self.new ≡ moved (with_outbox 0 (packets ++ k ∷ []) (without_packet p self.old.state)) self.old }
     {
-        let at = p.number() as usize;
-        match self.registers[at] {
-            Some(packet) => {
-                self.outbox.push_reserved(packet);
-                self.registers[at] = None;
-            }
-            None => unreachable!(),
-        }
+        let packet = handle_in(&self.registers, p);
+        self.outbox.push_reserved(packet.number());
+        self.registers[p.number() as usize] = None;
     }
 
     pub(crate) fn queued(&self) -> usize

@@ -1,26 +1,27 @@
 use Rattle.std.proofs.Common.{rules, sym, ap, ◌∙◌, subst, arith, None, Some}
 use Rattle.dp_engine.proofs.Handles.{Held, stand_changed, stand_freed, stand_sent}
-use Rattle.dp_engine.proofs.Machines.{found, found_none, resizes, frees, sends}
+use Rattle.dp_engine.proofs.Machines.{resizes, frees, sends}
+use Rattle.dp_engine.proofs.Registers.{handle, held}
 use Rattle.dp_engine.proofs.machine.Machine.adj.Goals as goal
 
 pub adj-requires : goal.adj-requires
 adj-requires g c =
     let (k, holds, le) = c.requires in
-    let held = found _ _ _ _ _ _ _ _ c.args.p c.number-at.result c.of.result k None c.self.view_is c.self.invariant c.number-at.ensures.same (c.in-Some.is ∙ ap Some (sym c.of.ensures)) holds in
-    (k, held.has, le)
+    let there = held _ _ _ _ _ _ _ _ c.args.p c.handle_in-packet.result k c.self.view_is c.self.invariant c.handle_in-packet.ensures holds in
+    (k, there.has, le)
 
 pub invariant_of-self : goal.invariant_of-self
 invariant_of-self g c =
     let (k, holds, le) = c.requires in
-    let held = found _ _ _ _ _ _ _ _ c.args.p c.number-at.result c.of.result k None c.self.view_is c.self.invariant c.number-at.ensures.same (c.in-Some.is ∙ ap Some (sym c.of.ensures)) holds in
-    rw (c.adj.ensures k held.has) (stand_changed _ c.self.inside.registers c.self.inside.outbox.items c.of.result k _ held.has c.self.invariant)
+    let there = held _ _ _ _ _ _ _ _ c.args.p c.handle_in-packet.result k c.self.view_is c.self.invariant c.handle_in-packet.ensures holds in
+    rw (c.adj.ensures k there.has) (stand_changed _ c.self.inside.registers c.self.inside.outbox.items c.handle_in-packet.result k _ there.has c.self.invariant)
 
-pub unreachable-requires : goal.unreachable-requires
-unreachable-requires g c =
+pub handle_in-packet-requires : goal.handle_in-packet-requires
+handle_in-packet-requires g c =
     let (k, holds, le) = c.requires in
-    found_none _ _ _ _ _ _ _ _ c.args.p c.number-at.result k None c.self.view_is c.number-at.ensures.same (search rules) holds
+    handle _ _ _ _ _ _ _ _ c.args.p k c.self.view_is holds
 
 pub returns : goal.returns
 returns g c k holds =
-    let held = found _ _ _ _ _ _ _ _ c.args.p c.number-at.result c.of.result k None c.self.view_is c.self.invariant c.number-at.ensures.same (c.in-Some.is ∙ ap Some (sym c.of.ensures)) holds in
-    rw (c.adj.ensures k held.has) (resizes _ _ _ _ _ _ _ _ c.args.p c.of.result k _ c.self.view_is held)
+    let there = held _ _ _ _ _ _ _ _ c.args.p c.handle_in-packet.result k c.self.view_is c.self.invariant c.handle_in-packet.ensures holds in
+    rw (c.adj.ensures k there.has) (resizes _ _ _ _ _ _ _ _ c.args.p c.handle_in-packet.result k _ c.self.view_is there)
