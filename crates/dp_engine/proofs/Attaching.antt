@@ -1,23 +1,22 @@
 -- Segments that come and go.
-use Rattle.std.proofs.Common.{◌≡◌, ◌≢◌, ℕ, zero, suc, ◌+◌, ◌-◌, ◌*◌, ◌^◌, ◌<◌, ◌≤◌, Bool, true, false, not, ◌||◌, List, [], ◌∷◌, ◌++◌, length, Option, Some, None, refl, sym, ◌∙◌, ap, subst, arith, get_or, nat_eq, length-append, append-nil}
-use Rattle.std.specs.Prelude.{slice_get, slice_set, slice_index, slice_index_or, ◌==◌, MatchOption}
+use Rattle.std.proofs.Common.{◌≡◌, ◌≢◌, ℕ, zero, suc, ◌+◌, ◌-◌, ◌<◌, ◌≤◌, Bool, true, false, List, [], ◌∷◌, ◌++◌, length, Option, Some, None, refl, sym, ◌∙◌, ap, subst, arith, get_or, nat_eq, length-append}
+use Rattle.std.specs.Prelude.{slice_get, slice_set, ◌==◌, MatchOption}
 use Rattle.std.specs.Option.{unwrap_or}
 use Rattle.std.specs.List.{AllByRecursion}
-use Rattle.std.proofs.lemmas.Bool.{eq-eqb, eqb-true}
+use Rattle.std.proofs.lemmas.Bool.{eqb-true}
 use Rattle.std.proofs.lemmas.Option.{same_Some, slice_get_within}
 use Rattle.dp_model.specs.declared.env.PoolSpec.{PoolSpec}
-use Rattle.dp_model.specs.Environments.{room_at, count_at}
+use Rattle.dp_model.specs.Environments.{room_at}
 use Rattle.dp_model.specs.Buffers.{Number, bytes_of}
 use Rattle.dp_model.specs.Packets.{Segment, Packet, is_free, available}
 use Rattle.dp_model.specs.Machine.{segments_held}
-use Rattle.dp_model.specs.Stores.{Store, segments_of, Has, HasSome, with_slot}
-use Rattle.dp_model.proofs.Refs.{get_set_other, get_set_same}
+use Rattle.dp_model.specs.Stores.{Store, segments_of, Has, HasSome}
+use Rattle.dp_model.proofs.Refs.{get_set_other}
 use Rattle.dp_engine.specs.Handles.{once, held_of}
 use Rattle.dp_engine.specs.Plain.{num, packet_of, parts_of, names, tally, IsIn, IsHead, IsKept, IsPlain, store_of, IsUsed, place_of, held_at, stands, Attached}
-use Rattle.dp_engine.proofs.Handles.{is_one}
 use Rattle.dp_engine.proofs.Counts.{tally-append, all_counted}
 use Rattle.dp_engine.specs.Counts.{unused, unused_below}
-use Rattle.dp_engine.proofs.Listed.{get_there, length_set, unused_first, unused_more, below_fewer}
+use Rattle.dp_engine.proofs.Listed.{length_set, unused_first, unused_more, below_fewer}
 use Rattle.dp_engine.proofs.Writing.{at_place}
 use Rattle.dp_engine.proofs.Plains.{tally_of, tally_set, tally_held, tally_most, tally_at, names_two, names_one, mbuf_is, buffer_is, names_mbuf, names_buffer, available_is, set_first, set_more, set_less, kept_set, changed, all_at, read_at, has_slot, slot_is, count_is, with_packet_is}
 

@@ -1,20 +1,20 @@
 -- The calls of a plain store against the packet calls.
-use Rattle.std.proofs.Common.{◌≡◌, ◌≢◌, ℕ, zero, suc, ◌+◌, ◌-◌, ◌*◌, ◌^◌, ◌<◌, ◌≤◌, Bool, true, false, List, [], ◌∷◌, ◌++◌, length, take, Option, Some, None, refl, sym, ◌∙◌, ap, subst, arith, rules, get_or, nat_cmp, length-append, append-nil, mul_assoc, pow-suc, add-one}
+use Rattle.std.proofs.Common.{◌≡◌, ℕ, zero, suc, ◌+◌, ◌-◌, ◌*◌, ◌^◌, ◌<◌, ◌≤◌, List, [], ◌∷◌, ◌++◌, length, take, Option, Some, None, refl, sym, ◌∙◌, ap, subst, arith, rules, get_or, nat_cmp, length-append, append-nil, mul_assoc, pow-suc, add-one}
 use Rattle.std.proofs.Math.Nat.{pow-le-pow_right}
-use Rattle.std.specs.Prelude.{slice_get, slice_set, slice_index_or, slice_range, replicate, min}
+use Rattle.std.specs.Prelude.{slice_get, slice_set, slice_range, replicate, min}
 use Rattle.std.specs.Ordering.{ord_min}
 use Rattle.std.proofs.lemmas.Bool.Decides.{nat_tests}
 use Rattle.std.proofs.lemmas.List.{places, same_lists, length_push}
 use Rattle.std.specs.List.{AllByRecursion}
-use Rattle.std.proofs.lemmas.Option.{same_Some, slice_get_within}
+use Rattle.std.proofs.lemmas.Option.{same_Some}
 use Rattle.dp_model.specs.declared.env.PoolSpec.{PoolSpec}
-use Rattle.dp_model.specs.Environments.{room_at, count_at}
+use Rattle.dp_model.specs.Environments.{room_at}
 use Rattle.dp_model.specs.Buffers.{Number, Buffers, bytes_of, written}
 use Rattle.dp_model.specs.Packets.{Segment, Packet, headroom, tailroom, first_len, last_len, room_behind, at_front, at_end, zeroed_before, zeroed_behind, stored, loaded, segment_bytes, available, direct}
 use Rattle.dp_model.specs.Arithmetic.{big_endian, spelled}
 use Rattle.dp_model.specs.Stores.{Store, segments_of, Has, with_slot, Allocates}
 use Rattle.dp_model.proofs.Refs.{get_set_same}
-use Rattle.dp_engine.specs.Plain.{num, IsIn, IsHead, IsKept, IsPlain, packet_of, store_of, resized, Attached, LiesIn, KeptIn}
+use Rattle.dp_engine.specs.Plain.{num, IsIn, IsPlain, packet_of, store_of, resized, Attached, LiesIn, KeptIn}
 use Rattle.std.specs.List.{flat_map}
 use Rattle.std.proofs.lemmas.List.Concat.{flat_map-append}
 use Rattle.dp_engine.proofs.Plains.{buffer_is, count_is, room_is, read_at}

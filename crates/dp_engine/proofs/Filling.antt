@@ -1,15 +1,15 @@
 -- A record that is received, segment by segment.
-use Rattle.std.proofs.Common.{◌≡◌, ◌≢◌, ◌↔◌, ◌⊎◌, inl, inr, ℕ, zero, suc, ◌+◌, ◌-◌, ◌*◌, ◌/◌, ◌<◌, ◌≤◌, Bool, true, false, List, [], ◌∷◌, ◌++◌, length, take, drop, map, Option, Some, None, refl, sym, ◌∙◌, ap, subst, arith, rules, get_or, max}
-use Rattle.std.specs.Prelude.{slice_get, slice_set, slice_range, min}
+use Rattle.std.proofs.Common.{◌≡◌, ◌⊎◌, inl, inr, ℕ, zero, suc, ◌+◌, ◌-◌, ◌*◌, ◌/◌, ◌<◌, ◌≤◌, List, [], ◌∷◌, ◌++◌, length, take, drop, Some, None, refl, sym, ◌∙◌, ap, subst, arith, rules, get_or, max}
+use Rattle.std.specs.Prelude.{slice_set, slice_range, min}
 use Rattle.std.specs.List.{AllByRecursion}
 use Rattle.std.proofs.Math.Nat.{le-div_iff_mul-le, mul-le-mul_right, div-mul-le_self}
 use Rattle.std.proofs.lemmas.Bool.{cases_lt}
 use Rattle.std.proofs.lemmas.List.{places, same_lists}
 use Rattle.dp_model.specs.declared.env.PoolSpec.{PoolSpec}
-use Rattle.dp_model.specs.Environments.{room_at, count_at}
-use Rattle.dp_model.specs.Buffers.{Number, same_number, Buffers, bytes_of, written}
-use Rattle.dp_model.specs.Packets.{Segment, Packet, available, AreFresh, direct, needed, received, Filled, packet_bytes}
-use Rattle.dp_model.specs.Stores.{Store, segments_of, Has, Gives, ReceivesInto}
+use Rattle.dp_model.specs.Environments.{room_at}
+use Rattle.dp_model.specs.Buffers.{Number, bytes_of, written}
+use Rattle.dp_model.specs.Packets.{Packet, available, AreFresh, direct, needed, received, packet_bytes}
+use Rattle.dp_model.specs.Stores.{Store, segments_of, Has, ReceivesInto}
 use Rattle.dp_engine.specs.Plain.{num, Attached}
 use Rattle.dp_engine.proofs.Growing.{Grown, grown_first, grown_more, grown_written, grown_has, is_next, Spelled, spelled_none, spelled_more, store_is}
 

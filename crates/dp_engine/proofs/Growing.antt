@@ -1,15 +1,15 @@
 -- A packet that grows segment by segment, each of a free buffer.
-use Rattle.std.proofs.Common.{◌≡◌, ◌≢◌, ◌⊎◌, ℕ, zero, suc, ◌+◌, ◌-◌, ◌*◌, ◌/◌, ◌<◌, ◌≤◌, Bool, true, false, not, ◌||◌, List, [], ◌∷◌, ◌++◌, length, take, drop, map, Option, Some, None, refl, sym, ◌∙◌, ap, subst, arith, rules, get_or, nat_eq, length-append, append-nil, append_assoc, add-one}
-use Rattle.std.specs.Prelude.{slice_get, slice_set, slice_range, flat_map, ◌==◌}
+use Rattle.std.proofs.Common.{◌≡◌, ◌≢◌, ℕ, zero, suc, ◌+◌, ◌<◌, ◌≤◌, Bool, true, false, List, [], ◌∷◌, ◌++◌, length, take, drop, map, Option, Some, None, refl, sym, ◌∙◌, ap, subst, arith, rules, nat_eq, append-nil, add-one}
+use Rattle.std.specs.Prelude.{slice_get, slice_set, slice_range}
 use Rattle.std.specs.List.{AllByRecursion, list_any}
-use Rattle.std.proofs.lemmas.Bool.{or_parts, eq-eqb, eqb-true, cases_Bool}
+use Rattle.std.proofs.lemmas.Bool.{or_parts}
 use Rattle.std.proofs.lemmas.Option.{same_Some, slice_get_within}
 use Rattle.std.proofs.lemmas.List.{places, same_lists, length_push, map-append}
 use Rattle.std.proofs.lemmas.List.Concat.{flat_map-append}
 use Rattle.dp_model.specs.declared.env.PoolSpec.{PoolSpec}
-use Rattle.dp_model.specs.Environments.{room_at, count_at}
+use Rattle.dp_model.specs.Environments.{count_at}
 use Rattle.dp_model.specs.Buffers.{Number, same_number, AreDistinct, Buffers, bytes_of, written, overwritten, AreBytes, ChangesOnly}
-use Rattle.dp_model.specs.Packets.{Segment, Packet, is_free, available, IsFresh, AreFresh, direct, received, cloned, segment_bytes, packet_bytes}
+use Rattle.dp_model.specs.Packets.{Segment, Packet, is_free, available, IsFresh, AreFresh, direct, cloned, segment_bytes, packet_bytes}
 use Rattle.dp_model.specs.Machine.{segments_held}
 use Rattle.dp_model.specs.Stores.{Store, segments_of, Has, Gives, Clones}
 use Rattle.dp_model.proofs.Refs.{get_set_other, get_set_same, same_number_refl}

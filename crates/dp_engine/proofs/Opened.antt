@@ -1,16 +1,15 @@
 -- A store that is opened.
-use Rattle.std.proofs.Common.{◌≡◌, ◌≢◌, ℕ, zero, suc, ◌+◌, ◌<◌, ◌≤◌, Bool, true, false, List, [], ◌∷◌, ◌++◌, length, replicate, Option, Some, None, refl, sym, ◌∙◌, ap, subst, arith, get_or, add-one}
+use Rattle.std.proofs.Common.{◌≡◌, ◌≢◌, ℕ, zero, suc, ◌+◌, ◌<◌, ◌≤◌, Bool, true, false, List, [], ◌∷◌, ◌++◌, length, replicate, Some, None, refl, sym, ◌∙◌, ap, arith, get_or, add-one}
 use Rattle.std.specs.Prelude.{slice_get, ◌==◌}
-use Rattle.std.specs.List.{AllByRecursion}
 use Rattle.std.proofs.Common.{◌⊎◌, inl, inr}
 use Rattle.std.proofs.lemmas.Bool.{eqb-true, eq-eqb, cases_lt}
 use Rattle.std.proofs.lemmas.Option.{same_Some}
 use Rattle.dp_model.specs.declared.env.PoolSpec.{PoolSpec}
-use Rattle.dp_model.specs.Packets.{Segment, Packet}
+use Rattle.dp_model.specs.Packets.{Packet}
 use Rattle.dp_model.specs.Machine.{segments_held}
-use Rattle.dp_engine.specs.Handles.{once, occurs}
+use Rattle.dp_engine.specs.Handles.{occurs}
 use Rattle.dp_engine.specs.Counts.{unused_of, unused, AreListed}
-use Rattle.dp_engine.specs.Plain.{names, tally, IsKept, IsPlain}
+use Rattle.dp_engine.specs.Plain.{names, tally, IsPlain}
 use Rattle.dp_engine.proofs.Handles.{is_one, occurs_push}
 use Rattle.dp_engine.proofs.Listed.{once_not}
 

@@ -1,7 +1,7 @@
 -- What keeps a plain store as it should be.
-use Rattle.std.proofs.Common.{◌≡◌, ◌≢◌, ℕ, zero, suc, ◌+◌, ◌-◌, ◌*◌, ◌<◌, ◌≤◌, Bool, true, false, not, ◌||◌, cond, List, [], ◌∷◌, ◌++◌, length, Option, Some, None, refl, sym, ◌∙◌, ap, subst, arith, get_or, nat_eq, length-append}
-use Rattle.std.specs.Prelude.{slice_get, slice_set, slice_index, slice_index_or, ◌==◌, ◌&&◌, if◌then◌else◌, option_map, unwrap_or}
-use Rattle.std.specs.List.{AllByRecursion, list_all}
+use Rattle.std.proofs.Common.{◌≡◌, ◌≢◌, ℕ, zero, suc, ◌+◌, ◌-◌, ◌*◌, ◌<◌, ◌≤◌, Bool, true, false, ◌||◌, cond, List, [], ◌∷◌, length, Option, Some, None, refl, sym, ◌∙◌, ap, subst, arith, get_or, nat_eq}
+use Rattle.std.specs.Prelude.{slice_get, slice_set, ◌==◌, if◌then◌else◌, unwrap_or}
+use Rattle.std.specs.List.{AllByRecursion}
 use Rattle.std.proofs.lemmas.Bool.{eq-eqb, eqb-true}
 use Rattle.std.proofs.lemmas.Option.{same_Some, slice_get_within}
 use Rattle.dp_model.specs.declared.env.PoolSpec.{PoolSpec}
@@ -9,15 +9,14 @@ use Rattle.dp_model.specs.Environments.{room_at, count_at}
 use Rattle.dp_model.specs.Buffers.{Number, same_number}
 use Rattle.dp_model.specs.Packets.{Segment, Packet, is_free, free_below, available, direct}
 use Rattle.dp_model.specs.Machine.{segments_held}
-use Rattle.dp_model.specs.Stores.{Store, segments_of, Has}
+use Rattle.dp_model.specs.Stores.{Store, Has}
 use Rattle.dp_model.proofs.Refs.{get_set_other, get_set_same, same_number_refl}
-use Rattle.dp_model.proofs.Fresh.{number_path, same_is}
-use Rattle.dp_engine.specs.Handles.{once, held_of}
+use Rattle.dp_model.proofs.Fresh.{number_path}
+use Rattle.dp_engine.specs.Handles.{once}
 use Rattle.dp_engine.specs.Counts.{unused_of, unused, unused_below}
-use Rattle.dp_engine.specs.Plain.{num, segment_of, packet_of, parts_of, names, tally, IsIn, IsHead, IsKept, IsPlain, store_of, resized, IsUsed, place_of, held_at, stands, Attached}
-use Rattle.dp_engine.proofs.Handles.{is_one}
+use Rattle.dp_engine.specs.Plain.{num, parts_of, names, tally, IsIn, IsHead, IsKept, IsPlain, store_of, resized}
 use Rattle.dp_engine.proofs.Counts.{tally-append, all_counted}
-use Rattle.dp_engine.proofs.Listed.{get_there, length_set}
+use Rattle.dp_engine.proofs.Listed.{get_there}
 use Rattle.dp_engine.proofs.Writing.{at_place}
 
 -- ---- counting segments

@@ -25,9 +25,9 @@ ghost use Rattle.dp_engine.specs.Handles.{in_slot, core_of};
 
 mod calls;
 
-use calls::handle_in;
 use crate::numbers::calculate;
 use crate::put::put_packet;
+use calls::handle_in;
 use dp_model::{Env, Instr, NumberRegister, Packet as Handle, PacketLayer, PacketRegister};
 use dp_pcap::{Calls, PcapError, Sink, Time, Unit};
 use std::marker::Model;

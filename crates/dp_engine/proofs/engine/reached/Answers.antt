@@ -1,5 +1,4 @@
-use Rattle.std.proofs.Common.{◌≡◌, ◌≤◌, ◌∙◌, ◌+◌, sym, ap, rules, arith, get_or, take, length}
-use Rattle.dp_engine.specs.Tallies.{refused_of}
+use Rattle.std.proofs.Common.{◌∙◌, arith}
 use Rattle.dp_engine.proofs.Listed.{get_there}
 use Rattle.dp_engine.proofs.Opening.{reached_one, reached_none}
 use Rattle.dp_engine.proofs.engine.reached.Goals as goal

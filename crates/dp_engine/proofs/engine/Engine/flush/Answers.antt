@@ -1,4 +1,4 @@
-use Rattle.std.proofs.Common.{rules, refl, arith}
+use Rattle.std.proofs.Common.{refl, arith}
 use Rattle.dp_engine.proofs.Turning.{cleared}
 use Rattle.dp_engine.proofs.engine.Engine.flush.Goals as goal
 

@@ -1,6 +1,5 @@
-use Rattle.std.proofs.Common.{rules, sym, ap, ◌∙◌, subst, arith, None, Some}
-use Rattle.dp_engine.proofs.Handles.{Held, stand_changed, stand_freed, stand_sent}
-use Rattle.dp_engine.proofs.Machines.{resizes, frees, sends}
+use Rattle.dp_engine.proofs.Handles.{stand_changed}
+use Rattle.dp_engine.proofs.Machines.{resizes}
 use Rattle.dp_engine.proofs.Registers.{handle, held}
 use Rattle.dp_engine.proofs.machine.Machine.adj.Goals as goal
 

@@ -1,4 +1,4 @@
-use Rattle.std.proofs.Common.{rules, sym}
+use Rattle.std.proofs.Common.{rules}
 use Rattle.dp_engine.proofs.Draining.{last_held, stand_dropped, drops}
 use Rattle.dp_engine.proofs.machine.Machine.drop_last.Goals as goal
 

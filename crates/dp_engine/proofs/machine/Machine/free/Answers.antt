@@ -1,6 +1,5 @@
-use Rattle.std.proofs.Common.{rules, sym, ap, ◌∙◌, subst, arith, None, Some}
-use Rattle.dp_engine.proofs.Handles.{Held, stand_changed, stand_freed, stand_sent}
-use Rattle.dp_engine.proofs.Machines.{changes, frees, sends}
+use Rattle.dp_engine.proofs.Handles.{stand_freed}
+use Rattle.dp_engine.proofs.Machines.{frees}
 use Rattle.dp_engine.proofs.Registers.{handle, held}
 use Rattle.dp_engine.proofs.machine.Machine.free.Goals as goal
 

@@ -1,4 +1,4 @@
-use Rattle.std.proofs.Common.{◌≡◌, ◌∙◌, sym, ap, rules}
+use Rattle.std.proofs.Common.{◌∙◌, sym, ap}
 use Rattle.dp_model.specs.Packets.{available}
 use Rattle.dp_model.specs.Machine.{live}
 use Rattle.dp_model.specs.Runs.{between}

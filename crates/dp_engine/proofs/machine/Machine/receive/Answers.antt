@@ -1,4 +1,4 @@
-use Rattle.std.proofs.Common.{rules, sym, ap, ◌∙◌, subst, arith}
+use Rattle.std.proofs.Common.{sym}
 use Rattle.dp_engine.specs.Steps.{setting_of}
 use Rattle.dp_engine.proofs.Receive.{given, refused}
 use Rattle.dp_engine.proofs.machine.Machine.receive.Goals as goal

@@ -1,4 +1,4 @@
-use Rattle.std.proofs.Common.{◌≡◌, ◌<◌, ◌≤◌, ◌∙◌, ◌^◌, ◌+◌, ◌*◌, ap, sym, subst, arith, rules, refl, get_or, add-one, take, length}
+use Rattle.std.proofs.Common.{◌≡◌, ◌∙◌, ◌+◌, ◌*◌, ap, sym, arith, get_or, add-one, take}
 use Rattle.dp_model.specs.Arithmetic.{spelled as number_of}
 use Rattle.dp_engine.proofs.Listed.{get_there}
 use Rattle.dp_engine.proofs.Calls.{spelled_take, power_more, power_seven, take_all_bytes}

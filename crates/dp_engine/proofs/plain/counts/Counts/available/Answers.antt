@@ -1,5 +1,4 @@
-use Rattle.std.proofs.Common.{◌≡◌, ◌∙◌, List, ℕ, length, ap, sym, subst, arith, rules}
-use Rattle.std.specs.Vec.{vec_capacity}
+use Rattle.std.proofs.Common.{◌≡◌, ◌∙◌, List, ℕ, length, ap, rules}
 use Rattle.dp_engine.specs.Counts.{unused_below}
 use Rattle.dp_engine.proofs.Listed.{list_length}
 use Rattle.dp_engine.proofs.plain.counts.Counts.available.Goals as goal

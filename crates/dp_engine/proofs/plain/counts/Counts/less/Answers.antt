@@ -1,4 +1,4 @@
-use Rattle.std.proofs.Common.{◌≡◌, ◌≤◌, ◌<◌, ◌-◌, ◌∙◌, List, ℕ, length, get_or, vec_len, ap, sym, subst, arith, rules}
+use Rattle.std.proofs.Common.{◌≡◌, length, vec_len, arith, rules}
 use Rattle.dp_engine.proofs.Listed.{has_room, freed, still_used}
 use Rattle.dp_engine.proofs.plain.counts.Counts.less.Goals as goal
 

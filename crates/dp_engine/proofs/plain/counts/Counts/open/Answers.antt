@@ -1,4 +1,4 @@
-use Rattle.std.proofs.Common.{rules, arith}
+use Rattle.std.proofs.Common.{arith}
 use Rattle.dp_engine.proofs.Opened.{all_listed}
 use Rattle.dp_engine.proofs.plain.counts.Counts.open.Goals as goal
 

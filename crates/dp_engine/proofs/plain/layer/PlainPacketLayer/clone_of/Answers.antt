@@ -1,9 +1,8 @@
-use Rattle.std.proofs.Common.{◌≡◌, ◌+◌, ◌<◌, ◌≤◌, ◌∙◌, Some, ap, sym, subst, arith, rules, refl, length, take}
-use Rattle.dp_model.specs.Packets.{Packet, cloned, available}
-use Rattle.dp_model.specs.Stores.{Store, Has, segments_of}
+use Rattle.std.proofs.Common.{arith, refl, take}
+use Rattle.dp_model.specs.Packets.{cloned}
+use Rattle.dp_model.specs.Stores.{Has}
 use Rattle.dp_engine.proofs.Calls.{none_pool}
-use Rattle.dp_engine.proofs.Writing.{take_all}
-use Rattle.dp_engine.proofs.Growing.{SharedSo, clones, shared_first, shared_more, shared_long, grown_has, grown_other}
+use Rattle.dp_engine.proofs.Growing.{clones, shared_first, shared_more, shared_long, grown_has, grown_other}
 use Rattle.dp_engine.proofs.plain.layer.PlainPacketLayer.clone_of.Goals as goal
 
 pub returns-then-free_buffers-count : goal.returns-then-free_buffers-count

@@ -1,7 +1,6 @@
-use Rattle.std.proofs.Common.{◌≡◌, ◌<◌, ◌≤◌, ◌∙◌, Some, ap, sym, subst, arith, rules, refl, get_or, length, take}
+use Rattle.std.proofs.Common.{◌≡◌, ◌∙◌, Some, ap, sym, arith, length}
 use Rattle.std.specs.List.{flat_map}
-use Rattle.dp_model.specs.Packets.{Packet, packet_bytes, segment_bytes}
-use Rattle.dp_model.specs.Stores.{Has}
+use Rattle.dp_model.specs.Packets.{Packet, segment_bytes}
 use Rattle.dp_engine.specs.Plain.{LiesIn}
 use Rattle.dp_engine.proofs.Calls.{length_more, all_get}
 use Rattle.dp_engine.proofs.Writing.{take_all}

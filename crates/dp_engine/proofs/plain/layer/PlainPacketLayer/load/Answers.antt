@@ -1,11 +1,8 @@
-use Rattle.std.proofs.Common.{◌≡◌, ◌+◌, ◌<◌, ◌≤◌, ◌∙◌, Some, length, ap, sym, subst, arith, rules, refl}
-use Rattle.std.specs.Prelude.{slice_range}
-use Rattle.dp_model.specs.Arithmetic.{bytes_in, spelled as number_of}
-use Rattle.dp_model.specs.Buffers.{Number, bytes_of}
-use Rattle.dp_model.specs.Packets.{loaded}
-use Rattle.dp_model.specs.Stores.{Has}
+use Rattle.std.proofs.Common.{◌≡◌, ◌+◌, ◌≤◌, ◌∙◌, ap, sym, arith}
+use Rattle.dp_model.specs.Arithmetic.{bytes_in}
+use Rattle.dp_model.specs.Buffers.{bytes_of}
 use Rattle.dp_engine.specs.Plain.{num}
-use Rattle.dp_engine.proofs.Calls.{first_len_is, loaded_is, length_range}
+use Rattle.dp_engine.proofs.Calls.{first_len_is, loaded_is}
 use Rattle.dp_engine.proofs.plain.layer.PlainPacketLayer.load.Goals as goal
 
 pub overflow_add-at : goal.overflow_add-at

@@ -1,9 +1,9 @@
-use Rattle.std.proofs.Common.{◌≡◌, ◌+◌, ◌-◌, ◌<◌, ◌≤◌, ◌∙◌, Some, ap, sym, subst, arith, rules, refl, length, take}
+use Rattle.std.proofs.Common.{◌+◌, ◌-◌, ◌<◌, ◌≤◌, ap, subst, arith, rules, refl, length}
 use Rattle.std.specs.Prelude.{slice_range}
 use Rattle.std.proofs.lemmas.List.{places}
 use Rattle.dp_model.specs.Environments.{room_at}
 use Rattle.dp_model.specs.Stores.{Store}
-use Rattle.dp_engine.proofs.Filling.{FilledSo, begun, goes, only_pool, at_most, filled_first, filled_more, receives, small_bytes}
+use Rattle.dp_engine.proofs.Filling.{begun, goes, only_pool, filled_first, filled_more, receives, small_bytes}
 use Rattle.dp_engine.proofs.plain.layer.PlainPacketLayer.receive.Goals as goal
 
 pub overflow_sub-room : goal.overflow_sub-room

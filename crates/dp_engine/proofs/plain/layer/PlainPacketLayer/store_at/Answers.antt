@@ -1,8 +1,7 @@
-use Rattle.std.proofs.Common.{◌≡◌, ◌+◌, ◌<◌, ◌≤◌, ◌∙◌, Some, ap, sym, subst, arith, rules, refl}
+use Rattle.std.proofs.Common.{◌≡◌, ◌+◌, ◌∙◌, Some, ap, sym, arith}
 use Rattle.dp_model.specs.Arithmetic.{bytes_in, big_endian}
 use Rattle.dp_model.specs.Buffers.{written}
 use Rattle.dp_model.specs.Packets.{stored}
-use Rattle.dp_model.specs.Stores.{Has}
 use Rattle.dp_engine.specs.Plain.{num}
 use Rattle.dp_engine.proofs.Calls.{first_len_is, stored_is, set_itself}
 use Rattle.dp_engine.proofs.plain.layer.PlainPacketLayer.store_at.Goals as goal

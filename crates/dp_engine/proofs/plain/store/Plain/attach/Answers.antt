@@ -1,4 +1,4 @@
-use Rattle.std.proofs.Common.{◌≡◌, ◌+◌, ◌<◌, ◌≤◌, ◌∙◌, length, ap, sym, subst, arith, rules, refl, List, []}
+use Rattle.std.proofs.Common.{◌≡◌, length, ap, arith, rules, refl}
 use Rattle.dp_model.specs.Packets.{Segment, available, direct}
 use Rattle.dp_model.specs.Stores.{Store, segments_of}
 use Rattle.dp_engine.specs.Counts.{unused_below}

@@ -1,4 +1,4 @@
-use Rattle.std.proofs.Common.{◌≡◌, ◌≤◌, ◌∙◌, length, ap, sym, subst, arith, rules}
+use Rattle.std.proofs.Common.{◌∙◌, length, ap, sym, arith}
 use Rattle.dp_model.specs.Packets.{available}
 use Rattle.dp_model.specs.Stores.{Store, segments_of}
 use Rattle.dp_engine.proofs.Plains.{available_is, below_short}

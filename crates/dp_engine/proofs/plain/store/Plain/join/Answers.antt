@@ -1,6 +1,6 @@
-use Rattle.std.proofs.Common.{◌≡◌, ◌+◌, ◌≤◌, ◌∙◌, length, ap, sym, subst, arith, rules, refl, Some}
+use Rattle.std.proofs.Common.{◌≡◌, ◌+◌, ◌≤◌, ◌∙◌, length, ap, sym, subst, Some}
 use Rattle.dp_model.specs.Packets.{Packet}
-use Rattle.dp_engine.specs.Plain.{packet_of, parts_of}
+use Rattle.dp_engine.specs.Plain.{parts_of}
 use Rattle.dp_engine.proofs.Plains.{slot_is}
 use Rattle.dp_engine.proofs.Attaching.{joined}
 use Rattle.dp_engine.proofs.plain.store.Plain.join.Goals as goal

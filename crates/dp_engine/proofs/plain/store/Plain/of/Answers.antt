@@ -1,4 +1,3 @@
-use Rattle.std.proofs.Common.{rules}
 use Rattle.dp_engine.proofs.Opened.{empty_store}
 use Rattle.dp_engine.proofs.plain.store.Plain.of.Goals as goal
 

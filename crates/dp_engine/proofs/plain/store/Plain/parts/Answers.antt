@@ -1,6 +1,5 @@
-use Rattle.std.proofs.Common.{◌≡◌, List, [], ◌∷◌, ◌∙◌, ap, sym, subst, arith, rules}
-use Rattle.dp_model.specs.Packets.{Segment}
-use Rattle.dp_engine.specs.Plain.{parts_of, KeptIn}
+use Rattle.std.proofs.Common.{◌∙◌, ap}
+use Rattle.dp_engine.specs.Plain.{parts_of}
 use Rattle.dp_engine.proofs.Plains.{has_slot, slot_is}
 use Rattle.dp_engine.proofs.Calls.{kept_in}
 use Rattle.dp_engine.proofs.plain.store.Plain.parts.Goals as goal

@@ -1,4 +1,4 @@
-use Rattle.std.proofs.Common.{◌≡◌, ◌+◌, ◌≤◌, Some, List, [], ◌∷◌, ◌∙◌, ap, sym, subst, arith, rules, refl}
+use Rattle.std.proofs.Common.{◌≡◌, Some, ◌∙◌, ap, sym, arith}
 use Rattle.dp_model.specs.Packets.{Packet}
 use Rattle.dp_engine.specs.Plain.{resized}
 use Rattle.dp_engine.proofs.Plains.{has_slot, slot_is, room_is, resized_slot, resizes_kept, with_packet_is}
