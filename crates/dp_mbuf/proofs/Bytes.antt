@@ -131,10 +131,9 @@ module _ (ps : List PoolView) (v : Store) (h : ℕ) (e : shown ps ≡ v) (sound 
       let o = f.offset in
       omega (arith, fit, l, o)
 
-  pub prepended_done : (ps1 ps' : List PoolView) (x : Header) (n at : ℕ) → x ≡ header_at ps (numbered h) → IsLive v h → n ≤ x.offset → at ≡ x.offset - n → RoomWritten ps x.buffer at (replicate n 0) ps1 → HeaderSet ps1 (numbered h) (moved x at (x.len + n)) ps' → Sound ps' × Becomes v (shown ps') h (at_front (more_before n)) (zeroed_before n)
+  pub prepended_done : (ps1 ps' : List PoolView) (x : Header) (n at : ℕ) → x ≡ header_at ps (numbered h) → IsLive v h → n ≤ x.offset → at ≡ x.offset - n → RoomWritten ps x.buffer at (replicate n 0) ps1 → HeaderSet ps1 (numbered h) (moved (header_at ps1 (numbered h)) at (x.len + n)) ps' → Sound ps' × Becomes v (shown ps') h (at_front (more_before n)) (zeroed_before n)
   prepended_done ps1 ps' x n at ex live fit ea room done =
       let d = settled ps1 (slots_of ps) (bytes_whole ps ps1 [] (slots_of ps) x.buffer at (replicate n 0) sound room) in
-      let at1 : header_at ps1 (numbered h) ≡ x = room.headers (numbered h) ∙ sym ex in
       let all : (k : Packet) → Has v h k → Sound ps' × (slots_of ps' ≡ set (slots_of ps1) h (Some (at_front (more_before n) k))) =
       λ k has. let f = first_part x k ex has in
       let fits = f.fits in
@@ -143,7 +142,7 @@ module _ (ps : List PoolView) (v : Store) (h : ℕ) (e : shown ps ≡ v) (sound 
       let b = ap (λ y. room_at (specs_of ps) y.pool) f.buffer in
       let r = front_edited ps1 ps' h f.seg f.rest (more_before n) at (x.len + n) d.0 (ap (λ s. get_or s h None) d.1 ∙ f.slot) f.mbuf
       (ap (λ y. record { mbuf = numbered h; buffer = y.buffer; offset = y.offset; len = y.len }) (room.headers (numbered h)) ∙ f.header)
-      (subst (λ y. HeaderSet ps1 (numbered h) (moved y at (x.len + n)) ps') (sym at1) done)
+      done
       (ap (λ y. record f.seg { offset = y; len = f.seg.len + n }) (sym (ea ∙ ap (λ y. y - n) of)) ∙ ap (λ y. record f.seg { offset = at; len = y + n }) (sym len))
       (record { fits = subst (λ y. (f.seg.offset - n) + (f.seg.len + n) ≤ room_at y f.seg.buffer.pool) (sym room.specs) (omega (arith, fits, fit, of, len, b)); number = subst (λ y. IsNumber y f.seg.buffer) (sym room.specs) f.number }) in
       (r.0, r.1 ∙ sym (ap (λ j. set (slots_of ps1) h (Some (at_front (more_before n) j))) f.is)) in (
@@ -212,17 +211,16 @@ module _ (ps : List PoolView) (v : Store) (h : ℕ) (e : shown ps ≡ v) (sound 
       let fits = l.fits in
       (omega (arith, fit, t, b, o, len, fits), l.object, l.small)
 
-  pub appended_done : (ps1 ps' : List PoolView) (x : Header) (n at : ℕ) → x ≡ header_at ps (header_at ps (numbered h)).last → IsLive v h → x.offset + x.len + n ≤ room_at (specs_of ps) x.buffer.pool → at ≡ x.offset + x.len → RoomWritten ps x.buffer at (replicate n 0) ps1 → HeaderSet ps1 (header_at ps (numbered h)).last (record x { len = x.len + n }) ps' → Sound ps' × Becomes v (shown ps') h (at_end (more_behind n)) (zeroed_behind n)
+  pub appended_done : (ps1 ps' : List PoolView) (x : Header) (n at : ℕ) → x ≡ header_at ps (header_at ps (numbered h)).last → IsLive v h → x.offset + x.len + n ≤ room_at (specs_of ps) x.buffer.pool → at ≡ x.offset + x.len → RoomWritten ps x.buffer at (replicate n 0) ps1 → HeaderSet ps1 (header_at ps (numbered h)).last (moved (header_at ps1 (header_at ps (numbered h)).last) x.offset (x.len + n)) ps' → Sound ps' × Becomes v (shown ps') h (at_end (more_behind n)) (zeroed_behind n)
   appended_done ps1 ps' x n at ex live fit ea room done =
       let d = settled ps1 (slots_of ps) (bytes_whole ps ps1 [] (slots_of ps) x.buffer at (replicate n 0) sound room) in
       let all : (k : Packet) → Has v h k → Sound ps' × (slots_of ps' ≡ set (slots_of ps1) h (Some (at_end (more_behind n) k))) =
       λ k has. let l = last_part x k ex has in
-      let at1 : header_at ps1 l.seg.mbuf ≡ x = room.headers l.seg.mbuf ∙ (ap (header_at ps) (sym l.mbuf) ∙ sym ex) in
       let of = l.offset in
       let len = l.len in
       let b = ap (λ y. room_at (specs_of ps) y.pool) l.buffer in
       let set' : HeaderSet ps1 l.seg.mbuf (moved (header_at ps1 l.seg.mbuf) x.offset (x.len + n)) ps' =
-      subst (λ y. HeaderSet ps1 l.seg.mbuf (moved y x.offset (x.len + n)) ps') (sym at1) (subst (λ m. HeaderSet ps1 m (record x { len = x.len + n }) ps') l.mbuf done) in
+      subst (λ m. HeaderSet ps1 m (moved (header_at ps1 m) x.offset (x.len + n)) ps') l.mbuf done in
       let r = end_edited ps1 ps' h l.before l.seg (more_behind n) x.offset (x.len + n) d.0 (ap (λ s. get_or s h None) d.1 ∙ l.slot)
       (ap (λ y. record { mbuf = l.seg.mbuf; buffer = y.buffer; offset = y.offset; len = y.len }) (room.headers l.seg.mbuf) ∙ l.header)
       set'

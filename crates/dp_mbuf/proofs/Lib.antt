@@ -1,6 +1,7 @@
 pub mod PoolLemmas
 pub mod ObjectLemmas
 pub mod ObjectCalls
+pub mod HeaderFields
 pub mod Counting
 pub mod Links
 pub mod Frames

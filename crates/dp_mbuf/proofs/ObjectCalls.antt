@@ -5,12 +5,10 @@ use Rattle.std.proofs.lemmas.List.{length-set, get_or_past}
 use Rattle.std.specs.List.{AllByRecursion}
 use Rattle.dp_model.specs.Environments.{room_at}
 use Rattle.dp_model.specs.Buffers.{Number}
-use Rattle.dp_mbuf.specs.declared.header.Header.{Header}
-use Rattle.dp_mbuf.specs.Headers.{header_bytes}
 use Rattle.dp_pool.specs.Pools.{PoolView, with_written, got, put_back}
-use Rattle.dp_mbuf.specs.Objects.{present, pool_in, is_out, count_in, specs_of, HasObject, HasRooms, PoolsFirst, ArePools, HeaderSet, RoomWritten, Taken, Given, SlotHas, SlotFits, SlotIsOut, SlotBecomes, SlotGives, slot_count, no_pool}
+use Rattle.dp_mbuf.specs.Objects.{present, pool_in, header_with, is_out, count_in, specs_of, HasObject, HasRooms, PoolsFirst, ArePools, HeaderSet, RoomWritten, Taken, Given, SlotHas, SlotFits, SlotIsOut, SlotBecomes, SlotGives, slot_count, no_pool}
 use Rattle.dp_mbuf.proofs.PoolLemmas.{Small, pool_out}
-use Rattle.dp_mbuf.proofs.ObjectLemmas.{are_pools, object_pool, room_is, header_set, room_written, rooms_written, taken, given, slot_is, slot_below, slot_set, slot_first}
+use Rattle.dp_mbuf.proofs.ObjectLemmas.{are_pools, object_pool, room_is, front_set, room_written, rooms_written, taken, given, slot_is, slot_below, slot_set, slot_first}
 
 -- where an index is out, that is what stands in the row
 out_there : (row : List Bool) (i : ℕ) → get_or row i false ≡ true → slice_get row i ≡ Some true
@@ -59,18 +57,20 @@ module _ (pools : List (Option PoolView)) (ps : List PoolView) (e : present pool
     slot_set pools ps k o p e h eo,
   )
 
-  pub header_done : (n : Number) (h : Header) (k i : ℕ) (bytes : List ℕ) (d o : Option PoolView) → k ≡ n.pool → i ≡ n.index → bytes ≡ header_bytes h → Small bytes → HasObject ps n → SlotBecomes (λ p. with_written p i 0 bytes) (get_or pools k d) o → ((length (set pools k o) ≡ 8) × PoolsFirst (set pools k o)) × HeaderSet ps n h (present (set pools k o))
-  header_done n h k i bytes d o ek ei eb small object b =
+  pub front_fits : (n : Number) (at m : ℕ) → HasObject ps n → at + m ≤ 128 → at + m ≤ (pool_in ps n.pool).size
+  front_fits n at m object front =
+      omega (arith, front, (are.rooms n.pool (object_pool ps n object)).header)
+
+  pub front_done : (n : Number) (k i at : ℕ) (bytes : List ℕ) (d o : Option PoolView) → k ≡ n.pool → i ≡ n.index → Small bytes → HasObject ps n → at + length bytes ≤ 128 → SlotBecomes (λ p. with_written p i at bytes) (get_or pools k d) o → ((length (set pools k o) ≡ 8) × PoolsFirst (set pools k o)) × HeaderSet ps n (header_with ps n at bytes) (present (set pools k o))
+  front_done n k i at bytes d o ek ei small object front b =
       let there : n.pool < length ps = object_pool ps n object in
-      let l : length bytes ≡ 22 = ap length eb in
-      let rooms = are.rooms n.pool there in
-      let fit : 0 + length bytes ≤ (pool_in ps n.pool).size = omega (arith, l, rooms.header) in
-      let left : o ≡ Some (with_written (pool_in ps n.pool) n.index 0 bytes) =
-      subst (λ j. o ≡ Some (with_written (pool_in ps n.pool) j 0 bytes)) ei
-      (subst (λ j. o ≡ Some (with_written (pool_in ps j) i 0 bytes)) ek (becomes k d o (λ p. with_written p i 0 bytes) (subst (λ j. j < length ps) (sym ek) there) b)) in
-      let r = replaced n.pool o (with_written (pool_in ps n.pool) n.index 0 bytes) there left (rooms_written ps n are object 0 bytes small fit) in
-      subst (λ j. ((length (set pools j o) ≡ 8) × PoolsFirst (set pools j o)) × HeaderSet ps n h (present (set pools j o))) (sym ek)
-      (r.0, subst (HeaderSet ps n h) (sym r.1) (header_set ps n h bytes are object eb small fit))
+      let fit : at + length bytes ≤ (pool_in ps n.pool).size = front_fits n at (length bytes) object front in
+      let left : o ≡ Some (with_written (pool_in ps n.pool) n.index at bytes) =
+      subst (λ j. o ≡ Some (with_written (pool_in ps n.pool) j at bytes)) ei
+      (subst (λ j. o ≡ Some (with_written (pool_in ps j) i at bytes)) ek (becomes k d o (λ p. with_written p i at bytes) (subst (λ j. j < length ps) (sym ek) there) b)) in
+      let r = replaced n.pool o (with_written (pool_in ps n.pool) n.index at bytes) there left (rooms_written ps n are object at bytes small fit) in
+      subst (λ j. ((length (set pools j o) ≡ 8) × PoolsFirst (set pools j o)) × HeaderSet ps n (header_with ps n at bytes) (present (set pools j o))) (sym ek)
+      (r.0, subst (HeaderSet ps n (header_with ps n at bytes)) (sym r.1) (front_set ps n at bytes are object small front fit))
 
   pub room_fits : (n : Number) (at m : ℕ) → HasObject ps n → at + m ≤ room_at (specs_of ps) n.pool → 128 + at + m ≤ (pool_in ps n.pool).size
   room_fits n at m object h =

@@ -3,6 +3,7 @@ use Rattle.std.proofs.Common.{◌≡◌, ◌≢◌, ◌⊎◌, ℕ, zero, suc, �
 use Rattle.std.specs.Prelude.{count_by, not, slice_get, ◌&&◌}
 use Rattle.std.proofs.lemmas.Bool.{cases_eq, cases_Bool, eq-eqb, eqb-true, and_from}
 use Rattle.std.proofs.lemmas.List.{length-set, length-take-le, get_or-set_same, get_or-set_other, get_or_append_left, get_or-take, drop-drop, drop-take, drop-append-le}
+use Rattle.std.proofs.Math.Seq.{drop-append-add}
 use Rattle.std.proofs.lemmas.Option.{same_Some}
 use Rattle.dp_model.specs.declared.env.PoolSpec.{PoolSpec}
 use Rattle.dp_model.specs.Environments.{room_at, count_at}
@@ -10,7 +11,7 @@ use Rattle.dp_model.specs.Buffers.{Number, same_number, bytes_of, overwritten}
 use Rattle.dp_mbuf.specs.declared.header.Header.{Header}
 use Rattle.dp_mbuf.specs.Headers.{header_of, header_bytes, word, place}
 use Rattle.dp_pool.specs.Pools.{PoolView, object_in, with_written, got, put_back}
-use Rattle.dp_mbuf.specs.Objects.{present, no_pool, pool_in, header_at, is_out, count_in, spec_of, specs_of, rooms_of, buffers_of, zones_of, HasObject, HasRooms, PoolsFirst, ArePools, HeaderSet, RoomWritten, Taken, Given}
+use Rattle.dp_mbuf.specs.Objects.{present, no_pool, pool_in, header_at, header_with, is_out, count_in, spec_of, specs_of, rooms_of, buffers_of, zones_of, HasObject, HasRooms, PoolsFirst, ArePools, HeaderSet, RoomWritten, Taken, Given}
 use Rattle.dp_mbuf.proofs.PoolLemmas.{one_if, with_out, count_set, some_below, Small, pool_out, pool_written, map_set, length_map}
 
 -- ---- numbers
@@ -57,10 +58,10 @@ header_eq g h a b c d e f i =
     ∙ (ap (λ y. m h.segs h.refs h.offset h.len h.next y g.buffer) f
     ∙ ap (λ z. m h.segs h.refs h.offset h.len h.next h.last z) i)))))
 
-word_back : (x : ℕ) → x % 256 + (x / 256) * 256 ≡ x
+pub word_back : (x : ℕ) → x % 256 + (x / 256) * 256 ≡ x
 word_back x = omega arith
 
-place_back : (n : Number) → record { pool = n.pool % 256 + (n.pool / 256) * 256; index = n.index % 256 + (n.index / 256) * 256 } ≡ n
+pub place_back : (n : Number) → record { pool = n.pool % 256 + (n.pool / 256) * 256; index = n.index % 256 + (n.index / 256) * 256 } ≡ n
 place_back n = number_eq _ n (word_back n.pool) (word_back n.index)
 
 pub header_back : (h : Header) (rest : List ℕ) → header_of (header_bytes h ++ rest) ≡ h
@@ -249,26 +250,36 @@ module _ (ps : List PoolView) (n : Number) (are : ArePools ps) (object : HasObje
 
 -- ---- a header set
 
-behind_header : (h : Header) (old : List ℕ) → drop 128 (header_bytes h ++ drop 22 old) ≡ drop 128 old
-behind_header h old = drop-drop 106 22 old
+rest_kept : (old : List ℕ) (at : ℕ) (new : List ℕ) → at + length new ≤ 128 → 128 ≤ length old → drop 128 (overwritten old at new) ≡ drop 128 old
+rest_kept old at new h long =
+    let m : ℕ = 128 - at - length new in
+    let rest : List ℕ = drop (at + length new) old in
+    let l : length (take at old) ≡ at = length-take-le at old (omega arith) in
+    let first : 128 ≡ length (take at old) + (length new + m) = omega arith in
+    let all : at + length new + m ≡ 128 = omega arith in
+    ap (λ i. drop i (overwritten old at new)) first
+    ∙ (drop-append-add (take at old) (new ++ rest) (length new + m)
+    ∙ (drop-append-add new rest m ∙ (drop-drop m (at + length new) old ∙ ap (λ i. drop i old) all)))
 
-pub header_set : (ps : List PoolView) (n : Number) (h : Header) (bytes : List ℕ) → ArePools ps → HasObject ps n → bytes ≡ header_bytes h → Small bytes → 0 + length bytes ≤ (pool_in ps n.pool).size → HeaderSet ps n h (set ps n.pool (with_written (pool_in ps n.pool) n.index 0 bytes))
-header_set ps n h bytes are object e small fits =
+pub object_long : (ps : List PoolView) (n : Number) → ArePools ps → HasObject ps n → 128 ≤ length (object_in (pool_in ps n.pool) n.index)
+object_long ps n are object =
+    let r = are.rooms n.pool (object_pool ps n object) in omega (arith, r.pool.sizes n.index object, r.header)
+
+pub front_set : (ps : List PoolView) (n : Number) (at : ℕ) (bytes : List ℕ) → ArePools ps → HasObject ps n → Small bytes → at + length bytes ≤ 128 → at + length bytes ≤ (pool_in ps n.pool).size → HeaderSet ps n (header_with ps n at bytes) (set ps n.pool (with_written (pool_in ps n.pool) n.index at bytes))
+front_set ps n at bytes are object small front fits =
     let p : PoolView = pool_in ps n.pool in
     let old : List ℕ = object_in p n.index in
-    let is : overwritten old 0 bytes ≡ header_bytes h ++ drop 22 old = ap (overwritten old 0) e in
     record {
-      are = are_written ps n are object 0 bytes small fits;
-      specs = specs_written ps n are object 0 bytes small fits;
-      zones = zones_written ps n are object 0 bytes small fits;
+      are = are_written ps n are object at bytes small fits;
+      specs = specs_written ps n are object at bytes small fits;
+      zones = zones_written ps n are object at bytes small fits;
       buffers =
-          buffers_kept ps n.pool (object_pool ps n object) (with_written p n.index 0 bytes)
-          (map_kept (drop 128) p.objects n.index (overwritten old 0 bytes) [] (ap (drop 128) is ∙ behind_header h old));
-      outs = outs_written ps n are object 0 bytes small fits;
-      ins = ins_written ps n are object 0 bytes small fits;
-      here =
-          ap header_of (object_written ps n are object 0 bytes small fits ∙ is) ∙ header_back h (drop 22 old);
-      others = λ m ne. ap header_of (object_kept ps n are object 0 bytes small fits m ne);
+          buffers_kept ps n.pool (object_pool ps n object) (with_written p n.index at bytes)
+          (map_kept (drop 128) p.objects n.index (overwritten old at bytes) [] (rest_kept old at bytes front (object_long ps n are object)));
+      outs = outs_written ps n are object at bytes small fits;
+      ins = ins_written ps n are object at bytes small fits;
+      here = ap header_of (object_written ps n are object at bytes small fits);
+      others = λ m ne. ap header_of (object_kept ps n are object at bytes small fits m ne);
     }
 
 -- ---- a room written

@@ -13,7 +13,8 @@ use Rattle.dp_pool.specs.Pools.{PoolView, with_written}
 use Rattle.dp_mbuf.specs.Objects.{header_at, is_out, pool_in, count_in, specs_of, HasObject, ArePools, HeaderSet, Taken}
 use Rattle.dp_mbuf.specs.Mbufs.{handle, numbered, is_positive, mbufs, Whole}
 use Rattle.dp_mbuf.proofs.PoolLemmas.{Small}
-use Rattle.dp_mbuf.proofs.ObjectLemmas.{same_or, header_set, object_pool, count_is}
+use Rattle.dp_mbuf.proofs.ObjectLemmas.{same_or, count_is}
+use Rattle.dp_mbuf.proofs.HeaderFields.{header_set}
 use Rattle.dp_mbuf.proofs.Counting.{mbufs-cons, refs-cons, refs_first}
 use Rattle.dp_mbuf.proofs.Links.{alike}
 use Rattle.dp_mbuf.proofs.Frames.{object_of, number_of, number_small}
@@ -115,11 +116,9 @@ alone ps ps1 ps' slots n o l w t done fits low =
     let small = number_small ps1 n t.are object in
     let pool : n.pool < 65536 = let f = t.are.few in omega (arith, f, small.1) in
     let x : Header = fresh_header n 0 o l in
-    let bytes : List ℕ = header_bytes x in
-    let sm : Small bytes = small_header x (omega arith) (omega arith) (omega (arith, low)) (omega (arith, low)) (pool, small.0) (pool, small.0) (pool, small.0) in
-    let room : 0 + length bytes ≤ (pool_in ps1 n.pool).size = let q = (t.are.rooms n.pool (object_pool ps1 n object)).header in omega (arith, q) in
-    let mid : List PoolView = set ps1 n.pool (with_written (pool_in ps1 n.pool) n.index 0 bytes) in
-    let first : HeaderSet ps1 n x mid = header_set ps1 n x bytes t.are object refl sm room in
+    let sm : Small (header_bytes x) = small_header x (omega arith) (omega arith) (omega (arith, low)) (omega (arith, low)) (pool, small.0) (pool, small.0) (pool, small.0) in
+    let mid : List PoolView = set ps1 n.pool (with_written (pool_in ps1 n.pool) n.index 0 (header_bytes x)) in
+    let first : HeaderSet ps1 n x mid = header_set ps1 n x t.are object sm in
     let whole : Whole mid (direct n o l ∷ []) slots = grown_direct ps ps1 mid [] slots n x o l w t first refl refl fits in
     let at : header_at mid n ≡ x = first.here in
     hooked mid ps' slots n (direct n o l ∷ []) (fresh_header n 1 o l) whole

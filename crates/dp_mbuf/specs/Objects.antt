@@ -2,7 +2,7 @@
 use Rattle.std.specs.Prelude.{◌≡◌, ℕ, ◌+◌, ◌-◌, ◌<◌, ◌≤◌, ◌==◌, Bool, true, false, List, [], ◌∷◌, length, map, drop, Option, Some, None, slice_get, slice_index_or}
 use Rattle.std.specs.List.{AllByRecursion}
 use Rattle.dp_model.specs.declared.env.PoolSpec.{PoolSpec}
-use Rattle.dp_model.specs.Buffers.{Number, same_number, Buffers, written}
+use Rattle.dp_model.specs.Buffers.{Number, same_number, Buffers, overwritten, written}
 use Rattle.dp_mbuf.specs.declared.header.Header.{Header}
 use Rattle.dp_pool.specs.Pools.{PoolZones, PoolView, IsPool, object_in, got}
 use Rattle.dp_pool.specs.Queues.{in_count}
@@ -32,6 +32,11 @@ pool_in pools k = slice_index_or pools k no_pool
 
 abbrev pub header_at : List PoolView → Number → Header
 header_at pools n = header_of (object_in (pool_in pools n.pool) n.index)
+
+-- and after these bytes have been written over its first ones, from a place on
+abbrev pub header_with : List PoolView → Number → ℕ → List ℕ → Header
+header_with pools n at bytes =
+    header_of (overwritten (object_in (pool_in pools n.pool) n.index) at bytes)
 
 -- whether the object is handed out
 abbrev pub is_out : List PoolView → Number → Bool

@@ -15,7 +15,7 @@ pub(crate) fn unhook(objects: &mut Objects, n: Place) -> Header
     ensures now { HeaderSet objects.old n (record (header_at objects.old n) { segs = 0 }) objects.new }
 {
     let header = objects.header(n);
-    objects.set_header(n, Header { segs: 0, ..header });
+    objects.set_segs(n, 0);
     header
 }
 
@@ -45,15 +45,8 @@ pub(crate) fn hook(objects: &mut Objects, n: Place, segs: u16, last: Place)
     requires { HasObject objects.old n }
     ensures { HeaderSet objects.old n (record (header_at objects.old n) { segs = segs; last = last }) objects.new }
 {
-    let header = objects.header(n);
-    objects.set_header(
-        n,
-        Header {
-            segs,
-            last,
-            ..header
-        },
-    );
+    objects.set_segs(n, segs);
+    objects.set_last(n, last);
 }
 
 /// Sets the mbuf that comes next.
@@ -61,8 +54,7 @@ pub(crate) fn relink(objects: &mut Objects, n: Place, next: Place)
     requires { HasObject objects.old n }
     ensures { HeaderSet objects.old n (record (header_at objects.old n) { next = next }) objects.new }
 {
-    let header = objects.header(n);
-    objects.set_header(n, Header { next, ..header });
+    objects.set_next(n, next);
 }
 
 // Puts an mbuf back, where it is not its own buffer.
@@ -84,12 +76,11 @@ fn drop_reference(objects: &mut Objects, b: Place)
     requires some { 1 ≤ (header_at objects.old b).refs }
     ensures { BufferLess objects.old b objects.new }
 {
-    let header = objects.header(b);
-    if header.refs == 1 {
+    let refs = objects.header(b).refs;
+    if refs == 1 {
         objects.give(b);
     } else {
-        let refs = header.refs - 1;
-        objects.set_header(b, Header { refs, ..header });
+        objects.set_refs(b, refs - 1);
     }
 }
 
@@ -152,9 +143,8 @@ pub(crate) fn clone_segment(objects: &mut Objects, from: Place, pool: u16) -> Pl
             ..source
         },
     );
-    let shared = objects.header(source.buffer);
-    let refs = shared.refs + 1;
-    objects.set_header(source.buffer, Header { refs, ..shared });
+    let refs = objects.header(source.buffer).refs;
+    objects.set_refs(source.buffer, refs + 1);
     n
 }
 

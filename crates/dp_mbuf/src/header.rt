@@ -1,8 +1,8 @@
 // What stands in the first bytes of each object.
 
-ghost use Rattle.std.specs.Prelude.{◌≡◌, ◌<◌, ◌≤◌, ◌+◌, ◌/◌, ◌%◌, length};
+ghost use Rattle.std.specs.Prelude.{◌≡◌, ◌<◌, ◌≤◌, ◌+◌, ◌/◌, ◌%◌, [], length};
 ghost use Rattle.dp_model.specs.Buffers.{same_number};
-ghost use Rattle.dp_mbuf.specs.Headers.{header_of, word, header_bytes};
+ghost use Rattle.dp_mbuf.specs.Headers.{header_of, word, then_word, header_bytes};
 
 use byteorder::{ByteOrder, LittleEndian};
 use std::marker::Model;
@@ -99,6 +99,22 @@ fn high(x: u16) -> u8
     ensures { result ≡ x / 256 }
 {
     x.to_le_bytes()[1]
+}
+
+/// The bytes of a number, the lower one first.
+pub(crate) fn bytes_of_word(x: u16) -> [u8; 2]
+    ensures bytes { result ≡ then_word x [] }
+    ensures many { length result ≡ 2 }
+{
+    [low(x), high(x)]
+}
+
+/// The bytes of two numbers, one behind the other.
+pub(crate) fn bytes_of_words(x: u16, y: u16) -> [u8; 4]
+    ensures bytes { result ≡ then_word x (then_word y []) }
+    ensures many { length result ≡ 4 }
+{
+    [low(x), high(x), low(y), high(y)]
 }
 
 /// The bytes of a header.

@@ -200,14 +200,8 @@ impl Mbufs {
         ensures zones { self.new.zones ≡ self.old.zones }
     {
         let head = first_header(&self.objects, packet);
-        self.objects.set_header(
-            place_of(packet),
-            Header {
-                offset: head.offset + n,
-                len: head.len - n,
-                ..head
-            },
-        );
+        self.objects
+            .set_bounds(place_of(packet), head.offset + n, head.len - n);
     }
 
     /// Makes the last segment `n` bytes shorter.
@@ -218,13 +212,7 @@ impl Mbufs {
     {
         let last = first_header(&self.objects, packet).last;
         let tail = self.objects.header(last);
-        self.objects.set_header(
-            last,
-            Header {
-                len: tail.len - n,
-                ..tail
-            },
-        );
+        self.objects.set_bounds(last, tail.offset, tail.len - n);
     }
 
     /// Gives a packet up: one reference of each segment's buffer. An mbuf is back in its pool when no live segment has
@@ -294,14 +282,8 @@ impl Mbufs {
         let head = first_header(&self.objects, packet);
         let offset = head.offset - n;
         self.objects.zero(head.buffer, offset as u32, n as u32);
-        self.objects.set_header(
-            place_of(packet),
-            Header {
-                offset,
-                len: head.len + n,
-                ..head
-            },
-        );
+        self.objects
+            .set_bounds(place_of(packet), offset, head.len + n);
     }
 
     /// Makes the last segment `n` bytes longer; the new bytes are 0.
@@ -313,13 +295,7 @@ impl Mbufs {
         let last = first_header(&self.objects, packet).last;
         let tail = self.objects.header(last);
         self.objects.zero(tail.buffer, tail.offset as u32 + tail.len as u32, n as u32);
-        self.objects.set_header(
-            last,
-            Header {
-                len: tail.len + n,
-                ..tail
-            },
-        );
+        self.objects.set_bounds(last, tail.offset, tail.len + n);
     }
 
     /// Puts the second packet's segments behind the first's.

@@ -4,10 +4,10 @@ ghost use Rattle.std.specs.Prelude.{◌≡◌, ℕ, ◌<◌, ◌≤◌, ◌+◌,
 ghost use Rattle.std.specs.List.{list_all};
 ghost use Rattle.dp_model.specs.Buffers.{bytes_of};
 ghost use Rattle.dp_model.specs.Environments.{room_at};
-ghost use Rattle.dp_pool.specs.Pools.{with_written, put_back};
-ghost use Rattle.dp_mbuf.specs.Objects.{present, pool_in, header_at, is_out, count_in, specs_of, buffers_of, HasObject, HasRooms, PoolsFirst, ArePools, HeaderSet, RoomWritten, Taken, Given, SlotHas, SlotFits, SlotIsOut, SlotBecomes, SlotGives, slot_count, slot_whole, AreAllIn};
+ghost use Rattle.dp_pool.specs.Pools.{object_in, with_written, put_back};
+ghost use Rattle.dp_mbuf.specs.Objects.{present, pool_in, header_at, header_with, is_out, count_in, specs_of, buffers_of, HasObject, HasRooms, PoolsFirst, ArePools, HeaderSet, RoomWritten, Taken, Given, SlotHas, SlotFits, SlotIsOut, SlotBecomes, SlotGives, slot_count, slot_whole, AreAllIn};
 
-use crate::header::{Header, Place, bytes_of_header, read_header};
+use crate::header::{Header, Place, bytes_of_header, bytes_of_word, bytes_of_words, read_header};
 use dp_pool::Pool;
 use std::marker::Model;
 
@@ -176,13 +176,63 @@ impl Objects {
         are_whole(&self.pools)
     }
 
+    // Writes bytes over some of an object's first ones.
+    fn write_front(&mut self, n: Place, at: u32, bytes: &[u8])
+        requires object { HasObject self.old n }
+        requires front { at + length bytes.now ≤ 128 }
+        ensures long { 128 ≤ length (object_in (pool_in self.old n.pool) n.index) }
+        ensures written { HeaderSet self.old n (header_with self.old n at bytes.now) self.new }
+    {
+        write_in(&mut self.pools[n.pool() as usize], n.index(), at, bytes);
+    }
+
     /// Writes a header.
     pub fn set_header(&mut self, n: Place, h: Header)
         requires { HasObject self.old n }
         ensures { HeaderSet self.old n h self.new }
     {
-        let bytes = bytes_of_header(h);
-        write_in(&mut self.pools[n.pool() as usize], n.index(), 0, &bytes);
+        self.write_front(n, 0, &bytes_of_header(h));
+    }
+
+    /// Sets how many segments the packet has.
+    pub fn set_segs(&mut self, n: Place, segs: u16)
+        requires { HasObject self.old n }
+        ensures { HeaderSet self.old n (record (header_at self.old n) { segs = segs }) self.new }
+    {
+        self.write_front(n, 0, &bytes_of_word(segs));
+    }
+
+    /// Sets how many references a buffer has.
+    pub fn set_refs(&mut self, n: Place, refs: u32)
+        requires { HasObject self.old n }
+        ensures { HeaderSet self.old n (record (header_at self.old n) { refs = refs }) self.new }
+    {
+        let bytes = bytes_of_words((refs % 65536) as u16, (refs / 65536) as u16);
+        self.write_front(n, 2, &bytes);
+    }
+
+    /// Sets which part of its buffer an mbuf has.
+    pub fn set_bounds(&mut self, n: Place, offset: u16, len: u16)
+        requires { HasObject self.old n }
+        ensures { HeaderSet self.old n (record (header_at self.old n) { offset = offset; len = len }) self.new }
+    {
+        self.write_front(n, 6, &bytes_of_words(offset, len));
+    }
+
+    /// Sets the mbuf that comes next.
+    pub fn set_next(&mut self, n: Place, next: Place)
+        requires { HasObject self.old n }
+        ensures { HeaderSet self.old n (record (header_at self.old n) { next = next }) self.new }
+    {
+        self.write_front(n, 10, &bytes_of_words(next.pool(), next.index()));
+    }
+
+    /// Sets the packet's last mbuf.
+    pub fn set_last(&mut self, n: Place, last: Place)
+        requires { HasObject self.old n }
+        ensures { HeaderSet self.old n (record (header_at self.old n) { last = last }) self.new }
+    {
+        self.write_front(n, 14, &bytes_of_words(last.pool(), last.index()));
     }
 
     /// Writes bytes behind a header from a place on.

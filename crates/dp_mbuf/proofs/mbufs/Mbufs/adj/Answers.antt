@@ -12,15 +12,15 @@ overflow_add-head c = omega (arith, first_fits _ _ c.args.packet.now (same_store
 pub overflow_sub-head : goal.overflow_sub-head
 overflow_sub-head c = omega (arith, first_fits _ _ c.args.packet.now (same_store c.self.view_is) c.self.invariant _ c.args.n c.first_header-head.ensures c.requires)
 
-pub set_header-requires : goal.set_header-requires
-set_header-requires c = rw c.place_of.ensures (live_object _ _ c.args.packet.now (same_store c.self.view_is) c.self.invariant (c.requires.0, c.requires.1, tt))
+pub set_bounds-requires : goal.set_bounds-requires
+set_bounds-requires c = rw c.place_of.ensures (live_object _ _ c.args.packet.now (same_store c.self.view_is) c.self.invariant (c.requires.0, c.requires.1, tt))
 
 pub invariant_of-self : goal.invariant_of-self
 invariant_of-self c =
-    let set = rw (c.place_of.ensures, c.first_header-head.ensures) at c.set_header.ensures in
+    let set = rw (c.place_of.ensures, c.first_header-head.ensures) at c.set_bounds.ensures in
     (adj_done _ _ c.args.packet.now (same_store c.self.view_is) c.self.invariant _ c.args.n c.requires set).0
 
 pub returns-clause-packets : goal.returns-clause-packets
 returns-clause-packets c =
-    let set = rw (c.place_of.ensures, c.first_header-head.ensures) at c.set_header.ensures in
+    let set = rw (c.place_of.ensures, c.first_header-head.ensures) at c.set_bounds.ensures in
     (adj_done _ _ c.args.packet.now (same_store c.self.view_is) c.self.invariant _ c.args.n c.requires set).1

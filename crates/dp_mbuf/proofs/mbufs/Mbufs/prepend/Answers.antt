@@ -26,18 +26,18 @@ overflow_add-head c =
     let f = first_part _ _ c.args.packet.now (same_store c.self.view_is) c.self.invariant _ c.requires.0 c.first_header-head.ensures c.requires.1 in
     omega (arith, b, f.fits, f.small)
 
-pub set_header-requires : goal.set_header-requires
-set_header-requires c =
+pub set_bounds-requires : goal.set_bounds-requires
+set_bounds-requires c =
     rw c.place_of.ensures (object_after _ _ _ c.zero.ensures.specs (live_object _ _ c.args.packet.now (same_store c.self.view_is) c.self.invariant (c.requires.0, c.requires.1, tt)))
 
 pub invariant_of-self : goal.invariant_of-self
 invariant_of-self c =
     let b = before_first _ _ c.args.packet.now (same_store c.self.view_is) c.self.invariant _ c.args.n c.first_header-head.ensures (c.requires.0, c.requires.1, c.requires.2.0) in
-    let set = rw c.place_of.ensures at c.set_header.ensures in
+    let set = rw c.place_of.ensures at c.set_bounds.ensures in
     (prepended_done _ _ c.args.packet.now (same_store c.self.view_is) c.self.invariant _ _ _ c.args.n _ c.first_header-head.ensures (c.requires.0, c.requires.1, tt) b refl c.zero.ensures set).0
 
 pub returns-clause-packets : goal.returns-clause-packets
 returns-clause-packets c =
     let b = before_first _ _ c.args.packet.now (same_store c.self.view_is) c.self.invariant _ c.args.n c.first_header-head.ensures (c.requires.0, c.requires.1, c.requires.2.0) in
-    let set = rw c.place_of.ensures at c.set_header.ensures in
+    let set = rw c.place_of.ensures at c.set_bounds.ensures in
     (prepended_done _ _ c.args.packet.now (same_store c.self.view_is) c.self.invariant _ _ _ c.args.n _ c.first_header-head.ensures (c.requires.0, c.requires.1, tt) b refl c.zero.ensures set).1
