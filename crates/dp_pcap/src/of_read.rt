@@ -45,7 +45,6 @@ impl<R: Read> Feed for OfRead<R> {
 
     ghost remaining = { λ d. R.remaining d.inner };
 
-    #[inline(always)]
     fn pull(&mut self, buf: &mut [u8]) -> Result<usize, Failed> {
         self.health.call();
         if self.health.is_broken() {

@@ -45,7 +45,6 @@ impl<W: Write> Sink for OfWrite<W> {
 
     ghost contents = { λ d. W.contents d.inner };
 
-    #[inline(always)]
     fn push(&mut self, bytes: &[u8]) -> Result<usize, Failed> {
         self.health.call();
         if self.health.is_broken() {
