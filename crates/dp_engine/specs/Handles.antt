@@ -70,3 +70,8 @@ core_of store room registers numbers outbox calls steps = record {
 -- the same machine in another state
 abbrev pub moved : State → Core → Core
 moved s core = record core { state = s }
+
+-- a register of a handle, where it holds one
+abbrev pub register_of : ℕ → Bool → Option ℕ
+register_of h true = Some h
+register_of h false = None

@@ -24,18 +24,20 @@ ghost use Rattle.dp_model.specs.Machine.{live};
 ghost use Rattle.dp_engine.specs.Handles.{in_slot, core_of};
 
 mod calls;
+mod register;
 
 use crate::numbers::calculate;
 use crate::put::put_packet;
 use calls::handle_in;
 use dp_model::{Env, Instr, NumberRegister, Packet as Handle, PacketLayer, PacketRegister};
 use dp_pcap::{Calls, PcapError, Sink, Time, Unit};
+use register::{Register, no_packets, one_packet};
 use std::marker::Model;
 
 #[derive(Drop)]
 pub(crate) struct Machine<P: PacketLayer> {
     layer: P,
-    registers: [Option<u32>; 8],
+    registers: [Register; 8],
     numbers: [u64; 8],
     outbox: Vec<u32>,
     calls: u64,
@@ -69,7 +71,7 @@ impl<P: PacketLayer> Machine<P> {
     {
         Machine {
             layer,
-            registers: [None; 8],
+            registers: no_packets(),
             numbers: [0; 8],
             outbox,
             calls: 0,
@@ -121,16 +123,7 @@ impl<P: PacketLayer> Machine<P> {
         }
         match self.layer.receive(pool, bytes) {
             Some(packet) => {
-                self.registers = [
-                    Some(packet.number()),
-                    None,
-                    None,
-                    None,
-                    None,
-                    None,
-                    None,
-                    None,
-                ];
+                self.registers = one_packet(packet.number());
                 self.numbers = [port as u64, 0, 0, 0, 0, 0, 0, 0];
                 true
             }
@@ -161,7 +154,7 @@ impl<P: PacketLayer> Machine<P> {
     {
         let packet = handle_in(&self.registers, p);
         self.layer.free(packet);
-        self.registers[p.number() as usize] = None;
+        self.registers[p.number() as usize] = Register::empty();
     }
 
     // To the end of the transmit list.
@@ -172,7 +165,7 @@ impl<P: PacketLayer> Machine<P> {
     {
         let packet = handle_in(&self.registers, p);
         self.outbox.push_reserved(packet.number());
-        self.registers[p.number() as usize] = None;
+        self.registers[p.number() as usize] = Register::empty();
     }
 
     pub(crate) fn queued(&self) -> usize

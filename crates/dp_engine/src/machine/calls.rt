@@ -7,15 +7,16 @@ ghost use Rattle.dp_model.specs.Machine.{Holds, IsEmpty, live, is_denied, with_c
 ghost use Rattle.dp_engine.specs.Handles.{moved};
 ghost use Rattle.dp_engine.specs.Steps.{setting_of};
 
+use crate::machine::register::Register;
 use crate::machine::{Machine, is_listed};
 use dp_model::{Env, Packet as Handle, PacketLayer, PacketRegister, Width};
 
-// The handle in a register, which has one: that is proved, so nothing is tested here.
-pub(super) fn handle_in(registers: &[Option<u32>; 8], p: PacketRegister) -> Handle
+// The handle in a register, which holds a packet.
+pub(super) fn handle_in(registers: &[Register; 8], p: PacketRegister) -> Handle
     requires { (h : ℕ) × (slice_get registers.now p ≡ Some (Some h)) }
     ensures { slice_get registers.now p ≡ Some (Some result) }
 {
-    Handle::of(registers[p.number() as usize].unwrap_or_default())
+    Handle::of(registers[p.number() as usize].handle())
 }
 
 impl<P: PacketLayer> Machine<P> {
@@ -99,7 +100,7 @@ impl<P: PacketLayer> Machine<P> {
         let head = handle_in(&self.registers, front);
         let tail = handle_in(&self.registers, back);
         self.layer.chain(head, tail);
-        self.registers[back.number() as usize] = None;
+        self.registers[back.number() as usize] = Register::empty();
     }
 
     // A packet of one segment without bytes into an empty register; or the call is refused.
@@ -126,7 +127,7 @@ impl<P: PacketLayer> Machine<P> {
         }
         match self.layer.alloc(pool as u32) {
             Some(packet) => {
-                self.registers[into.number() as usize] = Some(packet.number());
+                self.registers[into.number() as usize] = Register::of(packet.number());
                 true
             }
             None => false,
@@ -160,7 +161,7 @@ impl<P: PacketLayer> Machine<P> {
         let source = handle_in(&self.registers, from);
         match self.layer.clone_of(source, pool as u32) {
             Some(packet) => {
-                self.registers[into.number() as usize] = Some(packet.number());
+                self.registers[into.number() as usize] = Register::of(packet.number());
                 true
             }
             None => false,

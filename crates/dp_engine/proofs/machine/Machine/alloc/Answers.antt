@@ -8,7 +8,7 @@ use Rattle.dp_engine.proofs.machine.Machine.alloc.Goals as goal
 pub invariant_of-self-in-Some : goal.invariant_of-self-in-Some
 invariant_of-self-in-Some g c =
     let given = allocated_taken (setting_of c.args.env.now c.args.pattern.now) _ _ _ c.self.inside.registers c.self.inside.numbers c.self.inside.outbox.items c.self.inside.calls c.self.inside.steps.count c.args.self.now c.args.into c.args.pool c.in-Some.packet c.self.view_is c.self.invariant c.requires.empty c.requires.pools c.in-Some.ensures in
-    rw (c.number.ensures, c.number-in-Some.ensures.same) given.stand
+    rw (c.of.ensures, c.number.ensures, c.number-in-Some.ensures.same) given.stand
 
 pub returns-in-Some-clause-denied : goal.returns-in-Some-clause-denied
 returns-in-Some-clause-denied g c =
@@ -18,7 +18,7 @@ returns-in-Some-clause-denied g c =
 pub returns-in-Some-clause-given : goal.returns-in-Some-clause-given
 returns-in-Some-clause-given g c _ =
     let given = allocated_taken (setting_of c.args.env.now c.args.pattern.now) _ _ _ c.self.inside.registers c.self.inside.numbers c.self.inside.outbox.items c.self.inside.calls c.self.inside.steps.count c.args.self.now c.args.into c.args.pool c.in-Some.packet c.self.view_is c.self.invariant c.requires.empty c.requires.pools c.in-Some.ensures in
-    rw (c.number.ensures, c.number-in-Some.ensures.same) (given.ns, given.buffers, given.fresh, given.changes, given.state)
+    rw (c.of.ensures, c.number.ensures, c.number-in-Some.ensures.same) (given.ns, given.buffers, given.fresh, given.changes, given.state)
 
 pub returns-in-None-clause-denied : goal.returns-in-None-clause-denied
 returns-in-None-clause-denied g c =

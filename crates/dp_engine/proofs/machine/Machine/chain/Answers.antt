@@ -30,11 +30,11 @@ invariant_of-self g c =
     let (k, t, holds, holds', ne, few) = c.requires in
     let front = held _ _ _ _ _ _ _ _ c.args.front c.handle_in-head.result k c.self.view_is c.self.invariant c.handle_in-head.ensures holds in
     let back = held _ _ _ _ _ _ _ _ c.args.back c.handle_in-tail.result t c.self.view_is c.self.invariant c.handle_in-tail.ensures holds' in
-    rw c.number.ensures.same ((chained _ _ _ _ _ _ _ _ _ c.args.front c.args.back _ _ k t c.self.view_is c.self.invariant ne front back c.chain.ensures).stand)
+    rw (c.number.ensures.same, c.empty.ensures) ((chained _ _ _ _ _ _ _ _ _ c.args.front c.args.back _ _ k t c.self.view_is c.self.invariant ne front back c.chain.ensures).stand)
 
 pub returns : goal.returns
 returns g c k t holds holds' =
     let (_, _, _, _, ne, few) = c.requires in
     let front = held _ _ _ _ _ _ _ _ c.args.front c.handle_in-head.result k c.self.view_is c.self.invariant c.handle_in-head.ensures holds in
     let back = held _ _ _ _ _ _ _ _ c.args.back c.handle_in-tail.result t c.self.view_is c.self.invariant c.handle_in-tail.ensures holds' in
-    rw c.number.ensures.same ((chained _ _ _ _ _ _ _ _ _ c.args.front c.args.back _ _ k t c.self.view_is c.self.invariant ne front back c.chain.ensures).state)
+    rw (c.number.ensures.same, c.empty.ensures) ((chained _ _ _ _ _ _ _ _ _ c.args.front c.args.back _ _ k t c.self.view_is c.self.invariant ne front back c.chain.ensures).state)

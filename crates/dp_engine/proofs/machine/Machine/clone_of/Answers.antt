@@ -20,7 +20,7 @@ invariant_of-self-in-Some g c =
     let (k, holds) = c.requires.holds in
     let there = held _ _ _ _ _ _ _ _ c.args.from c.handle_in-source.result k c.self.view_is c.self.invariant c.handle_in-source.ensures holds in
     let given = taken (setting_of c.args.env.now c.args.pattern.now) _ _ _ c.self.inside.registers c.self.inside.numbers c.self.inside.outbox.items c.self.inside.calls c.self.inside.steps.count c.args.self.now c.args.into c.args.pool (length k) c.in-Some.packet (λ ns. cloned ns k) (λ ns old new. new ≡ old) c.self.view_is c.self.invariant c.requires.empty c.requires.pools (c.in-Some.ensures k there.has) in
-    rw (c.number.ensures, c.number-in-Some.ensures.same) given.stand
+    rw (c.of.ensures, c.number.ensures, c.number-in-Some.ensures.same) given.stand
 
 pub invariant_of-self-in-None : goal.invariant_of-self-in-None
 invariant_of-self-in-None g c =
@@ -38,7 +38,7 @@ pub returns-in-Some-clause-given : goal.returns-in-Some-clause-given
 returns-in-Some-clause-given g c _ k holds =
     let there = held _ _ _ _ _ _ _ _ c.args.from c.handle_in-source.result k c.self.view_is c.self.invariant c.handle_in-source.ensures holds in
     let given = taken (setting_of c.args.env.now c.args.pattern.now) _ _ _ c.self.inside.registers c.self.inside.numbers c.self.inside.outbox.items c.self.inside.calls c.self.inside.steps.count c.args.self.now c.args.into c.args.pool (length k) c.in-Some.packet (λ ns. cloned ns k) (λ ns old new. new ≡ old) c.self.view_is c.self.invariant c.requires.empty c.requires.pools (c.in-Some.ensures k there.has) in
-    rw (c.number.ensures, c.number-in-Some.ensures.same) (given.ns, given.fresh, keeps_bytes _ _ _ _ _ given.changes given.state)
+    rw (c.of.ensures, c.number.ensures, c.number-in-Some.ensures.same) (given.ns, given.fresh, keeps_bytes _ _ _ _ _ given.changes given.state)
 
 pub returns-in-None-clause-denied : goal.returns-in-None-clause-denied
 returns-in-None-clause-denied g c k holds =

@@ -13,7 +13,7 @@ pub invariant_of-self : goal.invariant_of-self
 invariant_of-self g c =
     let (k, holds) = c.requires in
     let there = held _ _ _ _ _ _ _ _ c.args.p c.handle_in-packet.result k c.self.view_is c.self.invariant c.handle_in-packet.ensures holds in
-    rw (c.free.ensures, c.number.ensures.same) (stand_freed _ c.self.inside.registers c.self.inside.outbox.items c.args.p c.handle_in-packet.result k there.has there.here c.self.invariant)
+    rw (c.free.ensures, c.number.ensures.same, c.empty.ensures) (stand_freed _ c.self.inside.registers c.self.inside.outbox.items c.args.p c.handle_in-packet.result k there.has there.here c.self.invariant)
 
 pub handle_in-packet-requires : goal.handle_in-packet-requires
 handle_in-packet-requires g c =
@@ -24,4 +24,4 @@ pub returns : goal.returns
 returns g c =
     let (k, holds) = c.requires in
     let there = held _ _ _ _ _ _ _ _ c.args.p c.handle_in-packet.result k c.self.view_is c.self.invariant c.handle_in-packet.ensures holds in
-    rw (c.free.ensures, c.number.ensures.same) (frees _ _ _ _ _ _ _ _ c.args.p c.handle_in-packet.result k c.self.view_is there)
+    rw (c.free.ensures, c.number.ensures.same, c.empty.ensures) (frees _ _ _ _ _ _ _ _ c.args.p c.handle_in-packet.result k c.self.view_is there)

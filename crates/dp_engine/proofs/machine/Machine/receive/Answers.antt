@@ -5,7 +5,7 @@ use Rattle.dp_engine.proofs.machine.Machine.receive.Goals as goal
 
 pub invariant_of-self-in-Some : goal.invariant_of-self-in-Some
 invariant_of-self-in-Some g c =
-    rw c.number.ensures ((given (setting_of c.args.env.now c.args.pattern.now) _ _ _ c.self.inside.registers c.self.inside.numbers c.self.inside.outbox.items c.self.inside.calls c.self.inside.steps.count c.args.self.now c.args.pool c.args.port c.in-Some.packet c.args.bytes.now c.self.view_is c.self.invariant c.requires.idle c.requires.pools c.in-Some.ensures).stand)
+    rw (c.one_packet-self-inside.ensures, c.number.ensures) ((given (setting_of c.args.env.now c.args.pattern.now) _ _ _ c.self.inside.registers c.self.inside.numbers c.self.inside.outbox.items c.self.inside.calls c.self.inside.steps.count c.args.self.now c.args.pool c.args.port c.in-Some.packet c.args.bytes.now c.self.view_is c.self.invariant c.requires.idle c.requires.pools c.in-Some.ensures).stand)
 
 pub returns-in-Some-clause-denied : goal.returns-in-Some-clause-denied
 returns-in-Some-clause-denied g c =
@@ -13,7 +13,7 @@ returns-in-Some-clause-denied g c =
 
 pub returns-in-Some-clause-received : goal.returns-in-Some-clause-received
 returns-in-Some-clause-received g c _ =
-    rw c.number.ensures ((given (setting_of c.args.env.now c.args.pattern.now) _ _ _ c.self.inside.registers c.self.inside.numbers c.self.inside.outbox.items c.self.inside.calls c.self.inside.steps.count c.args.self.now c.args.pool c.args.port c.in-Some.packet c.args.bytes.now c.self.view_is c.self.invariant c.requires.idle c.requires.pools c.in-Some.ensures).state)
+    rw (c.one_packet-self-inside.ensures, c.number.ensures) ((given (setting_of c.args.env.now c.args.pattern.now) _ _ _ c.self.inside.registers c.self.inside.numbers c.self.inside.outbox.items c.self.inside.calls c.self.inside.steps.count c.args.self.now c.args.pool c.args.port c.in-Some.packet c.args.bytes.now c.self.view_is c.self.invariant c.requires.idle c.requires.pools c.in-Some.ensures).state)
 
 pub returns-in-None-clause-denied : goal.returns-in-None-clause-denied
 returns-in-None-clause-denied g c =
