@@ -28,25 +28,31 @@ use std::marker::Model;
 /// What became of a record.
 #[derive(Clone, Copy, Debug, PartialEq, Eq)]
 pub enum Outcome {
+    /// It was received, and the port's program ran.
     Got,
+    /// It was dropped: the pattern refused its buffers, or too few were free.
     NoBuffer,
+    /// It was dropped: it needs more segments than the port takes.
     Oversize,
 }
 
-/// A turn: what became of the record, and how many node runs there were.
+/// A turn.
 #[derive(Clone, Copy, Debug, PartialEq, Eq)]
 pub struct Turn {
+    /// What became of the record.
     pub outcome: Outcome,
+    /// How many node runs there were: without rings 1 for a record that was received, else 0.
     pub runs: u8,
 }
 
-/// The writer failed, behind so many whole records.
+/// The writer failed.
 #[derive(Clone, Copy, Debug, PartialEq, Eq)]
 pub struct WriteFault {
+    /// How many records were written whole before.
     pub sent: u32,
 }
 
-/// An engine of one port, over a layer of packets.
+/// An engine of one port, over a layer of packets. Its pattern of refused allocation calls is empty at first.
 #[derive(Drop)]
 pub struct Engine<P: PacketLayer> {
     machine: Machine<P>,
@@ -76,7 +82,7 @@ fn needed(pools: &[PoolSpec], pool: u32, len: usize) -> usize
 }
 
 impl<P: PacketLayer> Engine<P> {
-    /// A turn with a record that came to a port.
+    /// A turn with a record of at most 262,144 bytes that came to a port which exists. An engine takes at most 134,217,728 turns.
     pub fn turn(&mut self, port: u8, bytes: &[u8]) -> Turn
         requires exists { port < length self.old.setting.env.ports }
         requires limit { self.old.turns < 134217728 }
@@ -135,7 +141,7 @@ impl<P: PacketLayer> Engine<P> {
         self.turns
     }
 
-    /// How many packets wait in the port's transmit list.
+    /// How many packets wait in the transmit list of a port which exists: at most its queue less 1.
     pub fn queued(&self, port: u8) -> usize
         requires exists { port < length self.now.setting.env.ports }
         ensures list { (packets : List Packet) × (self.now.world.outboxes ≡ packets ∷ []) × (result ≡ length packets) }
@@ -145,8 +151,9 @@ impl<P: PacketLayer> Engine<P> {
         self.machine.queued()
     }
 
-    /// Writes the records of the port's transmit list, first to last, and gives up its packets, also where the writer
-    /// fails.
+    /// Writes the records of the port's transmit list at that time, first to last, in the spelling of classic pcap 2.4, and gives
+    /// up its packets, also where the writer fails. Answers how many records were written; an error tells how many were
+    /// written whole before the writer failed.
     pub fn drain<W: Sink>(
         &mut self,
         port: u8,
@@ -179,7 +186,7 @@ impl<P: PacketLayer> Engine<P> {
         }
     }
 
-    /// Gives up all packets of the transmit list.
+    /// Gives up all packets of the transmit list. Every buffer is free then.
     pub fn flush(&mut self)
         ensures empty { self.new ≡ emptied self.old }
         ensures free { live (between self.new.world) ≡ [] }
@@ -187,7 +194,7 @@ impl<P: PacketLayer> Engine<P> {
         self.machine.clear();
     }
 
-    /// The allocation calls that are refused, by their numbers from 1.
+    /// Replaces the pattern: the numbers of the allocation calls that are refused, ascending, from 1. Before the first turn.
     pub fn refuse(&mut self, pattern: Vec<u64>)
         requires ascending { IsAscending 0 pattern.items }
         requires first { self.old.turns ≡ 0 }
@@ -246,7 +253,8 @@ fn reached(pattern: &[u64], calls: u64) -> u64
 }
 
 impl Engine<Plain> {
-    /// An engine over a plain store. All its memory is taken here.
+    /// An engine over a plain store, for one pool without a cache and one port of one segment, with no rings and no tables. All its
+    /// memory is taken here; `Memory` where there is too little.
     pub fn open_plain(alloc: Global, env: &Env, checked: Checked) -> Result<Engine<Plain>, Memory>
         requires setup { IsPlainSetup env.now }
         requires checked { (checked.env ≡ env.now) × (checked.entry ≡ Entry.Port 0) }

@@ -1,4 +1,4 @@
-//! Turns of packets.
+//! Turns of packets: a record is received, its program runs, and what it sent is written. Over any layer of packets.
 #![tactic(auto)]
 
 mod engine;

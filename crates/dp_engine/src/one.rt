@@ -16,18 +16,23 @@ use dp_model::{Entry, Env, PacketLayer};
 use dp_pcap::{Feed, Next, PcapError, Sink, next_record, put_header, read_header};
 use std::alloc::Global;
 
-/// Why a run stopped: no memory, a fault of the input, or a writer that failed.
+/// Why a run stopped.
 #[derive(Clone, Copy, Debug, PartialEq, Eq)]
 pub enum OneCause {
+    /// There was not enough memory. Nothing was read or written.
     Memory,
+    /// The input has this fault, in its header or behind the records that were read.
     In(PcapError),
+    /// The writer failed.
     Out,
 }
 
-/// A run that stopped, and its numbers.
+/// A run that stopped.
 #[derive(Drop)]
 pub struct OneFault {
+    /// Why it stopped.
     pub cause: OneCause,
+    /// Its numbers until then, in which every buffer is free and the input is open.
     pub report: Report,
 }
 
@@ -108,8 +113,10 @@ fn unopened(env: &Env) -> Report
     }
 }
 
-/// Reads a capture from `r`, takes a turn and a drain for each record, and writes a capture to `w`. All memory is taken
-/// before anything is read.
+/// Reads a classic pcap 2.4 capture from `r`, takes a turn and a drain for each record, and writes a capture to `w` in the same
+/// unit of time. All memory is taken before anything is read. Answers the numbers of the run where the input ends or is cut;
+/// an error where memory is short, the input has a fault, or the writer fails. Then what was written is a prefix of the run's
+/// capture. Either way every buffer is free at the end.
 pub fn run_one<R: Feed, W: Sink>(
     alloc: Global,
     env: &Env,
