@@ -2,7 +2,7 @@
 
 use crate::mem::mem_line;
 use crate::one::{one_load, one_run};
-use dp_pcap::{OfRead, OfWrite};
+use dp_pcap::{FailingFeed, FailingSink, OfRead, OfWrite};
 use std::alloc::{AllocError, Global};
 
 /// The program that takes 14 bytes off, as it is printed.
@@ -244,7 +244,7 @@ fn short_records_are_dropped(rt: HostRuntime) {
 }
 
 /// A run of `dpv one` that ends at a fault, or early: the program, how much of strip's certificate and of the capture with one
-/// record there is, and what becomes of it.
+/// record there is, and what becomes of it. Where a text is at fault all that is read later is at fault too.
 struct Case {
     node: &'static str,
     cert: usize,
@@ -264,16 +264,16 @@ const CUT: &str =
 static CASES: [Case; 7] = [
     Case {
         node: "",
-        cert: 1_853,
-        input: 100,
+        cert: 10,
+        input: 0,
         status: 3,
         printed: "",
         told: "fault: pipeline 6 Asm port 0 line 0 cause 9\n",
     },
     Case {
         node: "adj p0,65536\n",
-        cert: 1_853,
-        input: 100,
+        cert: 10,
+        input: 0,
         status: 3,
         printed: "",
         told: "fault: pipeline 6 Asm port 0 line 1 cause 5\n",
@@ -281,7 +281,7 @@ static CASES: [Case; 7] = [
     Case {
         node: STRIP,
         cert: 10,
-        input: 100,
+        input: 0,
         status: 3,
         printed: "",
         told: "fault: pipeline 7 BadCert port 0 line 1 cause 1\n",
@@ -289,7 +289,7 @@ static CASES: [Case; 7] = [
     Case {
         node: STRIP,
         cert: 11,
-        input: 100,
+        input: 0,
         status: 3,
         printed: "",
         told: "fault: pipeline 7 BadCert port 0 line 2 cause 4\n",
@@ -359,4 +359,64 @@ fn a_certificate_that_says_too_much_is_refused(rt: HostRuntime) {
     assert_eq!(&rt; status, 1);
     assert_eq!(&rt; out.as_slice(), b"port 0 refused at 0 by J11\n".as_slice());
     assert!(&rt; err.is_empty() && written.is_empty());
+}
+
+#[test]
+fn a_program_that_runs_off_its_end_is_refused(rt: HostRuntime) {
+    let alloc = rt.alloc();
+    let cert = cert_text(alloc, &STRIP_ROWS[..1]).expect(&rt, "memory");
+    let (status, out, err, written) = run(alloc, "free p0\n", cert.as_slice(), b"".as_slice());
+    assert_eq!(&rt; status, 1);
+    assert_eq!(&rt; out.as_slice(), b"port 0 refused at 0 by J3\n".as_slice());
+    assert!(&rt; err.is_empty() && written.is_empty());
+}
+
+/// What `dpv one` makes with strip of a capture with one record, where the reader fails behind some bytes and the writer, which
+/// takes 8 bytes a call, behind others: its status, what it prints on both writers, and what is written.
+fn run_failing(
+    alloc: Global,
+    given: usize,
+    taken: usize,
+) -> Result<(u8, Vec<u8>, Vec<u8>, Vec<u8>), AllocError> {
+    let cert = cert_text(alloc, STRIP_ROWS.as_slice())?;
+    let input = one_record(alloc, 0)?;
+    let mut out = Vec::new(alloc);
+    let mut err = Vec::new(alloc);
+    let mut feed = FailingFeed::new(OfRead::new(input.as_slice()), given);
+    let mut sink = FailingSink::new(OfWrite::new(Vec::new(alloc)), 8, taken);
+    let status = match one_load(alloc, STRIP.as_bytes(), &cert, &mut out, &mut err) {
+        Ok(checked) => one_run(alloc, checked, &mut feed, &mut sink, &mut out, &mut err),
+        Err(status) => status,
+    };
+    Ok((status, out, err, sink.into_inner().into_inner()))
+}
+
+/// A report of a run whose input is open, with so many records received and sent.
+const RECEIVED: &str =
+    "port 0 received 1 nobuf 0 oversize 0 sent 0 input open\npool 0 free 64 of 64\ncalls 1 refused 0\n";
+
+const SENT: &str =
+    "port 0 received 1 nobuf 0 oversize 0 sent 1 input open\npool 0 free 64 of 64\ncalls 1 refused 0\n";
+
+/// How many bytes the reader gives and the writer takes before they fail, what is printed and told, and how much is written.
+static FAILURES: [(usize, usize, &str, &str, usize); 6] = [
+    (0, 86, NOTHING, "fault: input 0 cause 8\n", 0),
+    (23, 0, NOTHING, "fault: input 0 cause 8\n", 0),
+    (99, 86, NOTHING, "fault: input 0 cause 8\n", 24),
+    (100, 86, SENT, "fault: input 0 cause 8\n", 86),
+    (100, 23, NOTHING, "fault: output 0\n", 23),
+    (100, 32, RECEIVED, "fault: output 0\n", 32),
+];
+
+#[test]
+fn a_device_that_fails_is_told_of_behind_the_report(rt: HostRuntime) {
+    let alloc = rt.alloc();
+    let whole = one_record(alloc, 14).expect(&rt, "memory");
+    for (given, taken, printed, told, held) in FAILURES.iter() {
+        let (status, out, err, written) = run_failing(alloc, *given, *taken).expect(&rt, "memory");
+        assert_eq!(&rt; status, 3, "{given} {taken}");
+        assert_eq!(&rt; out.as_slice(), printed.as_bytes(), "{given} {taken}");
+        assert_eq!(&rt; err.as_slice(), told.as_bytes(), "{given} {taken}");
+        assert_eq!(&rt; written.as_slice(), front(&whole, *held), "{given} {taken}");
+    }
 }
