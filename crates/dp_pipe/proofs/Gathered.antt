@@ -1,0 +1,107 @@
+-- What is loaded, and why it is not, from the parts that were read.
+use Rattle.std.proofs.Common.{◌≡◌, ℕ, suc, ◌+◌, ◌≤◌, ◌⊎◌, inl, inr, List, [], ◌∷◌, ◌++◌, length, take, drop, Option, None, Some, sym, subst, arith, length-append}
+use Rattle.std.specs.Prelude.{slice_get}
+use Rattle.std.proofs.lemmas.List.{take_all}
+use Rattle.dp_model.specs.declared.instr.Instr.{Instr}
+use Rattle.dp_model.specs.declared.env.Entry.{Entry}
+use Rattle.dp_model.specs.declared.env.Entry.TheVariants.{Port, Ring}
+use Rattle.dp_model.specs.Environments.{Environment}
+use Rattle.dp_model.specs.Rules.{Question}
+use Rattle.dp_check.specs.Faults.{IsChecked}
+use Rattle.dp_infer.specs.Inference.{SaysMost}
+use Rattle.dp_pipe.specs.declared.error.PipeError.{PipeError}
+use Rattle.dp_pipe.specs.declared.error.PipeError.TheVariants.{Memory}
+use Rattle.dp_pipe.specs.declared.nodes.How.{How}
+use Rattle.dp_pipe.specs.Setup.{NodeFiles}
+use Rattle.dp_pipe.specs.Files.{FileMap}
+use Rattle.dp_pipe.specs.Nodes.{Node, numbered, nodes_of, IsProgramOf, IsCertOf, HasCert, IsLoaded, IsMissing, IsBadCert, IsRefusedBy, IsWithoutCert, HasNoProgram, HasNoCert, Fails, AreLoaded, FailsAtFirst}
+use Rattle.dp_pipe.proofs.Places.{taken_more, parted, zipped_more, length-numbered}
+
+-- ---- one node
+
+pub program_fails : (known : Option FileMap) (env : Environment) (node : Node) (e : PipeError) → (e ≡ Memory) ⊎ HasNoProgram known node.entry node.program e → Fails known env node e
+program_fails known env node e h = elim h [ inl memory ↦ inl memory | inr none ↦ inr (inl none) ]
+
+given_cert : (known : Option FileMap) (node : Node) (program : List Instr) (name : List ℕ) (q : Question) → Some name ≡ node.cert → q.program ≡ program → IsCertOf known name (length program) q.rows → HasCert known node.cert q
+given_cert known node program name q is same cert =
+    let at : IsCertOf known name (length q.program) q.rows = subst (λ (p : List Instr). IsCertOf known name (length p) q.rows) (sym same) cert in
+    subst (λ (c : Option (List ℕ)). HasCert known c q) is at
+
+pub given_loaded : (known later : Option FileMap) (env : Environment) (node : Node) (program : List Instr) (name : List ℕ) (q : Question)
+    → later ≡ known → IsProgramOf known node.program program → Some name ≡ node.cert
+    → q.env ≡ env → q.entry ≡ node.entry → q.program ≡ program → IsChecked q → IsCertOf later name (length program) q.rows → IsLoaded known env node q
+given_loaded known later env node program name q stays reads is e n p checked cert = record {
+  env_is = e;
+  entry_is = n;
+  checked = checked;
+  program = subst (λ (x : List Instr). IsProgramOf known node.program x) (sym p) reads;
+  cert = given_cert known node program name q is p (subst (λ (k : Option FileMap). IsCertOf k name (length program) q.rows) stays cert);
+}
+
+abbrev GivenFails : Option FileMap → Environment → Entry → List ℕ → List Instr → PipeError → Type 0
+GivenFails known env entry name program e =
+    IsMissing known entry name e ⊎ IsBadCert known entry name (length program) e ⊎ IsRefusedBy known env entry name program e
+
+pub given_fails : (known later : Option FileMap) (env : Environment) (node : Node) (program : List Instr) (name : List ℕ) (e : PipeError)
+    → later ≡ known → IsProgramOf known node.program program → Some name ≡ node.cert
+    → (e ≡ Memory) ⊎ (IsMissing later node.entry name e ⊎ IsBadCert later node.entry name (length program) e ⊎ IsRefusedBy later env node.entry name program e) → Fails known env node e
+given_fails known later env node program name e stays reads is h =
+    elim h [
+      | inl memory ↦ inl memory
+      | inr fails ↦
+          let here : GivenFails known env node.entry name program e = subst (λ (k : Option FileMap). GivenFails k env node.entry name program e) stays fails in
+          inr (inr (program, reads, subst (λ (c : Option (List ℕ)). HasNoCert known env node.entry c program e) is here))
+    ]
+
+most_of : (program : List Instr) (env : Environment) (entry : Entry) (q : Question) → q.env ≡ env → q.entry ≡ entry → q.program ≡ program → SaysMost program env entry q.rows → SaysMost q.program q.env q.entry q.rows
+most_of program env entry q e n p most =
+    let at_program : SaysMost q.program env entry q.rows = subst (λ (x : List Instr). SaysMost x env entry q.rows) (sym p) most in
+    let at_env : SaysMost q.program q.env entry q.rows = subst (λ (x : Environment). SaysMost q.program x entry q.rows) (sym e) at_program in
+    subst (λ (x : Entry). SaysMost q.program q.env x q.rows) (sym n) at_env
+
+pub inferred_loaded : (known : Option FileMap) (env : Environment) (node : Node) (program : List Instr) (q : Question)
+    → IsProgramOf known node.program program → None ≡ node.cert
+    → q.env ≡ env → q.entry ≡ node.entry → q.program ≡ program → IsChecked q → SaysMost program env node.entry q.rows → IsLoaded known env node q
+inferred_loaded known env node program q reads is e n p checked most = record {
+  env_is = e;
+  entry_is = n;
+  checked = checked;
+  program = subst (λ (x : List Instr). IsProgramOf known node.program x) (sym p) reads;
+  cert = subst (λ (c : Option (List ℕ)). HasCert known c q) is (most_of program env node.entry q e n p most);
+}
+
+pub inferred_fails : (known : Option FileMap) (env : Environment) (node : Node) (program : List Instr) (e : PipeError)
+    → IsProgramOf known node.program program → None ≡ node.cert → (e ≡ Memory) ⊎ IsWithoutCert env node.entry program e → Fails known env node e
+inferred_fails known env node program e reads is h =
+    elim h [
+      | inl memory ↦ inl memory
+      | inr none ↦ inr (inr (program, reads, subst (λ (c : Option (List ℕ)). HasNoCert known env node.entry c program e) is none))
+    ]
+
+-- ---- all nodes
+
+pub one_more : (known later : Option FileMap) (env : Environment) (nodes : List Node) (k : ℕ) (node : Node) (loaded : List Question) (q : Question)
+    → later ≡ known → slice_get nodes k ≡ Some node → AreLoaded known env (take k nodes) loaded → IsLoaded later env node q → AreLoaded known env (take (k + 1) nodes) (loaded ++ q ∷ [])
+one_more known later env nodes k node loaded q stays at all new =
+    let here : IsLoaded known env node q = subst (λ (f : Option FileMap). IsLoaded f env node q) stays new in
+    subst (λ (xs : List Node). AreLoaded known env xs (loaded ++ q ∷ [])) (sym (taken_more nodes k node at))
+    (zipped_more (IsLoaded known env) (take k nodes) loaded node q all here)
+
+pub fails_here : (known later : Option FileMap) (env : Environment) (nodes : List Node) (k : ℕ) (node : Node) (loaded : List Question) (e : PipeError)
+    → later ≡ known → slice_get nodes k ≡ Some node → AreLoaded known env (take k nodes) loaded → Fails later env node e → FailsAtFirst known env nodes e
+fails_here known later env nodes k node loaded e stays at all fails = record {
+  before = take k nodes;
+  node = node;
+  after = drop (suc k) nodes;
+  all = parted nodes k node at;
+  loaded = loaded;
+  earlier = all;
+  fails = subst (λ (f : Option FileMap). Fails f env node e) stays fails;
+}
+
+pub how_many : (how : How) (ports rings : List NodeFiles) → length (nodes_of how ports rings) ≡ length ports + length rings
+how_many how ports rings =
+    omega (arith, length-append (numbered how Port 0 ports) (numbered how Ring 0 rings), length-numbered how Port 0 ports, length-numbered how Ring 0 rings)
+
+pub whole : (known : Option FileMap) (env : Environment) (nodes : List Node) (n : ℕ) (loaded : List Question) → length nodes ≤ n → AreLoaded known env (take n nodes) loaded → AreLoaded known env nodes loaded
+whole known env nodes n loaded few all = subst (λ (xs : List Node). AreLoaded known env xs loaded) (take_all n nodes few) all

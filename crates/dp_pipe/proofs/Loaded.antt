@@ -1,0 +1,131 @@
+-- A configuration with its nodes is a pipeline.
+use Rattle.std.proofs.Common.{◌≡◌, ℕ, suc, ◌≤◌, min, ◌⊎◌, inl, inr, Bool, true, false, List, [], ◌∷◌, length, map, Option, None, Some, refl, ap, sym, ◌∙◌, subst, arith}
+use Rattle.std.specs.Prelude.{nat_le, ◌&&◌, if◌then◌else◌}
+use Rattle.std.proofs.lemmas.Bool.{and_parts, leb-true}
+use Rattle.std.proofs.lemmas.List.{length-map}
+use Rattle.dp_model.specs.Environments.{Environment, fault_of, numbers_fit}
+use Rattle.dp_model.specs.declared.env.EnvError.TheVariants.{BadNumber}
+use Rattle.dp_model.specs.Rules.{Question}
+use Rattle.dp_lpm.specs.Routes.{RouteTable}
+use Rattle.dp_pipe.specs.declared.config.Config.{Config}
+use Rattle.dp_pipe.specs.declared.error.PipeError.{PipeError}
+use Rattle.dp_pipe.specs.declared.error.PipeError.TheVariants.{Memory}
+use Rattle.dp_pipe.specs.declared.nodes.How.{How}
+use Rattle.dp_pipe.specs.Setup.{Setup, TableSays, NodeFiles}
+use Rattle.dp_pipe.specs.Views.{node_names, port_names}
+use Rattle.dp_pipe.specs.Config.{environment_of, names_of_port, HoldAll, IsConfig, IsConfigOf}
+use Rattle.dp_pipe.specs.Files.{FileMap}
+use Rattle.dp_pipe.specs.Nodes.{Node, nodes_of, AreLoaded, FailsAtFirst}
+use Rattle.dp_pipe.specs.Pipelines.{Plan, HasNodes, input_of, output_of}
+use Rattle.dp_pipe.specs.Loads.{nodes_in, IsLoadedFrom, IsUnloaded}
+use Rattle.dp_pipe.proofs.Environments.{map_twice}
+use Rattle.dp_pipe.proofs.Planned.{has_nodes}
+
+-- ---- how many there are
+
+no_else : {X : Type 0} → (b : Bool) (a : Option X) (x : X) → (if b then a else Some x) ≡ None → b ≡ true
+no_else true a x h = refl
+no_else false a x h = absurd cc
+
+-- the numbers of an environment that there is
+pub few : (e : Environment) → fault_of e ≡ None → (length e.ports ≤ 8) × (length e.rings ≤ 8) × (e.tables ≤ 4)
+few e h =
+    let fits : numbers_fit e ≡ true = no_else (numbers_fit e) _ BadNumber h in
+    let (h1, ports) = and_parts (nat_le 1 (length e.pools) && nat_le (length e.pools) 8 && nat_le e.tables 4 && nat_le (length e.rings) 8 && nat_le 1 (length e.ports)) (nat_le (length e.ports) 8) fits in
+    let (h2, port) = and_parts (nat_le 1 (length e.pools) && nat_le (length e.pools) 8 && nat_le e.tables 4 && nat_le (length e.rings) 8) (nat_le 1 (length e.ports)) h1 in
+    let (h3, rings) = and_parts (nat_le 1 (length e.pools) && nat_le (length e.pools) 8 && nat_le e.tables 4) (nat_le (length e.rings) 8) h2 in
+    let (h4, tables) = and_parts (nat_le 1 (length e.pools) && nat_le (length e.pools) 8) (nat_le e.tables 4) h3 in
+    (leb-true (length e.ports) 8 ports, leb-true (length e.rings) 8 rings, leb-true e.tables 4 tables)
+
+held_length : (ts : List TableSays) (tables : List RouteTable) → HoldAll ts tables → length tables ≡ length ts
+held_length [] [] all = refl
+held_length [] (x ∷ tables) all = absurd all
+held_length (t ∷ ts) [] all = absurd all
+held_length (t ∷ ts) (x ∷ tables) all = ap suc (held_length ts tables all.1)
+
+pub ports_of : (s : Setup) (c : Config) → IsConfig s c → length c.ports.items ≡ length c.env.ports
+ports_of s c is =
+    sym (length-map c.ports.items port_names) ∙ ap length is.ports ∙ length-map s.ports names_of_port ∙ sym (length-map s.ports (λ p. p.spec)) ∙ sym (ap (λ (e : Environment). length e.ports) is.env)
+
+pub rings_of : (s : Setup) (c : Config) → IsConfig s c → length c.rings.items ≡ length c.env.rings
+rings_of s c is =
+    sym (length-map c.rings.items node_names) ∙ ap length is.rings ∙ length-map s.rings (λ r. r.files) ∙ sym (length-map s.rings (λ r. r.spec)) ∙ sym (ap (λ (e : Environment). length e.rings) is.env)
+
+pub tables_of : (s : Setup) (c : Config) → IsConfig s c → length c.tables.items ≡ c.env.tables
+tables_of s c is =
+    let most : (environment_of s).tables ≤ 4 = (few (environment_of s) is.fits).2 in
+    let least : min (length s.tables) 255 ≡ length s.tables = omega arith in
+    held_length s.tables c.tables.items is.tables ∙ sym least ∙ sym (ap (λ (e : Environment). e.tables) is.env)
+
+-- ---- names
+
+port_files : (s : Setup) (c : Config) → IsConfig s c → map (λ p. node_names p.files) c.ports.items ≡ map (λ p. p.files) s.ports
+port_files s c is =
+    sym (map_twice port_names (λ t. t.0) c.ports.items) ∙ ap (map (λ t. t.0)) is.ports ∙ map_twice names_of_port (λ t. t.0) s.ports
+
+port_inputs : (s : Setup) (c : Config) → IsConfig s c → map input_of c.ports.items ≡ map (λ p. p.input) s.ports
+port_inputs s c is =
+    sym (map_twice port_names (λ t. t.1) c.ports.items) ∙ ap (map (λ t. t.1)) is.ports ∙ map_twice names_of_port (λ t. t.1) s.ports
+
+port_outputs : (s : Setup) (c : Config) → IsConfig s c → map output_of c.ports.items ≡ map (λ p. p.output) s.ports
+port_outputs s c is =
+    sym (map_twice port_names (λ t. t.2) c.ports.items) ∙ ap (map (λ t. t.2)) is.ports ∙ map_twice names_of_port (λ t. t.2) s.ports
+
+-- the nodes by the names that are kept
+abbrev pub kept_nodes : How → Config → List Node
+kept_nodes how c = nodes_of how (map (λ port. node_names port.files) c.ports.items) (map node_names c.rings.items)
+
+same_nodes : (how : How) (s : Setup) (c : Config) → IsConfig s c → kept_nodes how c ≡ nodes_in how s
+same_nodes how s c is =
+    ap (λ (ps : List NodeFiles). nodes_of how ps (map node_names c.rings.items)) (port_files s c is)
+    ∙ ap (λ (rs : List NodeFiles). nodes_of how (map (λ p. p.files) s.ports) rs) is.rings
+
+-- ---- what is loaded
+
+pub fit_nodes : (known : Option FileMap) (how : How) (text : List ℕ) (c : Config) (nodes : List Question) → IsConfigOf text c → AreLoaded known c.env (kept_nodes how c) nodes → HasNodes c.env nodes
+fit_nodes known how text c nodes is all =
+    has_nodes known c.env how (map (λ port. node_names port.files) c.ports.items) (map node_names c.rings.items) nodes all
+    (length-map c.ports.items (λ port. node_names port.files) ∙ ports_of is.setup c is.config)
+    (length-map c.rings.items node_names ∙ rings_of is.setup c is.config)
+
+abbrev pub plan_of : Config → List Question → Plan
+plan_of c nodes = record { env = c.env; region = c.region; tables = c.tables.items; nodes = nodes; inputs = map input_of c.ports.items; outputs = map output_of c.ports.items }
+
+pub loaded_from : (known : Option FileMap) (how : How) (text : List ℕ) (c : Config) (nodes : List Question) → IsConfigOf text c → AreLoaded known c.env (kept_nodes how c) nodes → IsLoadedFrom known how text (plan_of c nodes)
+loaded_from known how text c nodes is all =
+    let s : Setup = is.setup in
+    let moved : AreLoaded known (environment_of s) (kept_nodes how c) nodes = subst (λ (e : Environment). AreLoaded known e (kept_nodes how c) nodes) is.config.env all in
+    record {
+      top = is.top;
+      setup = s;
+      toml = is.toml;
+      reads = is.reads;
+      fits = is.config.fits;
+      plan = record {
+        region = is.config.region;
+        env = is.config.env;
+        tables = is.config.tables;
+        nodes = subst (λ (ns : List Node). AreLoaded known (environment_of s) ns nodes) (same_nodes how s c is.config) moved;
+        inputs = port_inputs s c is.config;
+        outputs = port_outputs s c is.config;
+      };
+    }
+
+pub bad_node : (known : Option FileMap) (how : How) (text : List ℕ) (c : Config) (e : PipeError) → IsConfigOf text c → (e ≡ Memory) ⊎ FailsAtFirst known c.env (kept_nodes how c) e → IsUnloaded known how text e
+bad_node known how text c e is h =
+    elim h [
+      | inl memory ↦ inl memory
+      | inr fails ↦
+          let s : Setup = is.setup in
+          let moved : FailsAtFirst known (environment_of s) (kept_nodes how c) e = subst (λ (x : Environment). FailsAtFirst known x (kept_nodes how c) e) is.config.env fails in
+          inr (inr (record {
+            top = is.top;
+            setup = s;
+            toml = is.toml;
+            reads = is.reads;
+            fits = is.config.fits;
+            tables = c.tables.items;
+            filled = is.config.tables;
+            fails = subst (λ (ns : List Node). FailsAtFirst known (environment_of s) ns e) (same_nodes how s c is.config) moved;
+          }))
+    ]

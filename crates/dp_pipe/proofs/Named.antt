@@ -1,0 +1,39 @@
+-- The nodes that names stand for.
+use Rattle.std.proofs.Common.{◌≡◌, ℕ, ◌+◌, ◌<◌, List, length, map, get_or, Some, refl, ap, ◌∙◌, arith, zero-add}
+use Rattle.std.specs.Prelude.{slice_get, option_map}
+use Rattle.std.proofs.lemmas.Option.{slice_get-map, slice_get_read}
+use Rattle.std.proofs.lemmas.List.{length-map}
+use Rattle.dp_model.specs.declared.env.Entry.TheVariants.{Port, Ring}
+use Rattle.dp_pipe.specs.declared.names.NodeNames.{NodeNames}
+use Rattle.dp_pipe.specs.declared.names.PortNames.{PortNames}
+use Rattle.dp_pipe.specs.declared.nodes.How.{How}
+use Rattle.dp_pipe.specs.Setup.{NodeFiles}
+use Rattle.dp_pipe.specs.Views.{node_names}
+use Rattle.dp_pipe.specs.Nodes.{node_of, numbered, nodes_of}
+use Rattle.dp_pipe.proofs.Places.{in_front, behind, numbered_at, length-numbered}
+
+-- the files at a place of a list of names
+named_at : {X : Type 0} (files_of : X → NodeFiles) (xs : List X) (i : ℕ) (x : X) → i < length xs → x ≡ get_or xs i x → slice_get (map files_of xs) i ≡ Some (files_of x)
+named_at files_of xs i x lt is =
+    let got : slice_get xs i ≡ Some x = slice_get_read xs (length xs) i x refl lt is in
+    slice_get-map files_of xs i ∙ ap (option_map files_of) got
+
+pub port_at : (how : How) (ports : List PortNames) (rings : List NodeNames) (place : ℕ) (port : PortNames) → place < length ports → port ≡ get_or ports place port
+    → slice_get (nodes_of how (map (λ p. node_names p.files) ports) (map node_names rings)) place ≡ Some (node_of how (Port place) (node_names port.files))
+port_at how ports rings place port lt is =
+    let files : List NodeFiles = map (λ p. node_names p.files) ports in
+    let at : slice_get files place ≡ Some (node_names port.files) = named_at (λ p. node_names p.files) ports place port lt is in
+    in_front (numbered how Port 0 files) (numbered how Ring 0 (map node_names rings)) place (node_of how (Port place) (node_names port.files))
+    (numbered_at how Port 0 files place (node_names port.files) at ∙ ap (λ n. Some (node_of how (Port n) (node_names port.files))) (zero-add place))
+
+pub ring_at : (how : How) (ports : List PortNames) (rings : List NodeNames) (place ring : ℕ) (names : NodeNames) → place ≡ length ports + ring → ring < length rings → names ≡ get_or rings ring names
+    → slice_get (nodes_of how (map (λ p. node_names p.files) ports) (map node_names rings)) place ≡ Some (node_of how (Ring ring) (node_names names))
+ring_at how ports rings place ring names e lt is =
+    let files : List NodeFiles = map (λ p. node_names p.files) ports in
+    let at : slice_get (map node_names rings) ring ≡ Some (node_names names) = named_at node_names rings ring names lt is in
+    let many : length (numbered how Port 0 files) ≡ length ports = length-numbered how Port 0 files ∙ length-map ports (λ p. node_names p.files) in
+    let there : place ≡ length (numbered how Port 0 files) + ring = omega arith in
+    ap (slice_get (nodes_of how files (map node_names rings))) there
+    ∙ behind (numbered how Port 0 files) (numbered how Ring 0 (map node_names rings)) ring
+    ∙ numbered_at how Ring 0 (map node_names rings) ring (node_names names) at
+    ∙ ap (λ n. Some (node_of how (Ring n) (node_names names))) (zero-add ring)

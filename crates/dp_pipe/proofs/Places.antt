@@ -1,0 +1,86 @@
+-- Elements of lists by their places.
+use Rattle.std.proofs.Common.{◌≡◌, ℕ, zero, suc, ◌+◌, ◌<◌, List, [], ◌∷◌, ◌++◌, length, take, drop, Some, refl, ap, sym, ◌∙◌, arith, add-one, add-zero, zero-add, subst}
+use Rattle.std.specs.Prelude.{slice_get}
+use Rattle.std.specs.List.{AllZip}
+use Rattle.dp_model.specs.declared.env.Entry.{Entry}
+use Rattle.dp_pipe.specs.Setup.{NodeFiles}
+use Rattle.dp_pipe.specs.declared.nodes.How.{How}
+use Rattle.dp_pipe.specs.Nodes.{Node, numbered, node_of}
+
+-- ---- one element more
+
+taken_next : {A : Type 0} (xs : List A) (k : ℕ) (x : A) → slice_get xs k ≡ Some x → take (suc k) xs ≡ take k xs ++ x ∷ []
+taken_next [] k x e = absurd cc
+taken_next (y ∷ ys) zero x e = let same : y ≡ x = cc in ap (λ z. z ∷ []) same
+taken_next (y ∷ ys) (suc k) x e = ap (λ zs. y ∷ zs) (taken_next ys k x e)
+
+pub taken_more : {A : Type 0} (xs : List A) (k : ℕ) (x : A) → slice_get xs k ≡ Some x → take (k + 1) xs ≡ take k xs ++ x ∷ []
+taken_more xs k x e = rw add-one (taken_next xs k x e)
+
+-- the list, parted round an element
+pub parted : {A : Type 0} (xs : List A) (k : ℕ) (x : A) → slice_get xs k ≡ Some x → xs ≡ take k xs ++ x ∷ drop (suc k) xs
+parted [] k x e = absurd cc
+parted (y ∷ ys) zero x e = let same : y ≡ x = cc in ap (λ z. z ∷ ys) same
+parted (y ∷ ys) (suc k) x e = ap (λ zs. y ∷ zs) (parted ys k x e)
+
+pub zipped_more : {A B : Type 0} (R : A → B → Type 0) (xs : List A) (ys : List B) (x : A) (y : B) → AllZip R xs ys → R x y → AllZip R (xs ++ x ∷ []) (ys ++ y ∷ [])
+zipped_more R [] [] x y all r = (r, tt)
+zipped_more R [] (b ∷ ys) x y all r = absurd all
+zipped_more R (a ∷ xs) [] x y all r = absurd all
+zipped_more R (a ∷ xs) (b ∷ ys) x y all r = (all.0, zipped_more R xs ys x y all.1 r)
+
+-- ---- lists one behind the other
+
+pub in_front : {A : Type 0} (xs ys : List A) (k : ℕ) (x : A) → slice_get xs k ≡ Some x → slice_get (xs ++ ys) k ≡ Some x
+in_front [] ys k x e = absurd cc
+in_front (z ∷ zs) ys zero x e = e
+in_front (z ∷ zs) ys (suc k) x e = in_front zs ys k x e
+
+pub behind : {A : Type 0} (xs ys : List A) (k : ℕ) → slice_get (xs ++ ys) (length xs + k) ≡ slice_get ys k
+behind [] ys k = rw zero-add refl
+behind (x ∷ xs) ys k =
+    let next : length (x ∷ xs) + k ≡ suc (length xs + k) = omega arith in
+    ap (slice_get (x ∷ (xs ++ ys))) next ∙ behind xs ys k
+
+-- ---- numbered nodes
+
+pub length-numbered : (how : How) (kind : ℕ → Entry) (k : ℕ) (files : List NodeFiles) → length (numbered how kind k files) ≡ length files
+length-numbered how kind k [] = refl
+length-numbered how kind k (f ∷ files) = ap suc (length-numbered how kind (k + 1) files)
+
+pub numbered_at : (how : How) (kind : ℕ → Entry) (k : ℕ) (files : List NodeFiles) (i : ℕ) (f : NodeFiles) → slice_get files i ≡ Some f → slice_get (numbered how kind k files) i ≡ Some (node_of how (kind (k + i)) f)
+numbered_at how kind k [] i f e = absurd cc
+numbered_at how kind k (g ∷ files) zero f e =
+    let same : g ≡ f = cc in rw (add-zero) (ap (λ h. Some (node_of how (kind k) h)) same)
+numbered_at how kind k (g ∷ files) (suc i) f e =
+    let next : (k + 1) + i ≡ k + suc i = omega arith in
+    numbered_at how kind (k + 1) files i f e ∙ ap (λ n. Some (node_of how (kind n) f)) next
+
+pub front_of : {A : Type 0} (xs ys : List A) (k : ℕ) → k < length xs → slice_get (xs ++ ys) k ≡ slice_get xs k
+front_of [] ys k lt = absurd (omega arith)
+front_of (x ∷ xs) ys zero lt = refl
+front_of (x ∷ xs) ys (suc k) lt = front_of xs ys k (omega arith)
+
+pub numbered_entry : (how : How) (kind : ℕ → Entry) (k : ℕ) (files : List NodeFiles) (i : ℕ) (node : Node) → slice_get (numbered how kind k files) i ≡ Some node → node.entry ≡ kind (k + i)
+numbered_entry how kind k [] i node e = absurd cc
+numbered_entry how kind k (g ∷ files) zero node e =
+    let same : node_of how (kind k) g ≡ node = cc in rw add-zero (sym (ap (λ (n : Node). n.entry) same))
+numbered_entry how kind k (g ∷ files) (suc i) node e =
+    let next : (k + 1) + i ≡ k + suc i = omega arith in
+    numbered_entry how kind (k + 1) files i node e ∙ ap kind next
+
+-- ---- lists that fit, place by place
+
+pub zipped_length : {A B : Type 0} (R : A → B → Type 0) (xs : List A) (ys : List B) → AllZip R xs ys → length ys ≡ length xs
+zipped_length R [] [] all = refl
+zipped_length R [] (y ∷ ys) all = absurd all
+zipped_length R (x ∷ xs) [] all = absurd all
+zipped_length R (x ∷ xs) (y ∷ ys) all = ap suc (zipped_length R xs ys all.1)
+
+pub zipped_at : {A B : Type 0} (R : A → B → Type 0) (xs : List A) (ys : List B) (k : ℕ) (y : B) → AllZip R xs ys → slice_get ys k ≡ Some y → (x : A) × (slice_get xs k ≡ Some x) × R x y
+zipped_at R [] [] k y all e = absurd cc
+zipped_at R [] (z ∷ ys) k y all e = absurd all
+zipped_at R (x ∷ xs) [] k y all e = absurd all
+zipped_at R (x ∷ xs) (z ∷ ys) zero y all e =
+    let same : z ≡ y = cc in (x, refl, subst (R x) same all.0)
+zipped_at R (x ∷ xs) (z ∷ ys) (suc k) y all e = zipped_at R xs ys k y all.1 e

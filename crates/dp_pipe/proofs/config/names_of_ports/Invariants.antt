@@ -1,0 +1,7 @@
+use Rattle.std.proofs.Common.{◌≡◌, take, map}
+use Rattle.dp_pipe.specs.Config.{names_of_port}
+use Rattle.dp_pipe.specs.Views.{port_says, port_names}
+use Rattle.dp_pipe.proofs.config.names_of_ports.Given as goal
+
+abbrev pub invariant-loop-port : goal.invariant-loop-port
+invariant-loop-port l = map port_names l.names.items ≡ map (λ p. names_of_port (port_says p)) (take l.port-index l.ports)

@@ -1,0 +1,7 @@
+use Rattle.std.proofs.Common.{map, sym}
+use Rattle.toml.specs.View.{view}
+use Rattle.dp_pipe.proofs.Elements.{listed_items}
+use Rattle.dp_pipe.proofs.keys.elements_of.Goals as goal
+
+pub returns-in-Some : goal.returns-in-Some
+returns-in-Some c = rw (c.as_slice.ensures.value, ← c.in-Some.ensures) (sym (listed_items (map view c.in-Some.elements.now.items)))

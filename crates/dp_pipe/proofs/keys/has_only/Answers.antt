@@ -1,0 +1,6 @@
+use Rattle.std.proofs.Common.{◌∙◌}
+use Rattle.dp_pipe.proofs.Elements.{all_keys}
+use Rattle.dp_pipe.proofs.keys.has_only.Goals as goal
+
+pub returns : goal.returns
+returns c = c.are_among.ensures ∙ all_keys c.args.keys.now c.args.table.now.entries

@@ -1,0 +1,42 @@
+-- The configuration, and its nodes or the first that is not loaded.
+use Rattle.std.proofs.Common.{◌≡◌, ◌≤◌, length, sym, subst, arith}
+use Rattle.std.proofs.lemmas.Result.{err_from_is_err_and}
+use Rattle.dp_pipe.specs.Pipelines.{Plan}
+use Rattle.dp_pipe.specs.Loads.{IsLoadedFrom}
+use Rattle.dp_pipe.proofs.Loaded.{few, ports_of, rings_of, tables_of, fit_nodes, loaded_from, bad_node}
+use Rattle.dp_pipe.proofs.loading.load.Goals as goal
+
+pub load_nodes-requires-clause-few_ports : goal.load_nodes-requires-clause-few_ports
+load_nodes-requires-clause-few_ports g c =
+    let same : length c.in_ok-config.config.ports.items ≡ length c.in_ok-config.config.env.ports = ports_of c.in_ok-config.ensures.ok.setup c.in_ok-config.config c.in_ok-config.ensures.ok.config in
+    let most : length c.in_ok-config.config.env.ports ≤ 8 = (few c.in_ok-config.config.env c.within_limits.ensures).0 in
+    rw c.deref.ensures.value (omega (arith, same, most))
+
+pub load_nodes-requires-clause-few_rings : goal.load_nodes-requires-clause-few_rings
+load_nodes-requires-clause-few_rings g c =
+    let same : length c.in_ok-config.config.rings.items ≡ length c.in_ok-config.config.env.rings = rings_of c.in_ok-config.ensures.ok.setup c.in_ok-config.config c.in_ok-config.ensures.ok.config in
+    let most : length c.in_ok-config.config.env.rings ≤ 8 = (few c.in_ok-config.config.env c.within_limits.ensures).1 in
+    rw c.deref-2.ensures.value (omega (arith, same, most))
+
+pub returns-in_err-nodes-clause-fails : goal.returns-in_err-nodes-clause-fails
+returns-in_err-nodes-clause-fails g c =
+    let fails = rw (c.deref.ensures.value, c.deref-2.ensures.value) at c.in_err-nodes.ensures.fails in
+    let p = err_from_is_err_and c.from_residual-in_err-nodes.result c.from_residual-in_err-nodes.ensures.1 in
+    rw (p.1, p.2) (bad_node (g.F.Files.known c.args.files.now) c.args.how c.args.text.now c.in_ok-config.config c.in_err-nodes.field-0.0 c.in_ok-config.ensures.ok fails)
+
+pub new-requires-clause-nodes : goal.new-requires-clause-nodes
+new-requires-clause-nodes g c =
+    let loaded = rw (c.deref.ensures.value, c.deref-2.ensures.value) at c.in_ok-nodes.ensures.loaded in
+    fit_nodes (g.F.Files.known c.args.files.now) c.args.how c.args.text.now c.in_ok-config.config c.in_ok-nodes.nodes.items c.in_ok-config.ensures.ok loaded
+
+pub new-requires-clause-tables : goal.new-requires-clause-tables
+new-requires-clause-tables g c = tables_of c.in_ok-config.ensures.ok.setup c.in_ok-config.config c.in_ok-config.ensures.ok.config
+
+pub new-requires-clause-ports : goal.new-requires-clause-ports
+new-requires-clause-ports g c = ports_of c.in_ok-config.ensures.ok.setup c.in_ok-config.config c.in_ok-config.ensures.ok.config
+
+pub returns-clause-loaded : goal.returns-clause-loaded
+returns-clause-loaded g c =
+    let loaded = rw (c.deref.ensures.value, c.deref-2.ensures.value) at c.in_ok-nodes.ensures.loaded in
+    subst (λ (p : Plan). IsLoadedFrom (g.F.Files.known c.args.files.now) c.args.how c.args.text.now p) (sym c.new.ensures)
+    (loaded_from (g.F.Files.known c.args.files.now) c.args.how c.args.text.now c.in_ok-config.config c.in_ok-nodes.nodes.items c.in_ok-config.ensures.ok loaded)

@@ -1,0 +1,127 @@
+-- The configuration of a pipeline file, and why there is none.
+use Rattle.std.specs.Prelude.{◌≡◌, ℕ, min, List, [], ◌∷◌, length, map, take, slice_get, Option, Some, None, Ok, Err}
+use Rattle.std.specs.Str.{IsUtf8}
+use Rattle.toml.specs.Data.{Members}
+use Rattle.toml.specs.Parse.{parse_document}
+use Rattle.dp_lpm.specs.Routes.{RouteTable}
+use Rattle.dp_model.specs.Environments.{Environment, fault_of}
+use Rattle.dp_pipe.specs.declared.config.Config.{Config}
+use Rattle.dp_pipe.specs.declared.error.PipeError.{PipeError}
+use Rattle.dp_pipe.specs.declared.error.PipeError.TheVariants.{Memory, NotToml, BadKey, BadEnv, BadTable}
+use Rattle.dp_pipe.specs.declared.error.RouteError.{RouteError}
+use Rattle.dp_pipe.specs.Routes.{TakesAll, IsFirstRefused}
+use Rattle.dp_pipe.specs.Setup.{Setup, TableSays, PortSays, NodeFiles, setup_in}
+use Rattle.dp_pipe.specs.Views.{node_names, port_names}
+
+-- the bytes are a TOML text, and this is its table
+abbrev pub IsTable : List ℕ → Members → Type 0
+IsTable text top = IsUtf8 text × (parse_document text ≡ Some top)
+
+-- the bytes are no TOML text
+abbrev pub IsNotToml : List ℕ → Type 0
+IsNotToml text = IsUtf8 text → parse_document text ≡ None
+
+-- the environment that a file asks for
+abbrev pub environment_of : Setup → Environment
+environment_of s = record { pools = s.pools; tables = min (length s.tables) 255; rings = map (λ r. r.spec) s.rings; ports = map (λ p. p.spec) s.ports }
+
+-- the names of a port: those of its node, its input and its output
+abbrev pub names_of_port : PortSays → NodeFiles × List ℕ × List ℕ
+names_of_port p = (p.files, p.input, p.output)
+
+-- a table without routes
+abbrev pub empty_of : TableSays → RouteTable
+empty_of t = record { routes = []; max_rules = t.rules; groups = t.groups }
+
+-- the table holds the routes of its list, added one after the other
+abbrev pub Holds : TableSays → RouteTable → Type 0
+Holds t table = TakesAll (empty_of t) table t.routes
+
+-- each table holds the routes of its list
+abbrev pub HoldAll : List TableSays → List RouteTable → Type 0
+HoldAll [] [] = Unit {0}
+HoldAll (t ∷ ts) (table ∷ tables) = Holds t table × HoldAll ts tables
+HoldAll _ _ = ⊥
+
+-- the route is the first of the table at this place that is refused
+abbrev pub IsRouteFault : Option TableSays → ℕ → RouteError → Type 0
+IsRouteFault None route cause = ⊥
+IsRouteFault (Some t) route cause = IsFirstRefused (empty_of t) t.routes route cause
+
+-- the tables before that of the place hold their routes, and this is its first route that is refused
+pub record IsTableFault (ts : List TableSays) (place route : ℕ) (cause : RouteError) : Type 0 where
+  pub filled : List RouteTable
+  pub before : HoldAll (take place ts) filled
+  pub here : IsRouteFault (slice_get ts place) route cause
+
+-- what a configuration is
+pub record IsConfig (s : Setup) (c : Config) : Type 0 where
+  pub region : c.region ≡ s.region
+  pub fits : fault_of (environment_of s) ≡ None
+  pub env : c.env ≡ environment_of s
+  pub tables : HoldAll s.tables c.tables.items
+  pub ports : map port_names c.ports.items ≡ map names_of_port s.ports
+  pub rings : map node_names c.rings.items ≡ map (λ r. r.files) s.rings
+
+-- why there is no configuration of what a file says
+abbrev pub IsSetupFault : Setup → PipeError → Type 0
+IsSetupFault s Memory = Unit {0}
+IsSetupFault s (BadEnv cause) = fault_of (environment_of s) ≡ Some cause
+IsSetupFault s (BadTable table route cause) = (fault_of (environment_of s) ≡ None) × IsTableFault s.tables table route cause
+IsSetupFault s _ = ⊥
+
+-- the text is a file with this configuration
+pub record IsConfigOf (text : List ℕ) (c : Config) : Type 0 where
+  pub top : Members
+  pub setup : Setup
+  pub toml : IsTable text top
+  pub reads : setup_in top ≡ Ok setup
+  pub config : IsConfig setup c
+
+-- there is a table of the text, and this holds of what it says
+pub record Says (text : List ℕ) (P : Setup → Type 0) : Type 0 where
+  pub top : Members
+  pub setup : Setup
+  pub toml : IsTable text top
+  pub reads : setup_in top ≡ Ok setup
+  pub holds : P setup
+
+-- why there is no configuration of a text
+abbrev pub IsFaultOf : List ℕ → PipeError → Type 0
+IsFaultOf text Memory = Unit {0}
+IsFaultOf text NotToml = IsNotToml text
+IsFaultOf text (BadKey kind place) = (top : Members) × IsTable text top × (setup_in top ≡ Err (kind, place))
+IsFaultOf text (BadEnv cause) = Says text (λ s. IsSetupFault s (BadEnv cause))
+IsFaultOf text (BadTable table route cause) = Says text (λ s. IsSetupFault s (BadTable table route cause))
+IsFaultOf text _ = ⊥
+
+-- ---- the parts of the above that single calls answer
+
+-- why there is no table of a text
+abbrev pub IsTextFault : List ℕ → PipeError → Type 0
+IsTextFault text Memory = Unit {0}
+IsTextFault text NotToml = IsNotToml text
+IsTextFault text _ = ⊥
+
+-- there is such an environment, and this is it
+pub record IsEnv (s : Setup) (e : Environment) : Type 0 where
+  pub fits : fault_of (environment_of s) ≡ None
+  pub same : e ≡ environment_of s
+
+-- why there is no such environment
+abbrev pub IsEnvFault : Setup → PipeError → Type 0
+IsEnvFault s Memory = Unit {0}
+IsEnvFault s (BadEnv cause) = fault_of (environment_of s) ≡ Some cause
+IsEnvFault s _ = ⊥
+
+-- why the table at a place does not hold its routes
+abbrev pub IsFillFault : ℕ → TableSays → PipeError → Type 0
+IsFillFault place t Memory = Unit {0}
+IsFillFault place t (BadTable table route cause) = (table ≡ place) × IsFirstRefused (empty_of t) t.routes route cause
+IsFillFault place t _ = ⊥
+
+-- why the tables do not all hold their routes
+abbrev pub IsTablesFault : List TableSays → PipeError → Type 0
+IsTablesFault ts Memory = Unit {0}
+IsTablesFault ts (BadTable table route cause) = IsTableFault ts table route cause
+IsTablesFault ts _ = ⊥

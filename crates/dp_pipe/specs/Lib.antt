@@ -1,0 +1,11 @@
+pub mod Causes
+pub mod Config
+pub mod Files
+pub mod Keys
+pub mod Listed
+pub mod Loads
+pub mod Nodes
+pub mod Pipelines
+pub mod Routes
+pub mod Setup
+pub mod Views

@@ -1,0 +1,156 @@
+-- What is loaded for the nodes of a pipeline.
+use Rattle.std.specs.Prelude.{◌≡◌, ℕ, ◌+◌, ◌⊎◌, List, [], ◌∷◌, ◌++◌, length, Option, Some, None, Result, Ok, Err}
+use Rattle.std.specs.List.{AllZip}
+use Rattle.dp_model.specs.declared.row.Row.{Row}
+use Rattle.dp_model.specs.declared.instr.Instr.{Instr}
+use Rattle.dp_model.specs.declared.env.Entry.{Entry}
+use Rattle.dp_model.specs.declared.env.Entry.TheVariants.{Port, Ring}
+use Rattle.dp_model.specs.Environments.{Environment}
+use Rattle.dp_model.specs.Rules.{Question}
+use Rattle.dp_lang.specs.declared.cause.Fault.{Fault as AsmFault}
+use Rattle.dp_lang.specs.Reading.{Reads, program_of}
+use Rattle.dp_cert.specs.declared.error.Fault.{Fault as CertFault}
+use Rattle.dp_cert.specs.Spelling.{CertText}
+use Rattle.dp_cert.specs.Reading.{cert_of}
+use Rattle.dp_check.specs.Faults.{question, IsChecked, IsRefusedWith}
+use Rattle.dp_infer.specs.Inference.{Certifies, SaysMost}
+use Rattle.dp_pipe.specs.declared.nodes.How.{How}
+use Rattle.dp_pipe.specs.declared.nodes.How.TheVariants.{Given, Inferred}
+use Rattle.dp_pipe.specs.declared.error.PipeError.{PipeError}
+use Rattle.dp_pipe.specs.declared.error.PipeError.TheVariants as errors
+use Rattle.dp_pipe.specs.Setup.{NodeFiles}
+use Rattle.dp_pipe.specs.Files.{FileMap, IsFile, IsNoFile}
+
+-- ---- which files are read
+
+-- a node: where it gets its packets from, its program file, and its certificate file where one is read
+pub record Node : Type 0 where
+  pub entry : Entry
+  pub program : List ℕ
+  pub cert : Option (List ℕ)
+
+-- the certificate file that is read, where one is
+abbrev pub cert_read : How → NodeFiles → Option (List ℕ)
+cert_read Given files = files.cert
+cert_read Inferred files = None
+
+abbrev pub node_of : How → Entry → NodeFiles → Node
+node_of how entry files = record { entry = entry; program = files.node; cert = cert_read how files }
+
+-- nodes with entries of one kind, from this place on
+abbrev pub numbered : How → (ℕ → Entry) → ℕ → List NodeFiles → List Node
+numbered how kind k [] = []
+numbered how kind k (files ∷ more) = node_of how (kind k) files ∷ numbered how kind (k + 1) more
+
+-- one for each port, and then one for each ring
+abbrev pub nodes_of : How → List NodeFiles → List NodeFiles → List Node
+nodes_of how ports rings = numbered how Port 0 ports ++ numbered how Ring 0 rings
+
+-- ---- what a node has
+
+-- the file reads as the program
+pub record IsProgramOf (known : Option FileMap) (name : List ℕ) (program : List Instr) : Type 0 where
+  pub text : List ℕ
+  pub file : IsFile known name text
+  pub reads : Reads text program
+
+-- the file spells the rows, so many
+pub record IsCertOf (known : Option FileMap) (name : List ℕ) (n : ℕ) (rows : List Row) : Type 0 where
+  pub text : List ℕ
+  pub file : IsFile known name text
+  pub spelled : CertText n text rows
+
+-- the certificate is the one that its file spells, where one is read, and else no other says more
+abbrev pub HasCert : Option FileMap → Option (List ℕ) → Question → Type 0
+HasCert known None q = SaysMost q.program q.env q.entry q.rows
+HasCert known (Some name) q = IsCertOf known name (length q.program) q.rows
+
+-- a program is loaded: it is checked for the environment and the node's entry, and comes from the node's files
+pub record IsLoaded (known : Option FileMap) (env : Environment) (node : Node) (q : Question) : Type 0 where
+  pub env_is : q.env ≡ env
+  pub entry_is : q.entry ≡ node.entry
+  pub checked : IsChecked q
+  pub program : IsProgramOf known node.program q.program
+  pub cert : HasCert known node.cert q
+
+-- ---- why a node has none
+
+-- a file of the node is not there, or is too long
+pub record IsMissing (known : Option FileMap) (entry : Entry) (name : List ℕ) (e : PipeError) : Type 0 where
+  pub is : e ≡ errors.File entry
+  pub file : IsNoFile known name
+
+-- the program's text has this first fault
+pub record IsBadProgram (known : Option FileMap) (entry : Entry) (name : List ℕ) (e : PipeError) : Type 0 where
+  pub text : List ℕ
+  pub fault : AsmFault
+  pub is : e ≡ errors.Asm entry fault
+  pub file : IsFile known name text
+  pub fails : program_of text ≡ Err fault
+
+-- the certificate's text has this first fault
+pub record IsBadCert (known : Option FileMap) (entry : Entry) (name : List ℕ) (n : ℕ) (e : PipeError) : Type 0 where
+  pub text : List ℕ
+  pub fault : CertFault
+  pub is : e ≡ errors.BadCert entry fault
+  pub file : IsFile known name text
+  pub fails : cert_of n text ≡ Err fault
+
+-- the program is refused with the certificate that the file spells
+pub record IsRefusedBy (known : Option FileMap) (env : Environment) (entry : Entry) (name : List ℕ) (program : List Instr) (e : PipeError) : Type 0 where
+  pub rows : List Row
+  pub label : ℕ
+  pub rule : ℕ
+  pub is : e ≡ errors.Refused entry label rule
+  pub cert : IsCertOf known name (length program) rows
+  pub refused : IsRefusedWith (question program rows env entry) label rule
+
+-- the program is accepted with no certificate
+pub record IsWithoutCert (env : Environment) (entry : Entry) (program : List Instr) (e : PipeError) : Type 0 where
+  pub label : ℕ
+  pub rule : ℕ
+  pub is : e ≡ errors.NotInferred entry label rule
+  pub none : (rows : List Row) → ¬ Certifies program env entry rows
+
+-- why there is no program: its file, or its text
+abbrev pub HasNoProgram : Option FileMap → Entry → List ℕ → PipeError → Type 0
+HasNoProgram known entry name e = IsMissing known entry name e ⊎ IsBadProgram known entry name e
+
+-- why there is no certificate for a program, or none that it is accepted with
+abbrev pub HasNoCert : Option FileMap → Environment → Entry → Option (List ℕ) → List Instr → PipeError → Type 0
+HasNoCert known env entry None program e = IsWithoutCert env entry program e
+HasNoCert known env entry (Some name) program e =
+    IsMissing known entry name e ⊎ IsBadCert known entry name (length program) e ⊎ IsRefusedBy known env entry name program e
+
+-- why a node is not loaded: first what is wrong with its program, then what is wrong with its certificate; but memory can run
+-- out at any time
+abbrev pub Fails : Option FileMap → Environment → Node → PipeError → Type 0
+Fails known env node e =
+    (e ≡ errors.Memory) ⊎ HasNoProgram known node.entry node.program e
+    ⊎ ((program : List Instr) × IsProgramOf known node.program program × HasNoCert known env node.entry node.cert program e)
+
+-- what the loading of a node answers
+abbrev pub NodeAnswers : Option FileMap → Environment → Node → Result Question PipeError → Type 0
+NodeAnswers known env node (Ok q) = IsLoaded known env node q
+NodeAnswers known env node (Err e) = Fails known env node e
+
+-- ---- all nodes
+
+-- all nodes are loaded, each in its place
+abbrev pub AreLoaded : Option FileMap → Environment → List Node → List Question → Type 0
+AreLoaded known env nodes loaded = AllZip (IsLoaded known env) nodes loaded
+
+-- the first node that is not loaded
+pub record FailsAtFirst (known : Option FileMap) (env : Environment) (nodes : List Node) (e : PipeError) : Type 0 where
+  pub before : List Node
+  pub node : Node
+  pub after : List Node
+  pub all : nodes ≡ before ++ node ∷ after
+  pub loaded : List Question
+  pub earlier : AreLoaded known env before loaded
+  pub fails : Fails known env node e
+
+-- what the loading of all nodes answers
+abbrev pub NodesAnswer : Option FileMap → Environment → List Node → Result (List Question) PipeError → Type 0
+NodesAnswer known env nodes (Ok loaded) = AreLoaded known env nodes loaded
+NodesAnswer known env nodes (Err e) = (e ≡ errors.Memory) ⊎ FailsAtFirst known env nodes e

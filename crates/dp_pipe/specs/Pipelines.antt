@@ -1,0 +1,46 @@
+-- What a pipeline is.
+use Rattle.std.specs.Prelude.{◌≡◌, ℕ, ◌+◌, ◌<◌, List, length, Some, slice_get, string_bytes}
+use Rattle.dp_model.specs.declared.env.Entry.{Entry}
+use Rattle.dp_model.specs.declared.env.Entry.TheVariants.{Port, Ring}
+use Rattle.dp_model.specs.Environments.{Environment}
+use Rattle.dp_model.specs.Rules.{Question}
+use Rattle.dp_lpm.specs.Routes.{RouteTable}
+use Rattle.dp_check.specs.Faults.{IsChecked}
+use Rattle.dp_pipe.specs.declared.names.PortNames.{PortNames}
+
+-- what a contract sees of a pipeline: the region in bytes, a checked program for each port and then for each ring, and the
+-- captures that each port reads and writes
+pub record Plan : Type 0 where
+  pub env : Environment
+  pub region : ℕ
+  pub tables : List RouteTable
+  pub nodes : List Question
+  pub inputs : List (List ℕ)
+  pub outputs : List (List ℕ)
+
+-- checked with this environment and entry
+pub record IsFor (env : Environment) (entry : Entry) (q : Question) : Type 0 where
+  pub env_is : q.env ≡ env
+  pub entry_is : q.entry ≡ entry
+  pub checked : IsChecked q
+
+-- one node for each port and then one for each ring, each checked with the environment and its entry
+pub record HasNodes (env : Environment) (nodes : List Question) : Type 0 where
+  pub count : length nodes ≡ length env.ports + length env.rings
+  pub ports : (port : ℕ) (q : Question) → port < length env.ports → slice_get nodes port ≡ Some q → IsFor env (Port port) q
+  pub rings : (ring : ℕ) (q : Question) → slice_get nodes (length env.ports + ring) ≡ Some q → IsFor env (Ring ring) q
+
+-- the parts of a pipeline fit together
+pub record IsPlan (p : Plan) : Type 0 where
+  pub nodes : HasNodes p.env p.nodes
+  pub tables : length p.tables ≡ p.env.tables
+  pub inputs : length p.inputs ≡ length p.env.ports
+  pub outputs : length p.outputs ≡ length p.env.ports
+
+-- the captures that ports read
+abbrev pub input_of : PortNames → List ℕ
+input_of port = string_bytes port.input
+
+-- the captures that ports write
+abbrev pub output_of : PortNames → List ℕ
+output_of port = string_bytes port.output

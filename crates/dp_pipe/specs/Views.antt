@@ -1,0 +1,60 @@
+-- What the values of the reader stand for.
+use Rattle.std.specs.Prelude.{◌≡◌, ℕ, List, map, option_map, string_bytes, Result, Ok, Err}
+use Rattle.toml.specs.Data.{Data}
+use Rattle.toml.specs.View as toml
+use Rattle.toml.specs.declared.value.Value.{Value}
+use Rattle.dp_pipe.specs.declared.error.PipeError.{PipeError}
+use Rattle.dp_pipe.specs.declared.error.PipeError.TheVariants.{Memory, BadKey}
+use Rattle.dp_pipe.specs.declared.names.NodeNames.{NodeNames}
+use Rattle.dp_pipe.specs.declared.names.PortNames.{PortNames}
+use Rattle.dp_pipe.specs.declared.says.NodeFiles.{NodeFiles}
+use Rattle.dp_pipe.specs.declared.says.TableSays.{TableSays}
+use Rattle.dp_pipe.specs.declared.says.RingSays.{RingSays}
+use Rattle.dp_pipe.specs.declared.says.PortSays.{PortSays}
+use Rattle.dp_pipe.specs.declared.says.Setup.{Setup}
+use Rattle.dp_pipe.specs.Setup as spec
+
+-- the data of values
+abbrev pub values : List Value → List Data
+values vs = map toml.view vs
+
+-- what lent names and parts stand for
+abbrev pub node_files : NodeFiles → spec.NodeFiles
+node_files f = record { node = f.node.now; cert = option_map (λ text. text.now) f.cert }
+
+abbrev pub table_says : TableSays → spec.TableSays
+table_says t = record { rules = t.rules; groups = t.groups; routes = values t.routes.now }
+
+abbrev pub ring_says : RingSays → spec.RingSays
+ring_says r = record { spec = r.spec; files = node_files r.files }
+
+abbrev pub port_says : PortSays → spec.PortSays
+port_says p = record { spec = p.spec; files = node_files p.files; input = p.input.now; output = p.output.now }
+
+abbrev pub setup : Setup → spec.Setup
+setup s = record {
+  region = s.region;
+  pools = s.pools.items;
+  tables = map table_says s.tables.items;
+  rings = map ring_says s.rings.items;
+  ports = map port_says s.ports.items;
+}
+
+-- names that are kept
+abbrev pub node_names : NodeNames → spec.NodeFiles
+node_names n = record { node = string_bytes n.node; cert = option_map string_bytes n.cert }
+
+-- the names of a port: those of its node, its input and its output
+abbrev pub port_names : PortNames → spec.NodeFiles × List ℕ × List ℕ
+port_names n = (node_names n.files, string_bytes n.input, string_bytes n.output)
+
+-- the error is what reading gives, unless memory ran out
+abbrev pub FailsAs : {Y : Type 0} → PipeError → Result Y spec.Bad → Type 0
+FailsAs Memory read = Unit {0}
+FailsAs (BadKey kind place) read = read ≡ Err (kind, place)
+FailsAs _ read = ⊥
+
+-- what was returned is what reading gives, as `view` sees it, unless memory ran out
+abbrev pub Gives : {X Y : Type 0} → (X → Y) → Result X PipeError → Result Y spec.Bad → Type 0
+Gives view (Ok x) read = read ≡ Ok (view x)
+Gives view (Err e) read = FailsAs e read

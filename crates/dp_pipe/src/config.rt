@@ -1,0 +1,178 @@
+//! From the text of a pipeline file to its configuration.
+
+ghost use Rattle.std.specs.Prelude.{◌≡◌, map, option_map, string_bytes, IfOk, IfErr};
+ghost use Rattle.toml.specs.View.{table_view};
+ghost use Rattle.dp_pipe.specs.Config as spec;
+ghost use Rattle.dp_pipe.specs.Views as view;
+
+use crate::error::PipeError;
+use crate::names::{NodeNames, PortNames};
+use crate::reader::setup_in;
+use crate::routes::add_routes;
+use crate::says::{NodeFiles, PortSays, RingSays, Setup, TableSays};
+use dp_lpm::Lpm;
+use dp_model::{Env, PortSpec, RingSpec};
+use std::alloc::{AllocError, Global};
+use toml::Table;
+
+/// What a pipeline file says.
+#[derive(Drop)]
+pub struct Config {
+    /// The size of the region in bytes: a multiple of 64 from 4,096 to 1,073,741,824.
+    pub region: u32,
+    /// What its programs are written for.
+    pub env: Env,
+    /// The tables, each with its routes.
+    pub tables: Vec<Lpm>,
+    /// The files of each port.
+    pub ports: Vec<PortNames>,
+    /// The files of each ring's node.
+    pub rings: Vec<NodeNames>,
+}
+
+/// The table of a text.
+fn table_of(alloc: Global, text: &[u8]) -> Result<Table, PipeError>
+    ensures ok { IfOk result (λ t. spec.IsTable text.now (table_view t)) }
+    ensures err { IfErr result (spec.IsTextFault text.now) }
+{
+    match toml::table_from_slice(alloc, text) {
+        Ok(table) => Ok(table),
+        Err(error) if error.is_memory() => Err(PipeError::Memory),
+        Err(_) => Err(PipeError::NotToml),
+    }
+}
+
+fn specs_of_rings(alloc: Global, rings: &[RingSays<'_>]) -> Result<Vec<RingSpec>, AllocError>
+    ensures { IfOk result (λ v. v.items ≡ map (λ r. r.spec) rings.now) }
+{
+    rings.iter().map(|ring| ring.spec).collect(alloc)
+}
+
+fn specs_of_ports(alloc: Global, ports: &[PortSays<'_>]) -> Result<Vec<PortSpec>, AllocError>
+    ensures { IfOk result (λ v. v.items ≡ map (λ p. p.spec) ports.now) }
+{
+    ports.iter().map(|port| port.spec).collect(alloc)
+}
+
+/// The environment that a file asks for; more than 255 tables count as 255.
+fn env_of(alloc: Global, setup: &Setup<'_>) -> Result<Env, PipeError>
+    ensures ok { IfOk result (λ env. spec.IsEnv (view.setup setup.now) env) }
+    ensures err { IfErr result (spec.IsEnvFault (view.setup setup.now)) }
+{
+    let tables = setup.tables.len().min(255) as u8;
+    let rings = specs_of_rings(alloc, &setup.rings)?;
+    let ports = specs_of_ports(alloc, &setup.ports)?;
+    match Env::new(&setup.pools, tables, &rings, &ports) {
+        Ok(env) => Ok(env),
+        Err(cause) => Err(PipeError::BadEnv(cause)),
+    }
+}
+
+fn kept_text(alloc: Global, text: Option<&str>) -> Result<Option<String>, AllocError>
+    ensures { IfOk result (λ kept. option_map string_bytes kept ≡ option_map (λ t. t.now) text.entry) }
+{
+    match text {
+        Some(text) => Ok(Some(String::from_str(alloc, text)?)),
+        None => Ok(None),
+    }
+}
+
+fn kept_files(alloc: Global, files: NodeFiles<'_>) -> Result<NodeNames, AllocError>
+    ensures { IfOk result (λ names. view.node_names names ≡ view.node_files files.entry) }
+{
+    Ok(NodeNames {
+        node: String::from_str(alloc, files.node)?,
+        cert: kept_text(alloc, files.cert)?,
+    })
+}
+
+/// The names of each ring's files.
+fn names_of_rings(alloc: Global, rings: &[RingSays<'_>]) -> Result<Vec<NodeNames>, AllocError>
+    ensures { IfOk result (λ v. map view.node_names v.items ≡ map (λ r. view.node_files r.files) rings.now) }
+{
+    let mut names = Vec::new(alloc);
+    for ring in rings {
+        names.push(kept_files(alloc, ring.files)?)?;
+    }
+    Ok(names)
+}
+
+fn port_names(alloc: Global, port: &PortSays<'_>) -> Result<PortNames, AllocError>
+    ensures { IfOk result (λ names. view.port_names names ≡ spec.names_of_port (view.port_says port.now)) }
+{
+    Ok(PortNames {
+        files: kept_files(alloc, port.files)?,
+        input: String::from_str(alloc, port.input)?,
+        output: String::from_str(alloc, port.output)?,
+    })
+}
+
+/// The names of each port's files.
+fn names_of_ports(alloc: Global, ports: &[PortSays<'_>]) -> Result<Vec<PortNames>, AllocError>
+    ensures { IfOk result (λ v. map view.port_names v.items ≡ map (λ p. spec.names_of_port (view.port_says p)) ports.now) }
+{
+    let mut names = Vec::new(alloc);
+    for port in ports {
+        names.push(port_names(alloc, port)?)?;
+    }
+    Ok(names)
+}
+
+/// The table at a place, with its routes.
+fn filled(alloc: Global, place: usize, says: &TableSays<'_>) -> Result<Lpm, PipeError>
+    ensures ok { IfOk result (λ table. spec.Holds (view.table_says says.now) table) }
+    ensures err { IfErr result (spec.IsFillFault place (view.table_says says.now)) }
+{
+    let mut table = match Lpm::new(alloc, says.rules, says.groups) {
+        Ok(table) => table,
+        Err(_) => return Err(PipeError::Memory),
+    };
+    match add_routes(&mut table, says.routes) {
+        Ok(()) => Ok(table),
+        Err((route, cause)) => Err(PipeError::BadTable {
+            table: place,
+            route,
+            cause,
+        }),
+    }
+}
+
+/// The tables, each with its routes.
+fn tables_of(alloc: Global, tables: &[TableSays<'_>]) -> Result<Vec<Lpm>, PipeError>
+    ensures ok { IfOk result (λ v. spec.HoldAll (map view.table_says tables.now) v.items) }
+    ensures err { IfErr result (spec.IsTablesFault (map view.table_says tables.now)) }
+{
+    let mut filled_tables = Vec::new(alloc);
+    for (place, says) in tables.iter().enumerate() {
+        filled_tables.push(filled(alloc, place, says)?)?;
+    }
+    Ok(filled_tables)
+}
+
+/// The configuration of what a file says.
+fn config_of(alloc: Global, setup: &Setup<'_>) -> Result<Config, PipeError>
+    ensures ok { IfOk result (spec.IsConfig (view.setup setup.now)) }
+    ensures err { IfErr result (spec.IsSetupFault (view.setup setup.now)) }
+{
+    let env = env_of(alloc, setup)?;
+    Ok(Config {
+        region: setup.region,
+        env,
+        tables: tables_of(alloc, &setup.tables)?,
+        ports: names_of_ports(alloc, &setup.ports)?,
+        rings: names_of_rings(alloc, &setup.rings)?,
+    })
+}
+
+/// The configuration of a text.
+///
+/// # Errors
+/// `Memory` where the memory is refused, else the first of `NotToml`, `BadKey`, `BadEnv` and `BadTable` that there is.
+pub(crate) fn configure(alloc: Global, text: &[u8]) -> Result<Config, PipeError>
+    ensures ok { IfOk result (spec.IsConfigOf text.now) }
+    ensures err { IfErr result (spec.IsFaultOf text.now) }
+{
+    let top = table_of(alloc, text)?;
+    let setup = setup_in(alloc, &top)?;
+    config_of(alloc, &setup)
+}

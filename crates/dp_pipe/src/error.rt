@@ -1,0 +1,114 @@
+//! Why a pipeline is not loaded.
+
+ghost use Rattle.std.specs.Prelude.{◌≡◌};
+
+use dp_lpm::LpmError;
+use dp_model::{Entry, EnvError};
+use std::alloc::{AllocError, AllocFailed};
+use thiserror::Error;
+
+/// Why a file is not fetched.
+#[derive(Clone, Copy, Debug, PartialEq, Eq, Error)]
+pub enum FetchFault {
+    /// There is no such file, or it cannot be read.
+    #[error("the file cannot be fetched")]
+    Missing,
+    /// There is not enough memory.
+    #[error("out of memory")]
+    Memory,
+}
+
+/// A part of a pipeline file: its top, or one of the tables of an array.
+#[derive(Clone, Copy, Debug, PartialEq, Eq)]
+pub enum Part {
+    /// Beside and above all tables of arrays.
+    Top,
+    /// A `[[pool]]`.
+    Pool,
+    /// A `[[table]]`.
+    Table,
+    /// A `[[ring]]`.
+    Ring,
+    /// A `[[port]]`.
+    Port,
+}
+
+/// Why a route is not taken into its table.
+#[derive(Clone, Copy, Debug, PartialEq, Eq)]
+pub enum RouteError {
+    /// The table refuses it.
+    Refused(LpmError),
+    /// It is not written `A.B.C.D/DEPTH HOP`.
+    Unreadable,
+}
+
+/// Why a pipeline is not loaded, in the order in which the causes are looked for. Places count from 0.
+#[derive(Clone, Copy, Debug, PartialEq, Eq)]
+pub enum PipeError {
+    /// There is not enough memory.
+    Memory,
+    /// The text is no TOML.
+    NotToml,
+    /// A key is missing, unknown, of the wrong type or out of its range in a part.
+    BadKey {
+        /// The kind of part.
+        part: Part,
+        /// Which of its kind, 0 at the top.
+        place: usize,
+    },
+    /// There is no such environment.
+    BadEnv(EnvError),
+    /// A route is not taken into its table.
+    BadTable {
+        /// The table.
+        table: usize,
+        /// The route in it.
+        route: usize,
+        /// Why.
+        cause: RouteError,
+    },
+    /// A node's program or certificate file cannot be fetched, or is longer than 1,048,576 bytes.
+    File(Entry),
+    /// A node's program text has a fault.
+    Asm(Entry, dp_lang::Fault),
+    /// A node's certificate text has a fault.
+    BadCert(Entry, dp_cert::Fault),
+    /// No certificate is inferred for a node's program.
+    NotInferred {
+        /// The node.
+        node: Entry,
+        /// The label, from 0.
+        label: u16,
+        /// The number of the rule, 1 to 12.
+        rule: u8,
+    },
+    /// A node's program is refused with its certificate.
+    Refused {
+        /// The node.
+        node: Entry,
+        /// The least label that fails, from 0.
+        label: u16,
+        /// The number of its first rule that fails, 1 to 12.
+        rule: u8,
+    },
+}
+
+impl From<AllocError> for PipeError {
+    ghost use Rattle.dp_pipe.specs.declared.error.PipeError.TheVariants.{Memory};
+
+    ghost from_gives = { λ _ e. e ≡ Memory };
+
+    fn from(_e: AllocError) -> PipeError {
+        PipeError::Memory
+    }
+}
+
+impl<T: Drop> From<AllocFailed<T>> for PipeError {
+    ghost use Rattle.dp_pipe.specs.declared.error.PipeError.TheVariants.{Memory};
+
+    ghost from_gives = { λ _ e. e ≡ Memory };
+
+    fn from(_e: AllocFailed<T>) -> PipeError {
+        PipeError::Memory
+    }
+}

@@ -1,0 +1,27 @@
+//! Pipeline files: what they say, and the node programs that they name.
+#![tactic(auto)]
+
+mod config;
+mod error;
+mod files;
+mod keys;
+mod listed;
+mod loading;
+mod names;
+mod nodes;
+mod parts;
+mod pipeline;
+mod reader;
+mod routes;
+mod says;
+mod text;
+
+pub use config::Config;
+pub use error::{FetchFault, Part, PipeError, RouteError};
+pub use files::Files;
+pub use listed::{Listed, NamedBytes};
+pub use loading::load;
+pub use names::{NodeNames, PortNames};
+pub use nodes::How;
+pub use pipeline::Pipeline;
+pub use text::NodeName;

@@ -1,0 +1,40 @@
+//! From a pipeline file to a pipeline.
+
+ghost use Rattle.std.specs.Prelude.{◌≡◌, IfErr, IfOk};
+ghost use Rattle.dp_pipe.specs.Loads.{IsLoadedFrom, IsUnloaded};
+
+use crate::config::{Config, configure};
+use crate::error::PipeError;
+use crate::files::Files;
+use crate::nodes::{How, load_nodes};
+use crate::pipeline::Pipeline;
+use std::alloc::Global;
+
+/// The pipeline of a text, with the programs that it names. The text's format stands in docs/formats.md.
+///
+/// # Errors
+///
+/// The first cause of [`PipeError`]: 1 to 4 by the text alone, then node by node, ports first, those of its program and its
+/// certificate. [`PipeError::Memory`] may come at any time. Files were fetched then, and nothing else has changed.
+pub fn load<F: Files>(
+    alloc: Global,
+    text: &[u8],
+    files: &mut F,
+    how: How,
+) -> Result<Pipeline, PipeError>
+    ensures loaded { IfOk result (IsLoadedFrom (F.known files.old) how text.now) }
+    ensures fails { IfErr result (IsUnloaded (F.known files.old) how text.now) }
+    ensures stays { F.known files.new ≡ F.known files.old }
+{
+    let config = configure(alloc, text)?;
+    config.env.within_limits();
+    let nodes = load_nodes(alloc, files, how, &config.env, &config.ports, &config.rings)?;
+    let Config {
+        region,
+        env,
+        tables,
+        ports,
+        rings: _,
+    } = config;
+    Ok(Pipeline::new(region, env, tables, nodes, ports))
+}

@@ -1,0 +1,21 @@
+//! The names of files that a pipeline file gives.
+
+/// The files of a node: its program, and its certificate where one is named.
+#[derive(Debug, Drop)]
+pub struct NodeNames {
+    /// The program file.
+    pub node: String,
+    /// The certificate file.
+    pub cert: Option<String>,
+}
+
+/// The files of a port: those of its node, and its captures.
+#[derive(Debug, Drop)]
+pub struct PortNames {
+    /// Its node's files.
+    pub files: NodeNames,
+    /// The capture that it reads.
+    pub input: String,
+    /// The capture that it writes.
+    pub output: String,
+}

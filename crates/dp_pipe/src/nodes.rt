@@ -1,0 +1,235 @@
+//! Node programs and their certificates, from files.
+
+ghost use Rattle.std.specs.Prelude.{◌≡◌, ◌≤◌, ◌<◌, ◌+◌, ◌⊎◌, length, map, Some, IfOk, IfErr, IsTrue, slice_get, string_bytes};
+ghost use Rattle.std.specs.Option.{option_map};
+ghost use Rattle.dp_pipe.specs.Files.{IsFile};
+ghost use Rattle.dp_pipe.specs.declared.nodes.How.{How};
+ghost use Rattle.dp_pipe.specs.Views.{node_names};
+ghost use Rattle.dp_pipe.specs.Nodes.{cert_read, node_of, nodes_of, IsProgramOf, IsCertOf, IsLoaded, IsMissing, HasNoProgram, IsBadCert, IsRefusedBy, IsWithoutCert, HasNoCert, Fails, AreLoaded, FailsAtFirst};
+ghost use Rattle.dp_check.specs.Faults.{question, IsChecked};
+ghost use Rattle.dp_infer.specs.Inference.{SaysMost};
+
+use crate::error::{FetchFault, PipeError};
+use crate::files::Files;
+use crate::names::{NodeNames, PortNames};
+use dp_cert::{Cert, CertError, decode};
+use dp_check::{Checked, check};
+use dp_infer::{InferError, infer};
+use dp_lang::{AsmError, Program, assemble};
+use dp_model::{Entry, Env};
+use std::alloc::Global;
+
+/// Where certificates come from.
+#[derive(Clone, Copy, Debug, PartialEq, Eq)]
+pub enum How {
+    /// Those that are named are read, and where none is named one is inferred.
+    Given,
+    /// All are inferred.
+    Inferred,
+}
+
+/// The most bytes of a program or certificate file.
+const LONGEST: usize = 1_048_576;
+
+// The bytes of a file of a node.
+fn bytes_of<F: Files>(
+    alloc: Global,
+    files: &mut F,
+    node: Entry,
+    name: &str,
+) -> Result<Vec<u8>, PipeError>
+    ensures found { IfOk result (λ bytes. IsFile (F.known files.old) name.now bytes.items) }
+    ensures missing { IfErr result (λ e. (e ≡ PipeError.Memory) ⊎ IsMissing (F.known files.old) node name.now e) }
+    ensures stays { F.known files.new ≡ F.known files.old }
+{
+    match files.fetch(alloc, name) {
+        Ok(bytes) => {
+            if bytes.len() <= LONGEST {
+                Ok(bytes)
+            } else {
+                Err(PipeError::File(node))
+            }
+        }
+        Err(FetchFault::Missing) => Err(PipeError::File(node)),
+        Err(FetchFault::Memory) => Err(PipeError::Memory),
+    }
+}
+
+// The program that a file reads as.
+fn program_of<F: Files>(
+    alloc: Global,
+    files: &mut F,
+    node: Entry,
+    name: &str,
+) -> Result<Program, PipeError>
+    ensures read { IfOk result (IsProgramOf (F.known files.old) name.now) }
+    ensures fails { IfErr result (λ e. (e ≡ PipeError.Memory) ⊎ HasNoProgram (F.known files.old) node name.now e) }
+    ensures stays { F.known files.new ≡ F.known files.old }
+{
+    let text = bytes_of(alloc, files, node, name)?;
+    match assemble(alloc, text.as_slice()) {
+        Ok(program) => Ok(program),
+        Err(AsmError::Memory) => Err(PipeError::Memory),
+        Err(AsmError::Fault(fault)) => Err(PipeError::Asm(node, fault)),
+    }
+}
+
+// The certificate that a file spells, with so many rows.
+fn cert_of<F: Files>(
+    alloc: Global,
+    files: &mut F,
+    node: Entry,
+    name: &str,
+    n: usize,
+) -> Result<Cert, PipeError>
+    ensures read { IfOk result (IsCertOf (F.known files.old) name.now n) }
+    ensures fails { IfErr result (λ e. (e ≡ PipeError.Memory) ⊎ IsMissing (F.known files.old) node name.now e
+        ⊎ IsBadCert (F.known files.old) node name.now n e) }
+    ensures stays { F.known files.new ≡ F.known files.old }
+{
+    let text = bytes_of(alloc, files, node, name)?;
+    match decode(alloc, text.as_slice(), n) {
+        Ok(cert) => Ok(cert),
+        Err(CertError::Memory) => Err(PipeError::Memory),
+        Err(CertError::Fault(fault)) => Err(PipeError::BadCert(node, fault)),
+    }
+}
+
+// The program, checked with the certificate that a file spells.
+fn given<F: Files>(
+    alloc: Global,
+    files: &mut F,
+    env: &Env,
+    node: Entry,
+    program: Program,
+    name: &str,
+) -> Result<Checked, PipeError>
+    ensures env { IfOk result (λ q. q.env ≡ env.now) }
+    ensures entry { IfOk result (λ q. q.entry ≡ node) }
+    ensures program { IfOk result (λ q. q.program ≡ program) }
+    ensures checked { IfOk result IsChecked }
+    ensures cert { IfOk result (λ q. IsCertOf (F.known files.old) name.now (length program) q.rows) }
+    ensures fails { IfErr result (λ e. (e ≡ PipeError.Memory) ⊎ IsMissing (F.known files.old) node name.now e
+        ⊎ IsBadCert (F.known files.old) node name.now (length program) e
+        ⊎ IsRefusedBy (F.known files.old) env.now node name.now program e) }
+    ensures stays { F.known files.new ≡ F.known files.old }
+{
+    let cert = cert_of(alloc, files, node, name, program.instrs().len())?;
+    match check(program, cert, env, node) {
+        Ok(checked) => Ok(checked),
+        Err(refused) => Err(PipeError::Refused {
+            node,
+            label: refused.label,
+            rule: refused.rule,
+        }),
+    }
+}
+
+// The program, checked with a certificate that is inferred. What is inferred is never refused.
+fn inferred(alloc: Global, env: &Env, node: Entry, program: Program) -> Result<Checked, PipeError>
+    ensures env { IfOk result (λ q. q.env ≡ env.now) }
+    ensures entry { IfOk result (λ q. q.entry ≡ node) }
+    ensures program { IfOk result (λ q. q.program ≡ program) }
+    ensures checked { IfOk result IsChecked }
+    ensures most { IfOk result (λ q. SaysMost program env.now node q.rows) }
+    ensures fails { IfErr result (λ e. (e ≡ PipeError.Memory) ⊎ IsWithoutCert env.now node program e) }
+{
+    let cert = match infer(alloc, &program, env, node) {
+        Ok(cert) => cert,
+        Err(InferError::Memory) => return Err(PipeError::Memory),
+        Err(InferError::NoCert { label, rule }) => {
+            return Err(PipeError::NotInferred { node, label, rule });
+        }
+    };
+    match check(program, cert, env, node) {
+        Ok(checked) => Ok(checked),
+        Err(_) => unreachable!(),
+    }
+}
+
+// The certificate file that is read, where one is.
+fn cert_read(how: How, names: &NodeNames) -> Option<&str>
+    ensures { option_map (λ name. name.now) result ≡ cert_read how (node_names names.now) }
+{
+    match how {
+        How::Inferred => None,
+        How::Given => match &names.cert {
+            Some(name) => Some(name.as_str()),
+            None => None,
+        },
+    }
+}
+
+/// A node's program, checked with its certificate.
+///
+/// # Errors
+///
+/// In this order: [`PipeError::File`] where the program file cannot be fetched or is longer than 1,048,576 bytes, and
+/// [`PipeError::Asm`]; where a certificate is named, and not all are inferred, [`PipeError::File`] for its file,
+/// [`PipeError::BadCert`] and [`PipeError::Refused`]; else [`PipeError::NotInferred`], exactly where the program is accepted
+/// with no certificate. [`PipeError::Memory`] may come at any time.
+pub(crate) fn load_node<F: Files>(
+    alloc: Global,
+    files: &mut F,
+    how: How,
+    env: &Env,
+    node: Entry,
+    names: &NodeNames,
+) -> Result<Checked, PipeError>
+    ensures loaded { IfOk result (IsLoaded (F.known files.old) env.now (node_of how node (node_names names.now))) }
+    ensures fails { IfErr result (Fails (F.known files.old) env.now (node_of how node (node_names names.now))) }
+    ensures stays { F.known files.new ≡ F.known files.old }
+{
+    let program = program_of(alloc, files, node, names.node.as_str())?;
+    match cert_read(how, names) {
+        Some(name) => given(alloc, files, env, node, program, name),
+        None => inferred(alloc, env, node, program),
+    }
+}
+
+// The entry and the files of a node, by its place: ports come first, and then rings.
+fn node_at<'a>(
+    ports: &'a [PortNames],
+    rings: &'a [NodeNames],
+    place: usize,
+) -> (Entry, &'a NodeNames)
+    requires few_ports { length ports.now ≤ 8 }
+    requires few_rings { length rings.now ≤ 8 }
+    requires place { place < length ports.now + length rings.now }
+    ensures { (how : How) → slice_get (nodes_of how (map (λ port. node_names port.files) ports.now) (map node_names rings.now)) place ≡ Some (node_of how result.0 (node_names result.1.now)) }
+{
+    if place < ports.len() {
+        (Entry::Port(place as u8), &ports[place].files)
+    } else {
+        let ring = place - ports.len();
+        (Entry::Ring(ring as u8), &rings[ring])
+    }
+}
+
+/// The programs of all nodes: one for each port, and then one for each ring.
+///
+/// # Errors
+///
+/// That of the first node which is not loaded, or [`PipeError::Memory`].
+pub(crate) fn load_nodes<F: Files>(
+    alloc: Global,
+    files: &mut F,
+    how: How,
+    env: &Env,
+    ports: &[PortNames],
+    rings: &[NodeNames],
+) -> Result<Vec<Checked>, PipeError>
+    requires few_ports { length ports.now ≤ 8 }
+    requires few_rings { length rings.now ≤ 8 }
+    ensures loaded { IfOk result (λ nodes. AreLoaded (F.known files.old) env.now (nodes_of how (map (λ port. node_names port.files) ports.now) (map node_names rings.now)) nodes.items) }
+    ensures fails { IfErr result (λ e. (e ≡ PipeError.Memory) ⊎ FailsAtFirst (F.known files.old) env.now (nodes_of how (map (λ port. node_names port.files) ports.now) (map node_names rings.now)) e) }
+    ensures stays { F.known files.new ≡ F.known files.old }
+{
+    let mut nodes = Vec::new(alloc);
+    for place in 0..ports.len() + rings.len() {
+        let (node, names) = node_at(ports, rings, place);
+        let checked = load_node(alloc, files, how, env, node, names)?;
+        nodes.push(checked)?;
+    }
+    Ok(nodes)
+}

@@ -1,0 +1,198 @@
+//! What one table of each kind says.
+
+ghost use Rattle.std.specs.Prelude.{◌≡◌, ◌≤◌, option_and_then, option_map, IfSome};
+ghost use Rattle.toml.specs.Data.{as_table, get_member};
+ghost use Rattle.toml.specs.View.{view as data_of, table_view};
+ghost use Rattle.dp_pipe.specs.Setup as spec;
+ghost use Rattle.dp_pipe.specs.Views as view;
+
+use crate::keys::{
+    elements_of, has_only, is_tables, is_texts, number_at, text_at, text_if_any, value_at,
+};
+use crate::says::{NodeFiles, PortSays, RingSays, TableSays};
+use dp_model::{Fact, PoolSpec, PortSpec, RingSpec};
+use toml::{Table, Value};
+
+/// What a `[[pool]]` says.
+fn pool_in(table: &Table) -> Option<PoolSpec>
+    ensures { result ≡ spec.pool_in (table_view table.now) }
+{
+    if !has_only(table, &["count", "cache", "room"]) {
+        return None;
+    }
+    Some(PoolSpec {
+        count: number_at(table, "count", u32::MAX)?,
+        cache: number_at(table, "cache", u32::MAX)?,
+        room: number_at(table, "room", u32::MAX)?,
+    })
+}
+
+/// The most rules of a table of routes, 1 to 65,536.
+fn rules_in(table: &Table) -> Option<u32>
+    ensures number { result ≡ spec.rules_in (table_view table.now) }
+    ensures most { IfSome result (λ n. n ≤ 65536) }
+{
+    let rules = number_at(table, "rules", 65_536)?;
+    if rules >= 1 { Some(rules) } else { None }
+}
+
+/// The elements of the array of texts at a key.
+fn texts_at<'a>(table: &'a Table, key: &str) -> Option<&'a [Value]>
+    ensures { option_map (λ texts. view.values texts.now) result ≡ spec.texts_at key.now (table_view table.now) }
+{
+    let value = value_at(table, key)?;
+    if is_texts(value) {
+        Some(elements_of(value))
+    } else {
+        None
+    }
+}
+
+/// What a `[[table]]` says.
+fn table_in(table: &Table) -> Option<TableSays<'_>>
+    ensures { option_map view.table_says result ≡ spec.table_in (table_view table.now) }
+{
+    if !has_only(table, &["rules", "groups", "routes"]) {
+        return None;
+    }
+    Some(TableSays {
+        rules: rules_in(table)?,
+        groups: number_at(table, "groups", 256)?,
+        routes: texts_at(table, "routes")?,
+    })
+}
+
+/// The file names of a node.
+fn node_files_in(table: &Table) -> Option<NodeFiles<'_>>
+    ensures { option_map view.node_files result ≡ spec.node_files_in (table_view table.now) }
+{
+    Some(NodeFiles {
+        node: text_at(table, "node")?,
+        cert: text_if_any(table, "cert")?,
+    })
+}
+
+/// What each packet of a ring meets.
+fn fact_in(table: &Table) -> Option<Fact>
+    ensures { result ≡ spec.fact_in (table_view table.now) }
+{
+    Some(Fact::Held {
+        share: number_at(table, "share", 255)? as u8,
+        head: number_at(table, "head", 65_535)? as u16,
+        tail: number_at(table, "tail", 65_535)? as u16,
+        first: number_at(table, "first", 65_535)? as u16,
+        last: number_at(table, "last", 65_535)? as u16,
+        segs: number_at(table, "segs", 255)? as u8,
+    })
+}
+
+fn ring_spec_in(table: &Table) -> Option<RingSpec>
+    ensures { result ≡ spec.ring_spec_in (table_view table.now) }
+{
+    Some(RingSpec {
+        count: number_at(table, "count", u32::MAX)?,
+        fact: fact_in(table)?,
+    })
+}
+
+/// What a `[[ring]]` says.
+fn ring_in(table: &Table) -> Option<RingSays<'_>>
+    ensures { option_map view.ring_says result ≡ spec.ring_in (table_view table.now) }
+{
+    let keys = [
+        "count", "share", "head", "tail", "first", "last", "segs", "node", "cert",
+    ];
+    if !has_only(table, &keys) {
+        return None;
+    }
+    Some(RingSays {
+        spec: ring_spec_in(table)?,
+        files: node_files_in(table)?,
+    })
+}
+
+fn port_spec_in(table: &Table) -> Option<PortSpec>
+    ensures { result ≡ spec.port_spec_in (table_view table.now) }
+{
+    Some(PortSpec {
+        pool: number_at(table, "pool", u32::MAX)?,
+        segs: number_at(table, "segs", 255)?,
+        queue: number_at(table, "queue", u32::MAX)?,
+    })
+}
+
+/// What a `[[port]]` says.
+fn port_in(table: &Table) -> Option<PortSays<'_>>
+    ensures { option_map view.port_says result ≡ spec.port_in (table_view table.now) }
+{
+    let keys = ["pool", "segs", "queue", "node", "cert", "in", "out"];
+    if !has_only(table, &keys) {
+        return None;
+    }
+    Some(PortSays {
+        spec: port_spec_in(table)?,
+        files: node_files_in(table)?,
+        input: text_at(table, "in")?,
+        output: text_at(table, "out")?,
+    })
+}
+
+/// Whether an array of tables stands at a key, or nothing at all.
+fn has_tables(table: &Table, key: &str) -> bool
+    ensures { result ≡ spec.is_tables (get_member key.now (table_view table.now)) }
+{
+    match value_at(table, key) {
+        Some(value) => is_tables(value),
+        None => true,
+    }
+}
+
+/// Whether the top has no other keys, and arrays of tables where it may.
+fn is_top(top: &Table) -> bool
+    ensures { result ≡ spec.is_top (table_view top.now) }
+{
+    has_only(top, &["region", "pool", "table", "ring", "port"])
+        && has_tables(top, "pool")
+        && has_tables(top, "table")
+        && has_tables(top, "ring")
+        && has_tables(top, "port")
+}
+
+/// The region in bytes, if no key at the top is bad.
+pub fn region_in(top: &Table) -> Option<u32>
+    ensures { result ≡ spec.region_in (table_view top.now) }
+{
+    if !is_top(top) {
+        return None;
+    }
+    let region = number_at(top, "region", 0x4000_0000)?;
+    if region >= 4_096 && region % 64 == 0 {
+        Some(region)
+    } else {
+        None
+    }
+}
+
+pub fn pool_of(value: &Value) -> Option<PoolSpec>
+    ensures { result ≡ option_and_then spec.pool_in (as_table (data_of value.now)) }
+{
+    pool_in(value.as_table()?)
+}
+
+pub fn table_of(value: &Value) -> Option<TableSays<'_>>
+    ensures { option_map view.table_says result ≡ option_and_then spec.table_in (as_table (data_of value.now)) }
+{
+    table_in(value.as_table()?)
+}
+
+pub fn ring_of(value: &Value) -> Option<RingSays<'_>>
+    ensures { option_map view.ring_says result ≡ option_and_then spec.ring_in (as_table (data_of value.now)) }
+{
+    ring_in(value.as_table()?)
+}
+
+pub fn port_of(value: &Value) -> Option<PortSays<'_>>
+    ensures { option_map view.port_says result ≡ option_and_then spec.port_in (as_table (data_of value.now)) }
+{
+    port_in(value.as_table()?)
+}

@@ -1,0 +1,114 @@
+//! Pipelines that are ready to run.
+
+ghost use Rattle.std.specs.Prelude.{◌≡◌, ℕ, ◌+◌, ◌<◌, length, map, Some, slice_get};
+ghost use Rattle.dp_model.specs.declared.env.Entry.TheVariants.{Port, Ring};
+ghost use Rattle.dp_pipe.specs.Pipelines.{HasNodes, IsFor, IsPlan, input_of, output_of};
+
+use crate::names::PortNames;
+use dp_check::Checked;
+use dp_lpm::Lpm;
+use dp_model::Env;
+use std::marker::Model;
+
+/// A pipeline: its environment and tables, a checked program for each port and each ring, and the captures of its ports. Only
+/// [`load`](crate::load) makes one.
+#[derive(Drop)]
+pub struct Pipeline {
+    env: Env,
+    region: u32,
+    tables: Vec<Lpm>,
+    nodes: Vec<Checked>,
+    ports: Vec<PortNames>,
+}
+
+impl Model for Pipeline {
+    ghost use Rattle.std.specs.Prelude.{map};
+    ghost use Rattle.dp_pipe.specs.Pipelines.{Plan, IsPlan, input_of, output_of};
+
+    ghost Value = { Plan };
+
+    ghost view = { λ a. record { env = a.env; region = a.region; tables = a.tables.items; nodes = a.nodes.items; inputs = map input_of a.ports.items; outputs = map output_of a.ports.items } };
+
+    ghost invariant = { λ a. IsPlan (record { env = a.env; region = a.region; tables = a.tables.items; nodes = a.nodes.items; inputs = map input_of a.ports.items; outputs = map output_of a.ports.items }) };
+}
+
+impl Pipeline {
+    /// The pipeline of these parts: as many tables as the environment has, a node for each port and then for each ring, each
+    /// checked with the environment and its entry, and the names of each port's captures.
+    pub(crate) fn new(
+        region: u32,
+        env: Env,
+        tables: Vec<Lpm>,
+        nodes: Vec<Checked>,
+        ports: Vec<PortNames>,
+    ) -> Pipeline
+        requires nodes { HasNodes env nodes.items }
+        requires tables { length tables.items ≡ env.tables }
+        requires ports { length ports.items ≡ length env.ports }
+        ensures { result ≡ record { env = env; region = region; tables = tables.items; nodes = nodes.items; inputs = map input_of ports.items; outputs = map output_of ports.items } }
+    {
+        Pipeline {
+            env,
+            region,
+            tables,
+            nodes,
+            ports,
+        }
+    }
+
+    /// The environment that its programs are checked for.
+    pub fn env(&self) -> &Env
+        ensures same { result.now ≡ self.now.env }
+        // The parts fit together.
+        ensures plan { IsPlan self.now }
+    {
+        &self.env
+    }
+
+    /// The size of the region that it runs in, in bytes.
+    pub fn region(&self) -> u32
+        ensures { result ≡ self.now.region }
+    {
+        self.region
+    }
+
+    /// How many ports it has, 1 to 8.
+    pub fn ports(&self) -> usize
+        ensures { result ≡ length self.now.env.ports }
+    {
+        self.env.ports().len()
+    }
+
+    /// How many rings it has, 0 to 8.
+    pub fn rings(&self) -> usize
+        ensures { result ≡ length self.now.env.rings }
+    {
+        self.env.rings().len()
+    }
+
+    /// The checked program of a node: ports come first, and then rings.
+    pub fn node(&self, k: usize) -> &Checked
+        requires { k < length self.now.env.ports + length self.now.env.rings }
+        ensures node { slice_get self.now.nodes k ≡ Some result.now }
+        ensures port { k < length self.now.env.ports → IsFor self.now.env (Port k) result.now }
+        ensures ring { (ring : ℕ) → k ≡ length self.now.env.ports + ring → IsFor self.now.env (Ring ring) result.now }
+    {
+        &self.nodes[k]
+    }
+
+    /// The name of the capture that a port reads.
+    pub fn input(&self, port: usize) -> &str
+        requires { port < length self.now.env.ports }
+        ensures { slice_get self.now.inputs port ≡ Some result.now }
+    {
+        self.ports[port].input.as_str()
+    }
+
+    /// The name of the capture that a port writes.
+    pub fn output(&self, port: usize) -> &str
+        requires { port < length self.now.env.ports }
+        ensures { slice_get self.now.outputs port ≡ Some result.now }
+    {
+        self.ports[port].output.as_str()
+    }
+}

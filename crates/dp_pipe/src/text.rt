@@ -1,0 +1,110 @@
+//! Causes, by their numbers and in words.
+
+ghost use Rattle.std.specs.Prelude.{◌≡◌};
+ghost use Rattle.dp_pipe.specs.Causes.{number_of, number_of_route};
+
+use crate::error::{Part, PipeError, RouteError};
+use dp_model::Entry;
+use std::error::Error;
+use std::fmt;
+
+impl PipeError {
+    /// The number of the cause, 1 to 9, and 0 for memory.
+    pub fn number(self) -> u8
+        ensures { result ≡ number_of self }
+    {
+        match self {
+            PipeError::Memory => 0,
+            PipeError::NotToml => 1,
+            PipeError::BadKey { .. } => 2,
+            PipeError::BadEnv(_) => 3,
+            PipeError::BadTable { .. } => 4,
+            PipeError::File(_) => 5,
+            PipeError::Asm(_, _) => 6,
+            PipeError::BadCert(_, _) => 7,
+            PipeError::NotInferred { .. } => 8,
+            PipeError::Refused { .. } => 9,
+        }
+    }
+}
+
+impl RouteError {
+    /// The number of the cause: that of the table's refusal, and 6 for a route that cannot be read.
+    pub fn number(self) -> u8
+        ensures { result ≡ number_of_route self }
+    {
+        match self {
+            RouteError::Refused(error) => error.number(),
+            RouteError::Unreadable => 6,
+        }
+    }
+}
+
+impl fmt::Display for Part {
+    fn fmt<W: fmt::Write>(&self, f: &mut fmt::Formatter<W>) -> fmt::Result {
+        match self {
+            Part::Top => write!(f, "top"),
+            Part::Pool => write!(f, "pool"),
+            Part::Table => write!(f, "table"),
+            Part::Ring => write!(f, "ring"),
+            Part::Port => write!(f, "port"),
+        }
+    }
+}
+
+/// A node as it is named in texts, such as `port 0` or `ring 3`.
+#[derive(Clone, Copy, Debug, PartialEq, Eq)]
+pub struct NodeName(pub Entry);
+
+impl fmt::Display for NodeName {
+    fn fmt<W: fmt::Write>(&self, f: &mut fmt::Formatter<W>) -> fmt::Result {
+        match self.0 {
+            Entry::Port(place) => write!(f, "port {place}"),
+            Entry::Ring(place) => write!(f, "ring {place}"),
+        }
+    }
+}
+
+/// Causes 1 to 7 as a number, a name, and where and why; 8 and 9 as what became of the node.
+impl fmt::Display for PipeError {
+    fn fmt<W: fmt::Write>(&self, f: &mut fmt::Formatter<W>) -> fmt::Result {
+        match *self {
+            PipeError::Memory => write!(f, "memory"),
+            PipeError::NotToml => write!(f, "1 NotToml"),
+            PipeError::BadKey { part, place } => write!(f, "2 BadKey {part} {place}"),
+            PipeError::BadEnv(error) => write!(f, "3 BadEnv {} {}", error.number(), error.place()),
+            PipeError::BadTable {
+                table,
+                route,
+                cause,
+            } => write!(f, "4 BadTable {table} {route} {}", cause.number()),
+            PipeError::File(node) => write!(f, "5 File {}", NodeName(node)),
+            PipeError::Asm(node, fault) => {
+                write!(
+                    f,
+                    "6 Asm {} line {} cause {}",
+                    NodeName(node),
+                    fault.line,
+                    fault.cause.number()
+                )
+            }
+            PipeError::BadCert(node, fault) => {
+                write!(
+                    f,
+                    "7 BadCert {} line {} cause {}",
+                    NodeName(node),
+                    fault.line,
+                    fault.cause.number()
+                )
+            }
+            PipeError::NotInferred { node, label, rule } => {
+                write!(f, "{} not inferred at {label} by J{rule}", NodeName(node))
+            }
+            PipeError::Refused { node, label, rule } => {
+                write!(f, "{} refused at {label} by J{rule}", NodeName(node))
+            }
+        }
+    }
+}
+
+impl Error for PipeError {}
