@@ -25,3 +25,8 @@ pub use names::{NodeNames, PortNames};
 pub use nodes::How;
 pub use pipeline::Pipeline;
 pub use text::NodeName;
+
+#[cfg(test)]
+mod node_tests;
+#[cfg(test)]
+mod tests;
