@@ -8,8 +8,8 @@ use std::io::Read;
 /// asked again.
 #[derive(Drop)]
 pub struct OfRead<R> {
-    inner: R,
-    health: Health,
+    pub(crate) inner: R,
+    pub(crate) health: Health,
 }
 
 impl<R: Read> OfRead<R> {

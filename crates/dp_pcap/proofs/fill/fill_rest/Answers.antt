@@ -1,0 +1,18 @@
+use Rattle.std.proofs.Common.{◌-◌, length, arith, rules}
+use Rattle.std.proofs.KnownBytes.{Consumes-trans}
+use Rattle.dp_pcap.proofs.Pieces.{take_more-put_mid}
+use Rattle.dp_pcap.proofs.fill.fill_rest.Goals as goal
+
+pub loop-at-preserved : goal.loop-at-preserved
+loop-at-preserved g c =
+    let pulled = c.in_ok-n.ensures in
+    record {
+      within = omega (arith, pulled.bound);
+      bytes = rw (take_more-put_mid c.loop-at.at (length c.loop-at.buf - c.loop-at.at) c.in_ok-n.n c.loop-at.buf c.pull.new.buf c.loop-at.invariant.within pulled.bound)
+          (Consumes-trans _ _ _ _ _ c.loop-at.invariant.bytes pulled.bytes.0);
+      sound = λ h. search rules;
+      untouched = λ e. absurd (omega arith);
+      stays = λ h. search rules;
+      counted = omega (arith, pulled.counted);
+      failures = omega arith;
+    }

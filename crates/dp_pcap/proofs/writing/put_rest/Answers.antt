@@ -1,0 +1,17 @@
+use Rattle.std.proofs.Common.{rules, arith}
+use Rattle.std.proofs.KnownBytes.{Appends-trans}
+use Rattle.dp_pcap.proofs.Pieces.{take_more-rest}
+use Rattle.dp_pcap.proofs.writing.put_rest.Goals as goal
+
+pub loop-at-preserved : goal.loop-at-preserved
+loop-at-preserved g c =
+    let pushed = c.in_ok-at.ensures in
+    record {
+      within = search rules;
+      bytes = rw (take_more-rest c.loop-at.at c.in_ok-at.field-0 c.args.piece.now) (Appends-trans _ _ _ _ _ c.loop-at.invariant.bytes pushed.bytes);
+      sound = λ h. search rules;
+      untouched = λ e. absurd (omega (arith, pushed.some (search rules)));
+      stays = λ h. search rules;
+      counted = omega (arith, pushed.counted, pushed.some (search rules), c.loop-at.invariant.counted);
+      failures = omega arith;
+    }

@@ -1,0 +1,58 @@
+//! A feed made of a buffered reader of std.
+ghost use Rattle.std.specs.Prelude.{◌≡◌};
+
+use crate::{Failed, Feed, OfRead};
+use std::io::{BufRead, BufReader, Read};
+
+/// A buffered reader as a [`Feed`], as [`OfRead`] is. What the buffer holds is copied from there at once.
+#[derive(Drop)]
+pub struct OfBuffered<R> {
+    feed: OfRead<BufReader<R>>,
+}
+
+impl<R: Read> OfBuffered<R> {
+    ghost use Rattle.dp_pcap.specs.Health.{fresh};
+    ghost use Rattle.dp_pcap.specs.OfStd.{buffered_inside, buffered_health};
+
+    /// Takes a reader.
+    pub fn new(inner: BufReader<R>) -> OfBuffered<R>
+        ensures inner { buffered_inside result ≡ inner }
+        ensures health { buffered_health result ≡ fresh }
+    {
+        OfBuffered {
+            feed: OfRead::new(inner),
+        }
+    }
+
+    /// Gives the reader back.
+    pub fn into_inner(self) -> BufReader<R>
+        ensures { result ≡ buffered_inside self }
+    {
+        let OfBuffered { feed } = self;
+        feed.into_inner()
+    }
+}
+
+impl<R: Read> Feed for OfBuffered<R> {
+    ghost use Rattle.std.specs.Io.Buffered.{reader_remaining};
+
+    ghost is_broken = { λ d. d.feed.health.is_broken };
+
+    ghost calls = { λ d. d.feed.health.calls };
+
+    ghost failures = { λ d. d.feed.health.failures };
+
+    ghost remaining = { λ d. reader_remaining R.remaining d.feed.inner };
+
+    #[inline(always)]
+    fn pull(&mut self, buf: &mut [u8]) -> Result<usize, Failed> {
+        let held = self.feed.inner.buffer();
+        if self.feed.health.is_broken() || held.len() < buf.len() {
+            return self.feed.pull(buf);
+        }
+        buf.copy_from_slice(&held[..buf.len()]);
+        self.feed.inner.consume(buf.len());
+        self.feed.health.call();
+        Ok(buf.len())
+    }
+}
