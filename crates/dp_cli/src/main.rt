@@ -15,7 +15,7 @@ use clap::ArgMatches;
 use clap::error::ErrorKind;
 use dp_check::Checked;
 use dp_lang::assemble;
-use dp_pcap::{OfRead, OfWrite};
+use dp_pcap::{OfBuffered, OfWrite};
 use fault::{DONE, FAULT, Fault, USAGE, tell_fault};
 use files::ReadFault;
 use mem::mem_line;
@@ -108,7 +108,7 @@ fn run_files<R: Files + Print, E: io::Write>(
     let Ok(writer) = BufWriter::with_capacity(alloc, BUFFER, target) else {
         return tell_fault(err, Fault::Memory);
     };
-    let mut feed = OfRead::new(reader);
+    let mut feed = OfBuffered::new(reader);
     let mut sink = OfWrite::new(writer);
     let status = one_run(
         alloc,

@@ -239,6 +239,7 @@ impl<P: PacketLayer> Machine<P> {
     }
 
     // Gives up all packets of the transmit list.
+    #[inline(always)]
     pub(crate) fn clear(&mut self)
         ensures cleared { self.new ≡ moved (with_outbox 0 [] self.old.state) self.old }
         ensures list { (packets : List Packet) × (self.old.state.world.outboxes ≡ packets ∷ []) }
