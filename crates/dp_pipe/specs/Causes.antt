@@ -1,6 +1,14 @@
--- The numbers of causes.
-use Rattle.std.specs.Prelude.{ℕ}
+-- The numbers of causes, and their texts.
+use Rattle.std.specs.Prelude.{ℕ, List, ◌++◌, codes}
+use Rattle.std.specs.Fmt.{decimal}
+use Rattle.dp_model.specs.declared.env.Entry.{Entry}
+use Rattle.dp_model.specs.declared.env.Entry.TheVariants as entry
+use Rattle.dp_model.specs.Environments.{number_of_cause, place_of_cause}
+use Rattle.dp_lang.specs.Causes as lang
+use Rattle.dp_cert.specs.Faults as cert
 use Rattle.dp_lpm.specs.Faults as lpm
+use Rattle.dp_pipe.specs.declared.error.Part.{Part}
+use Rattle.dp_pipe.specs.declared.error.Part.TheVariants as part
 use Rattle.dp_pipe.specs.declared.error.PipeError.{PipeError}
 use Rattle.dp_pipe.specs.declared.error.PipeError.TheVariants.{Memory, NotToml, BadKey, BadEnv, BadTable, File, Asm, BadCert, NotInferred, Refused}
 use Rattle.dp_pipe.specs.declared.error.RouteError.{RouteError}
@@ -23,3 +31,31 @@ number_of (Refused _ _ _) = 9
 abbrev pub number_of_route : RouteError → ℕ
 number_of_route (route.Refused error) = lpm.number_of error
 number_of_route route.Unreadable = 6
+
+-- ---- how they are shown
+
+-- a kind of part
+abbrev pub part_text : Part → List ℕ
+part_text part.Top = codes "top"
+part_text part.Pool = codes "pool"
+part_text part.Table = codes "table"
+part_text part.Ring = codes "ring"
+part_text part.Port = codes "port"
+
+-- a node
+abbrev pub node_text : Entry → List ℕ
+node_text (entry.Port place) = codes "port " ++ decimal place
+node_text (entry.Ring place) = codes "ring " ++ decimal place
+
+-- causes 1 to 7 as a number, a name, and where and why; 8 and 9 as what became of the node
+abbrev pub text_of : PipeError → List ℕ
+text_of Memory = codes "memory"
+text_of NotToml = codes "1 NotToml"
+text_of (BadKey kind place) = codes "2 BadKey " ++ (part_text kind ++ (codes " " ++ decimal place))
+text_of (BadEnv error) = codes "3 BadEnv " ++ (decimal (number_of_cause error) ++ (codes " " ++ decimal (place_of_cause error)))
+text_of (BadTable table route cause) = codes "4 BadTable " ++ (decimal table ++ (codes " " ++ (decimal route ++ (codes " " ++ decimal (number_of_route cause)))))
+text_of (File node) = codes "5 File " ++ node_text node
+text_of (Asm node fault) = codes "6 Asm " ++ (node_text node ++ (codes " line " ++ (decimal fault.line ++ (codes " cause " ++ decimal (lang.number_of fault.cause)))))
+text_of (BadCert node fault) = codes "7 BadCert " ++ (node_text node ++ (codes " line " ++ (decimal fault.line ++ (codes " cause " ++ decimal (cert.number_of fault.cause)))))
+text_of (NotInferred node label rule) = node_text node ++ (codes " not inferred at " ++ (decimal label ++ (codes " by J" ++ decimal rule)))
+text_of (Refused node label rule) = node_text node ++ (codes " refused at " ++ (decimal label ++ (codes " by J" ++ decimal rule)))

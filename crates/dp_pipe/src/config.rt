@@ -17,7 +17,7 @@ use toml::Table;
 
 /// What a pipeline file says.
 #[derive(Drop)]
-pub struct Config {
+pub(crate) struct Config {
     /// The size of the region in bytes: a multiple of 64 from 4,096 to 1,073,741,824.
     pub region: u32,
     /// What its programs are written for.

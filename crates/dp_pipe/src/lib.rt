@@ -16,12 +16,10 @@ mod routes;
 mod says;
 mod text;
 
-pub use config::Config;
 pub use error::{FetchFault, Part, PipeError, RouteError};
 pub use files::Files;
 pub use listed::{Listed, NamedBytes};
 pub use loading::load;
-pub use names::{NodeNames, PortNames};
 pub use nodes::How;
 pub use pipeline::Pipeline;
 pub use text::NodeName;

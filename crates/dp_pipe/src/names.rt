@@ -2,7 +2,7 @@
 
 /// The files of a node: its program, and its certificate where one is named.
 #[derive(Debug, Drop)]
-pub struct NodeNames {
+pub(crate) struct NodeNames {
     /// The program file.
     pub node: String,
     /// The certificate file.
@@ -11,7 +11,7 @@ pub struct NodeNames {
 
 /// The files of a port: those of its node, and its captures.
 #[derive(Debug, Drop)]
-pub struct PortNames {
+pub(crate) struct PortNames {
     /// Its node's files.
     pub files: NodeNames,
     /// The capture that it reads.

@@ -1,7 +1,8 @@
 //! What one table of each kind says.
 
-ghost use Rattle.std.specs.Prelude.{◌≡◌, ◌≤◌, option_and_then, option_map, IfSome};
-ghost use Rattle.toml.specs.Data.{as_table, get_member};
+ghost use Rattle.std.specs.Prelude.{◌≡◌, ◌≤◌, Option, option_and_then, option_map, IfSome};
+ghost use Rattle.dp_model.specs.declared.env.PoolSpec.{PoolSpec};
+ghost use Rattle.toml.specs.Data.{Members, as_table, get_member};
 ghost use Rattle.toml.specs.View.{view as data_of, table_view};
 ghost use Rattle.dp_pipe.specs.Setup as spec;
 ghost use Rattle.dp_pipe.specs.Views as view;
@@ -173,26 +174,64 @@ pub fn region_in(top: &Table) -> Option<u32>
     }
 }
 
-pub fn pool_of(value: &Value) -> Option<PoolSpec>
-    ensures { result ≡ option_and_then spec.pool_in (as_table (data_of value.now)) }
-{
-    pool_in(value.as_table()?)
+/// A part of which a file has an array: a pool, a table, a ring or a port.
+pub trait ArrayPart<'a>: Sized {
+    // What such a part says by the definitions, and how that is read from its table.
+    ghost Said: { Type 0 };
+
+    ghost said: { Self → Said };
+
+    ghost read: { Members → Option Said };
+
+    /// What an element of the array says, or nothing where it has a bad key.
+    fn in_element(element: &'a Value) -> Option<Self>
+        ensures { option_map said result ≡ option_and_then read (as_table (data_of element.now)) };
 }
 
-pub fn table_of(value: &Value) -> Option<TableSays<'_>>
-    ensures { option_map view.table_says result ≡ option_and_then spec.table_in (as_table (data_of value.now)) }
-{
-    table_in(value.as_table()?)
+impl<'a> ArrayPart<'a> for PoolSpec {
+    ghost Said = { PoolSpec };
+
+    ghost said = { λ pool. pool };
+
+    ghost read = { spec.pool_in };
+
+    fn in_element(element: &'a Value) -> Option<PoolSpec> {
+        pool_in(element.as_table()?)
+    }
 }
 
-pub fn ring_of(value: &Value) -> Option<RingSays<'_>>
-    ensures { option_map view.ring_says result ≡ option_and_then spec.ring_in (as_table (data_of value.now)) }
-{
-    ring_in(value.as_table()?)
+impl<'a> ArrayPart<'a> for TableSays<'a> {
+    ghost Said = { spec.TableSays };
+
+    ghost said = { view.table_says };
+
+    ghost read = { spec.table_in };
+
+    fn in_element(element: &'a Value) -> Option<TableSays<'a>> {
+        table_in(element.as_table()?)
+    }
 }
 
-pub fn port_of(value: &Value) -> Option<PortSays<'_>>
-    ensures { option_map view.port_says result ≡ option_and_then spec.port_in (as_table (data_of value.now)) }
-{
-    port_in(value.as_table()?)
+impl<'a> ArrayPart<'a> for RingSays<'a> {
+    ghost Said = { spec.RingSays };
+
+    ghost said = { view.ring_says };
+
+    ghost read = { spec.ring_in };
+
+    fn in_element(element: &'a Value) -> Option<RingSays<'a>> {
+        ring_in(element.as_table()?)
+    }
+}
+
+impl<'a> ArrayPart<'a> for PortSays<'a> {
+    ghost Said = { spec.PortSays };
+
+    ghost said = { view.port_says };
+
+    ghost read = { spec.port_in };
+
+    fn in_element(element: &'a Value) -> Option<PortSays<'a>> {
+        port_in(element.as_table()?)
+    }
 }

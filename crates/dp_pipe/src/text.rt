@@ -41,6 +41,11 @@ impl RouteError {
 }
 
 impl fmt::Display for Part {
+    ghost use Rattle.std.specs.Prelude.{Some};
+    ghost use Rattle.dp_pipe.specs.Causes.{part_text};
+
+    ghost output = { λ part. Some (part_text part) };
+
     fn fmt<W: fmt::Write>(&self, f: &mut fmt::Formatter<W>) -> fmt::Result {
         match self {
             Part::Top => write!(f, "top"),
@@ -57,6 +62,11 @@ impl fmt::Display for Part {
 pub struct NodeName(pub Entry);
 
 impl fmt::Display for NodeName {
+    ghost use Rattle.std.specs.Prelude.{Some};
+    ghost use Rattle.dp_pipe.specs.Causes.{node_text};
+
+    ghost output = { λ name. Some (node_text name.0) };
+
     fn fmt<W: fmt::Write>(&self, f: &mut fmt::Formatter<W>) -> fmt::Result {
         match self.0 {
             Entry::Port(place) => write!(f, "port {place}"),
@@ -67,6 +77,11 @@ impl fmt::Display for NodeName {
 
 /// Causes 1 to 7 as a number, a name, and where and why; 8 and 9 as what became of the node.
 impl fmt::Display for PipeError {
+    ghost use Rattle.std.specs.Prelude.{Some};
+    ghost use Rattle.dp_pipe.specs.Causes.{text_of};
+
+    ghost output = { λ error. Some (text_of error) };
+
     fn fmt<W: fmt::Write>(&self, f: &mut fmt::Formatter<W>) -> fmt::Result {
         match *self {
             PipeError::Memory => write!(f, "memory"),
