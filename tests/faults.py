@@ -2,8 +2,9 @@
 """Runs the built program dpv on words, files and captures that are at fault.
 
 Usage: tests/faults.py [PROGRAM]   (the built program; by default the one that ./dpv builds and runs)
-Each case has its own fault and all those that are looked for later: words come first, then the program file and its text, then the
-certificate's, then the check, then the input and the output, then the run. So the fault that is told shows the order.
+Each case has its own fault and all those that are looked for later: words come first, then the pipeline file, its text and its nodes
+one after the other, of each the program file and its text, then the certificate's, then the check; then a node that is not there, then
+the input and the output, then the run. So the fault that is told shows the order.
 Prints a line for each case that went another way, and a count; exits with 1 where there is such a case.
 """
 import pathlib
@@ -44,12 +45,59 @@ def make_files(folder: pathlib.Path) -> None:
         "link.pcap": capture[:20] + b"\x65" + capture[21:],
         "script": b"region 4096\nfree 1\n",
         "long.script": b"\n" * (LONGEST + 1),
+        "lost.dpv": b"exit\n",
+        "long.toml": b"=" * (LONGEST + 1),
+        "bytes.toml": b"# \xff\n",
     }
     head, *rows = cert.splitlines(keepends=True)
     files["bold.cert"] = head + rows[0][:-2] + b"1\n" + b"".join(rows[1:])
+    files.update((f"{name}.toml", text.encode()) for name, text in pipelines().items())
     for name, data in files.items():
         (folder / name).write_bytes(data)
     (folder / "folder").mkdir()
+
+
+POOL = "[[pool]]\ncount = 4\ncache = 0\nroom = 2176\n"
+RING = "[[ring]]\ncount = 4\nshare = 0\nhead = 0\ntail = 0\nfirst = 0\nlast = 0\nsegs = 64\n"
+PORT = '[[port]]\npool = 0\nsegs = 1\nqueue = 4\nin = "none"\nout = "none/none"\n'
+TABLE = '[[table]]\nrules = 1\ngroups = 0\nroutes = ["10.0.0.0/8 1", "10.1.0.0/16 2"]\n'
+
+
+def node(files: str) -> str:
+    """The keys of a node: its program, and its certificate where one is named behind a blank."""
+    return "".join(f'{key} = "{name}"\n' for key, name in zip(("node", "cert"), files.split()))
+
+
+def pipeline(ports: list[str], rings: list[str] | None = None, table: str = "") -> str:
+    """A pipeline file of these nodes."""
+    kinds = [PORT + node(files) for files in ports] + [RING + node(files) for files in rings or []]
+    return "region = 10368\n" + POOL + table + "".join(kinds)
+
+
+def pipelines() -> dict[str, str]:
+    """The pipeline files that the cases name, without `.toml`; each has, behind its own fault, others that come later."""
+    sound, late = "strip.dpv strip.cert", ["none", "none"]
+    return {
+        "sound": pipeline([sound, "strip.dpv"], ["strip.dpv"]),
+        "unread": pipeline(["strip.dpv none"], ["strip.dpv folder"]),
+        "text": pipeline(late, table=TABLE).replace("count = 4", "counts = 4").replace("region", "[region"),
+        "top": pipeline(late, table=TABLE).replace("10368", "10369").replace("count = 4", "counts = 4"),
+        "pool": pipeline(late, table=TABLE.replace("rules", "rule")).replace("count = 4", "count = -4"),
+        "table": pipeline(late, ["none"], TABLE.replace("rules", "rule")).replace("share = 0", "share = 256"),
+        "ring": pipeline(late, ["none", "none"], TABLE).replace("share = 0", "share = 256").replace("segs = 1", "segs = 256"),
+        "port": pipeline(late, table=TABLE).replace("segs = 1", "segs = 256"),
+        "env": pipeline(late, table=TABLE).replace("room = 2176", "room = 128"),
+        "route": pipeline(late, table=TABLE),
+        "file": pipeline(["none none", "bad.dpv"]),
+        "asm": pipeline(["bad.dpv none", "none"]),
+        "cert_file": pipeline(["strip.dpv long.cert", "none"]),
+        "cert": pipeline(["strip.dpv bad.cert", "none"]),
+        "refused": pipeline(["strip.dpv bold.cert", "none"]),
+        "lost": pipeline(["lost.dpv", "none"]),
+        "second": pipeline([sound, "strip.dpv strip.cert"], ["none"]),
+        "ring_file": pipeline([sound], ["long.dpv"]),
+        "ring_lost": pipeline(["strip.dpv"], ["strip.dpv", "lost.dpv"]),
+    }
 
 
 def one(node: str, cert: str, source: str, target: str, ends: tuple[int, str, str]) -> Case:
@@ -60,6 +108,53 @@ def one(node: str, cert: str, source: str, target: str, ends: tuple[int, str, st
 def node_fault(text: str) -> tuple[int, str, str]:
     """How a run ends that has a fault of its node."""
     return 3, "", f"fault: pipeline {text}\n"
+
+
+def check_cases() -> list[Case]:
+    """Those of `dpv check`, in the order in which faults are looked for."""
+    ends = {
+        "none": (3, "", "fault: file none.toml\n"),
+        "long": (3, "", "fault: file long.toml\n"),
+        "bytes": node_fault("1 NotToml"),
+        "text": node_fault("1 NotToml"),
+        "top": node_fault("2 BadKey top 0"),
+        "pool": node_fault("2 BadKey pool 0"),
+        "table": node_fault("2 BadKey table 0"),
+        "ring": node_fault("2 BadKey ring 0"),
+        "port": node_fault("2 BadKey port 0"),
+        "env": node_fault("3 BadEnv 4 0"),
+        "route": node_fault("4 BadTable 0 1 3"),
+        "file": node_fault("5 File port 0"),
+        "asm": node_fault("6 Asm port 0 line 2 cause 5"),
+        "cert_file": node_fault("5 File port 0"),
+        "cert": node_fault("7 BadCert port 0 line 7 cause 2"),
+        "refused": (1, REFUSED, ""),
+        "lost": (1, "port 0 not inferred at 0 by J10\n", ""),
+        "second": (1, "port 1 refused at 0 by J2\n", ""),
+        "ring_file": node_fault("5 File ring 0"),
+        "ring_lost": (1, "ring 1 not inferred at 0 by J10\n", ""),
+        "sound": (0, "port 0 accepted\nport 1 accepted\nring 0 accepted\n", ""),
+        "unread": node_fault("5 File port 0"),
+    }
+    return [Case(["check", f"{name}.toml"], *end) for name, end in ends.items()] + [
+        Case(["check", "folder"], 3, "", "fault: file folder\n")
+    ]
+
+
+def infer_cases() -> list[Case]:
+    """Those of `dpv infer`: faults of loading come first, named certificates are not read, and then the node has to be there."""
+    cert = (STRIP / "strip.cert").read_text()
+    return [
+        Case(["infer", "none", "port9"], 3, "", "fault: file none\n"),
+        Case(["infer", "text.toml", "port9"], *node_fault("1 NotToml")),
+        Case(["infer", "file.toml", "port9"], *node_fault("5 File port 0")),
+        Case(["infer", "cert.toml", "port9"], *node_fault("5 File port 1")),
+        Case(["infer", "ring_lost.toml", "port0"], 1, "ring 1 not inferred at 0 by J10\n", ""),
+        Case(["infer", "sound.toml", "port2"], 2, "", "error: the pipeline has no port 2\n"),
+        Case(["infer", "sound.toml", "ring1"], 2, "", "error: the pipeline has no ring 1\n"),
+        Case(["infer", "sound.toml", "port0"], 0, cert, ""),
+        Case(["infer", "unread.toml", "port0"], 0, cert, ""),
+    ]
 
 
 def cases() -> list[Case]:
@@ -90,6 +185,8 @@ def cases() -> list[Case]:
         Case(["mem", "folder"], 3, "", "fault: file folder\n"),
         Case(["mem", "long.script"], 3, "", "fault: file long.script\n"),
         Case(["mem", "script"], 3, "", "fault: line 2 bad command\n"),
+        *check_cases(),
+        *infer_cases(),
     ]
 
 
@@ -119,9 +216,14 @@ def main() -> int:
     with tempfile.TemporaryDirectory() as name:
         folder = pathlib.Path(name)
         make_files(folder)
-        passed = [shows_usage(program, words, 0, folder) for words in (["help"], ["--help"], ["one", "--help"], ["--version"])]
+        asked = (["help"], ["--help"], ["one", "--help"], ["check", "--help"], ["infer", "--help"], ["--version"])
+        passed = [shows_usage(program, list(words), 0, folder) for words in asked]
         wrong = ([], ["two"], ["one"], ["one", *strip[1:]], ["one", *strip, "more"], ["one", "--fast", *strip], ["mem"])
         passed += [shows_usage(program, list(words), 2, folder) for words in wrong]
+        wrong = (["check"], ["check", "none", "more"], ["infer", "none"], ["infer", "none", "port0", "more"])
+        passed += [shows_usage(program, list(words), 2, folder) for words in wrong]
+        nodes = ("", "port", "port10", "Port0", "ring-1", "ringx", "port0 ", "pool0", "0")
+        passed += [shows_usage(program, ["infer", "none", name], 2, folder) for name in nodes]
         passed += [ends_so(program, case, folder) for case in cases()]
     print(f"faults: {len(passed)} cases, {passed.count(False)} went another way")
     return 0 if all(passed) else 1

@@ -1,1 +1,4 @@
 pub mod One
+pub mod Pipe
+pub mod Told
+pub mod Words

@@ -1,5 +1,11 @@
 //! What is told of a fault, and the status that the program ends with.
 
+ghost use Rattle.std.specs.Prelude.{◌≡◌, ◌≢◌, ◌⊎◌, IfSome, OnErr, OnOk};
+ghost use Rattle.std.specs.Fmt.{with_newline};
+ghost use Rattle.std.specs.Io.KnownBytes.{Appends};
+ghost use Rattle.dp_cli.specs.Told.{IsTold, status_of, status_of_fault};
+
+use dp_pipe::PipeError;
 use std::fmt::Display;
 use std::io::Write;
 use std::{fmt, io};
@@ -26,12 +32,8 @@ pub enum Fault<'a> {
     Memory,
     /// A file that cannot be opened, made or read, or is too long.
     File(&'a str),
-    /// A program or certificate file that cannot be fetched or is too long.
-    NodeFile,
-    /// A program text with a fault.
-    Asm { line: u64, cause: u8 },
-    /// A certificate text with a fault.
-    BadCert { line: u64, cause: u8 },
+    /// A pipeline that is not loaded, with its cause: one of the first seven.
+    Pipeline(PipeError),
     /// An input that is no capture, or whose reader failed.
     Input { port: u8, cause: u8 },
     /// An output whose writer failed.
@@ -42,7 +44,9 @@ pub enum Fault<'a> {
 
 impl Fault<'_> {
     /// The status that the program ends with.
-    pub fn status(self) -> u8 {
+    pub fn status(self) -> u8
+        ensures { result ≡ status_of_fault self.entry }
+    {
         match self {
             Fault::Memory => MEMORY,
             _ => FAULT,
@@ -55,16 +59,7 @@ impl fmt::Display for Fault<'_> {
         match self {
             Fault::Memory => write!(f, "fault: memory"),
             Fault::File(name) => write!(f, "fault: file {name}"),
-            Fault::NodeFile => write!(f, "fault: pipeline 5 File port 0"),
-            Fault::Asm { line, cause } => {
-                write!(f, "fault: pipeline 6 Asm port 0 line {line} cause {cause}")
-            }
-            Fault::BadCert { line, cause } => {
-                write!(
-                    f,
-                    "fault: pipeline 7 BadCert port 0 line {line} cause {cause}"
-                )
-            }
+            Fault::Pipeline(error) => write!(f, "fault: pipeline {error}"),
             Fault::Input { port, cause } => write!(f, "fault: input {port} cause {cause}"),
             Fault::Output { port } => write!(f, "fault: output {port}"),
             Fault::Line(line) => write!(f, "fault: line {line} bad command"),
@@ -72,16 +67,58 @@ impl fmt::Display for Fault<'_> {
     }
 }
 
-/// Writes a text as a line, and answers the status, or 4 or 3 where the write fails for memory or else.
-pub fn tell<W: Write, T: Display + Drop>(to: &mut W, text: T, status: u8) -> u8 {
-    match writeln!(to, "{text}") {
+/// The status of what was written, or 4 or 3 where that failed for memory or else.
+pub fn status_of_write(written: io::Result<()>, status: u8) -> u8
+    ensures done { OnOk written (result ≡ status) }
+    ensures failed { OnErr written ((result ≡ FAULT) ⊎ (result ≡ MEMORY)) }
+{
+    match written {
         Ok(()) => status,
         Err(error) if error.kind() == io::ErrorKind::OutOfMemory => MEMORY,
         Err(_) => FAULT,
     }
 }
 
+/// Writes a text as a line, and answers the status, or 4 or 3 where the write fails for memory or else.
+pub fn tell<W: Write, T: Display + Drop>(to: &mut W, text: T, status: u8) -> u8
+    ensures status { IsTold status result }
+    ensures printed { result ≢ FAULT → result ≢ MEMORY → IfSome (with_newline (T.output text)) (Appends (W.contents to.old) (W.contents to.new)) }
+{
+    status_of_write(writeln!(to, "{text}"), status)
+}
+
 /// Writes a fault as a line, and answers its status.
-pub fn tell_fault<W: Write>(to: &mut W, fault: Fault<'_>) -> u8 {
+pub fn tell_fault<W: Write>(to: &mut W, fault: Fault<'_>) -> u8
+    ensures { IsTold (status_of_fault fault.entry) result }
+{
     tell(to, fault, fault.status())
+}
+
+/// The status of what was printed. Where memory ran out, that is told.
+pub fn tell_if_memory<W: Write>(to: &mut W, status: u8) -> u8
+    ensures told { IsTold status result }
+    ensures silent { status ≢ MEMORY → to.new ≡ to.old }
+{
+    if status == MEMORY {
+        tell_fault(to, Fault::Memory)
+    } else {
+        status
+    }
+}
+
+/// Tells why a pipeline is not loaded, and answers the status: a program that is refused or has no certificate on `out`, all
+/// else on `err`.
+pub fn tell_unloaded<O: Write, E: Write>(error: PipeError, out: &mut O, err: &mut E) -> u8
+    ensures status { IsTold (status_of error) result }
+    ensures refused { result ≡ REFUSED → err.new ≡ err.old }
+    ensures fault { status_of error ≢ REFUSED → out.new ≡ out.old }
+{
+    match error {
+        PipeError::Memory => tell_fault(err, Fault::Memory),
+        PipeError::NotInferred { .. } | PipeError::Refused { .. } => {
+            let status = tell(out, error, REFUSED);
+            tell_if_memory(err, status)
+        }
+        _ => tell_fault(err, Fault::Pipeline(error)),
+    }
 }

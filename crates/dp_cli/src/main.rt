@@ -5,6 +5,7 @@ mod fault;
 mod files;
 mod mem;
 mod one;
+mod pipe;
 mod report;
 mod script;
 mod words;
@@ -15,16 +16,20 @@ use clap::ArgMatches;
 use clap::error::ErrorKind;
 use dp_check::Checked;
 use dp_lang::assemble;
+use dp_model::Entry;
 use dp_pcap::{OfBuffered, OfWrite};
-use fault::{DONE, FAULT, Fault, USAGE, tell_fault};
+use dp_pipe::{How, PipeError, Pipeline};
+use fault::{DONE, FAULT, Fault, USAGE, tell, tell_fault, tell_unloaded};
 use files::ReadFault;
 use mem::mem_line;
-use one::{asm_fault, one_load, one_run};
+use one::{asm_error, one_load, one_run};
+use pipe::{HostFiles, check_line, infer_line, load_line};
 use std::alloc::Global;
 use std::io::{BufReader, BufWriter, Write};
 use std::process::ExitCode;
 use std::rt::Files;
 use std::{fs, io};
+use words::node_named;
 
 /// Tells of an error of the command line, or shows the help that was asked for, and answers the status.
 fn wrong_words<R: Print + Eprint, E: io::Write>(rt: &R, error: &clap::Error, err: &mut E) -> u8 {
@@ -38,6 +43,14 @@ fn wrong_words<R: Print + Eprint, E: io::Write>(rt: &R, error: &clap::Error, err
     }
 }
 
+/// Why a pipeline file or a script was not read.
+fn file_fault<'a>(fault: ReadFault, file: &'a str) -> Fault<'a> {
+    match fault {
+        ReadFault::Memory => Fault::Memory,
+        ReadFault::File => Fault::File(file),
+    }
+}
+
 /// Runs a heap script from a file.
 fn run_script<R: Files + Print, E: io::Write>(
     rt: &R,
@@ -47,14 +60,70 @@ fn run_script<R: Files + Print, E: io::Write>(
 ) -> u8 {
     match files::read(rt, alloc, file) {
         Ok(script) => mem_line(alloc, script.as_slice(), &mut io::writer(rt), err),
-        Err(ReadFault::Memory) => tell_fault(err, Fault::Memory),
-        Err(ReadFault::File) => tell_fault(err, Fault::File(file)),
+        Err(fault) => tell_fault(err, file_fault(fault, file)),
+    }
+}
+
+/// The pipeline of a file; or the status, once the first fault is told.
+fn load_file<R: Files + Print, E: io::Write>(
+    rt: &R,
+    alloc: Global,
+    file: &str,
+    how: How,
+    err: &mut E,
+) -> Result<Pipeline, u8> {
+    let text = match files::read(rt, alloc, file) {
+        Ok(text) => text,
+        Err(fault) => return Err(tell_fault(err, file_fault(fault, file))),
+    };
+    let mut files = HostFiles(rt);
+    load_line(
+        alloc,
+        text.as_slice(),
+        &mut files,
+        how,
+        &mut io::writer(rt),
+        err,
+    )
+}
+
+/// Checks the programs of a pipeline file.
+fn check_file<R: Files + Print, E: io::Write>(
+    rt: &R,
+    alloc: Global,
+    words: &ArgMatches<'_>,
+    err: &mut E,
+) -> u8 {
+    match load_file(rt, alloc, word(words, "FILE"), How::Given, err) {
+        Ok(pipeline) => check_line(&pipeline, &mut io::writer(rt), err),
+        Err(status) => status,
+    }
+}
+
+/// Prints the certificate of a program of a pipeline file.
+fn infer_file<R: Files + Print, E: io::Write>(
+    rt: &R,
+    alloc: Global,
+    words: &ArgMatches<'_>,
+    err: &mut E,
+) -> u8 {
+    let which = word(words, "WHICH");
+    let Some(node) = node_named(which) else {
+        return tell(
+            err,
+            format_args!("error: '{which}' names no node: port or ring, and one digit"),
+            USAGE,
+        );
+    };
+    match load_file(rt, alloc, word(words, "FILE"), How::Inferred, err) {
+        Ok(pipeline) => infer_line(alloc, &pipeline, node, &mut io::writer(rt), err),
+        Err(status) => status,
     }
 }
 
 /// The texts of a program and its certificate; or the status, once the first fault is told. Where the certificate cannot be
 /// read, a fault of the program's text comes first.
-fn texts<R: Files, E: io::Write>(
+fn texts<R: Files + Print, E: io::Write>(
     rt: &R,
     alloc: Global,
     node: &str,
@@ -63,22 +132,25 @@ fn texts<R: Files, E: io::Write>(
 ) -> Result<(Vec<u8>, Vec<u8>), u8> {
     let program = match files::read(rt, alloc, node) {
         Ok(program) => program,
-        Err(fault) => return Err(tell_fault(err, node_fault(fault))),
+        Err(fault) => return Err(tell_unloaded(node_error(fault), &mut io::writer(rt), err)),
     };
     match files::read(rt, alloc, cert) {
         Ok(cert) => Ok((program, cert)),
-        Err(fault) => Err(match assemble(alloc, program.as_slice()) {
-            Ok(_) => tell_fault(err, node_fault(fault)),
-            Err(error) => tell_fault(err, asm_fault(error)),
-        }),
+        Err(fault) => {
+            let error = match assemble(alloc, program.as_slice()) {
+                Ok(_) => node_error(fault),
+                Err(error) => asm_error(error),
+            };
+            Err(tell_unloaded(error, &mut io::writer(rt), err))
+        }
     }
 }
 
 /// Why a program or certificate file was not read.
-fn node_fault(fault: ReadFault) -> Fault<'static> {
+fn node_error(fault: ReadFault) -> PipeError {
     match fault {
-        ReadFault::Memory => Fault::Memory,
-        ReadFault::File => Fault::NodeFile,
+        ReadFault::Memory => PipeError::Memory,
+        ReadFault::File => PipeError::File(Entry::Port(0)),
     }
 }
 
@@ -170,6 +242,8 @@ fn run<R: Files + Print, E: io::Write>(
 ) -> u8 {
     match matches.subcommand() {
         Some(("one", words)) => run_one_port(rt, alloc, words, err),
+        Some(("check", words)) => check_file(rt, alloc, words, err),
+        Some(("infer", words)) => infer_file(rt, alloc, words, err),
         Some(("mem", words)) => run_script(rt, alloc, word(words, "FILE"), err),
         _ => USAGE,
     }
@@ -195,5 +269,7 @@ fn main(rt: HostRuntime) -> ExitCode {
     ExitCode::from(status)
 }
 
+#[cfg(test)]
+mod pipe_tests;
 #[cfg(test)]
 mod tests;

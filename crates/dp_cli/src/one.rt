@@ -3,7 +3,7 @@
 ghost use Rattle.std.specs.Prelude.{◌≡◌, IfOk};
 ghost use Rattle.dp_cli.specs.One.{one_port, IsForOnePort};
 
-use crate::fault::{DONE, Fault, REFUSED, tell, tell_fault};
+use crate::fault::{DONE, Fault, tell, tell_fault, tell_unloaded};
 use crate::report::ReportText;
 use dp_cert::{CertError, decode};
 use dp_check::{Checked, check};
@@ -11,6 +11,7 @@ use dp_engine::{OneCause, OneFault, run_one};
 use dp_lang::{AsmError, assemble};
 use dp_model::{Entry, Env, PoolSpec, PortSpec};
 use dp_pcap::{Feed, Sink};
+use dp_pipe::PipeError;
 use std::alloc::Global;
 use std::io::Write;
 
@@ -34,25 +35,19 @@ fn one_env() -> Env
     }
 }
 
-/// The fault of a program text.
-pub fn asm_fault(error: AsmError) -> Fault<'static> {
+/// The cause of a program text that is at fault.
+pub fn asm_error(error: AsmError) -> PipeError {
     match error {
-        AsmError::Memory => Fault::Memory,
-        AsmError::Fault(fault) => Fault::Asm {
-            line: fault.line as u64,
-            cause: fault.cause.number(),
-        },
+        AsmError::Memory => PipeError::Memory,
+        AsmError::Fault(fault) => PipeError::Asm(Entry::Port(0), fault),
     }
 }
 
-/// The fault of a certificate text.
-fn cert_fault(error: CertError) -> Fault<'static> {
+/// The cause of a certificate text that is at fault.
+fn cert_error(error: CertError) -> PipeError {
     match error {
-        CertError::Memory => Fault::Memory,
-        CertError::Fault(fault) => Fault::BadCert {
-            line: fault.line as u64,
-            cause: fault.cause.number(),
-        },
+        CertError::Memory => PipeError::Memory,
+        CertError::Fault(fault) => PipeError::BadCert(Entry::Port(0), fault),
     }
 }
 
@@ -69,19 +64,22 @@ pub fn one_load<O: Write, E: Write>(
 {
     let program = match assemble(alloc, node) {
         Ok(program) => program,
-        Err(error) => return Err(tell_fault(err, asm_fault(error))),
+        Err(error) => return Err(tell_unloaded(asm_error(error), out, err)),
     };
     let cert = match decode(alloc, cert, program.instrs().len()) {
         Ok(cert) => cert,
-        Err(error) => return Err(tell_fault(err, cert_fault(error))),
+        Err(error) => return Err(tell_unloaded(cert_error(error), out, err)),
     };
     match check(program, cert, &one_env(), Entry::Port(0)) {
         Ok(checked) => Ok(checked),
-        Err(refused) => Err(tell(
-            out,
-            format_args!("port 0 refused at {} by J{}", refused.label, refused.rule),
-            REFUSED,
-        )),
+        Err(refused) => {
+            let error = PipeError::Refused {
+                node: Entry::Port(0),
+                label: refused.label,
+                rule: refused.rule,
+            };
+            Err(tell_unloaded(error, out, err))
+        }
     }
 }
 

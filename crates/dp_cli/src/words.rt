@@ -1,6 +1,11 @@
 //! The command line, from words to values.
 
+ghost use Rattle.std.specs.Prelude.{◌≡◌, ◌<◌, Some, IfSome};
+ghost use Rattle.dp_model.specs.declared.env.Entry.{Entry};
+ghost use Rattle.dp_cli.specs.Words.{place_of, word_of};
+
 use clap::{Arg, Command};
+use dp_model::Entry;
 use std::alloc::{AllocError, Global};
 
 /// The arguments of `dpv one`, in order: the program, its certificate, the capture to read and the one to write.
@@ -22,14 +27,34 @@ fn one<'a>(alloc: Global) -> Result<Command<'a>, AllocError> {
     Ok(one)
 }
 
+/// The operand FILE.
+fn file<'a>(alloc: Global, help: &'a str) -> Arg<'a> {
+    Arg::new(alloc, "FILE").required(true).help(help)
+}
+
+/// `dpv check FILE`.
+fn check<'a>(alloc: Global) -> Result<Command<'a>, AllocError> {
+    Command::new(alloc, "check")
+        .about("Checks the programs of a pipeline")
+        .arg(file(alloc, "the pipeline file"))
+}
+
+/// `dpv infer FILE WHICH`.
+fn infer<'a>(alloc: Global) -> Result<Command<'a>, AllocError> {
+    let which = Arg::new(alloc, "WHICH")
+        .required(true)
+        .help("the node: port or ring, and one digit, as port0");
+    Command::new(alloc, "infer")
+        .about("Prints the certificate of a program of a pipeline, all inferred")
+        .arg(file(alloc, "the pipeline file"))?
+        .arg(which)
+}
+
 /// `dpv mem FILE`.
 fn mem<'a>(alloc: Global) -> Result<Command<'a>, AllocError> {
-    let file = Arg::new(alloc, "FILE")
-        .required(true)
-        .help("the heap script");
     Command::new(alloc, "mem")
         .about("Runs a heap script")
-        .arg(file)
+        .arg(file(alloc, "the heap script"))
 }
 
 /// The program's commands.
@@ -40,5 +65,19 @@ pub fn command<'a>(alloc: Global) -> Result<Command<'a>, AllocError> {
         .subcommand_required(true)
         .arg_required_else_help(true)
         .subcommand(one(alloc)?)?
+        .subcommand(check(alloc)?)?
+        .subcommand(infer(alloc)?)?
         .subcommand(mem(alloc)?)
+}
+
+/// The node that a word names: `port` or `ring`, and one digit.
+pub fn node_named(word: &str) -> Option<Entry>
+    ensures spelled { IfSome result (λ node. word.now ≡ word_of node) }
+    ensures only { (node : Entry) → place_of node < 10 → word.now ≡ word_of node → result ≡ Some node }
+{
+    match word.as_bytes() {
+        [b'p', b'o', b'r', b't', digit @ b'0'..=b'9'] => Some(Entry::Port(digit - b'0')),
+        [b'r', b'i', b'n', b'g', digit @ b'0'..=b'9'] => Some(Entry::Ring(digit - b'0')),
+        _ => None,
+    }
 }

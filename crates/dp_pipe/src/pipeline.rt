@@ -86,6 +86,14 @@ impl Pipeline {
         self.env.rings().len()
     }
 
+    /// How many nodes it has: one for each port and one for each ring.
+    pub fn nodes(&self) -> usize
+        ensures count { result ≡ length self.now.nodes }
+        ensures parts { result ≡ length self.now.env.ports + length self.now.env.rings }
+    {
+        self.nodes.len()
+    }
+
     /// The checked program of a node: ports come first, and then rings.
     pub fn node(&self, k: usize) -> &Checked
         requires { k < length self.now.env.ports + length self.now.env.rings }

@@ -1,0 +1,118 @@
+//! `dpv check` and `dpv infer`: pipelines, and the certificates of their programs.
+
+ghost use Rattle.std.specs.Prelude.{◌≡◌, IfSome, IfNone, IfOk, IfErr, OnOk, MatchOption, option_map};
+ghost use Rattle.std.specs.Io.KnownBytes.{Appends};
+ghost use Rattle.dp_cert.specs.Spelling.{spelling};
+ghost use Rattle.dp_pipe.specs.Loads.{IsLoadedFrom};
+ghost use Rattle.dp_cli.specs.Pipe as spec;
+ghost use Rattle.dp_cli.specs.Told.{IsTold};
+
+use crate::fault::{
+    DONE, Fault, USAGE, status_of_write, tell, tell_fault, tell_if_memory, tell_unloaded,
+};
+use crate::files::{self, ReadFault};
+use dp_cert::encode;
+use dp_check::Checked;
+use dp_model::Entry;
+use dp_pipe::{FetchFault, Files, How, NodeName, Pipeline, load};
+use std::alloc::Global;
+use std::io::Write;
+use std::rt;
+
+/// The files of the host, by their names as they stand.
+#[derive(Drop)]
+pub struct HostFiles<'a, R>(pub &'a R);
+
+impl<R: rt::Files> Files for HostFiles<'_, R> {
+    ghost use Rattle.std.specs.Prelude.{None};
+
+    // What the host's files hold is not told.
+    ghost known = { λ _. None };
+
+    fn fetch(&mut self, alloc: Global, name: &str) -> Result<Vec<u8>, FetchFault> {
+        match files::read(self.0, alloc, name) {
+            Ok(bytes) => Ok(bytes),
+            Err(ReadFault::Memory) => Err(FetchFault::Memory),
+            Err(ReadFault::File) => Err(FetchFault::Missing),
+        }
+    }
+}
+
+/// The pipeline of a text and the files that it names; or the status, once the first fault is told: a program that is refused
+/// or has no certificate on `out`, all else on `err`.
+pub fn load_line<F: Files, O: Write, E: Write>(
+    alloc: Global,
+    text: &[u8],
+    files: &mut F,
+    how: How,
+    out: &mut O,
+    err: &mut E,
+) -> Result<Pipeline, u8>
+    ensures loaded { IfOk result (IsLoadedFrom (F.known files.old) how text.now) }
+    ensures silent { OnOk result ((out.new ≡ out.old) × (err.new ≡ err.old)) }
+    ensures fails { IfErr result (spec.IsFaultTold (F.known files.old) how text.now) }
+    ensures stays { F.known files.new ≡ F.known files.old }
+{
+    match load(alloc, text, files, how) {
+        Ok(pipeline) => Ok(pipeline),
+        Err(error) => Err(tell_unloaded(error, out, err)),
+    }
+}
+
+/// Prints a line for each node of a pipeline, all of which are accepted, and answers the status.
+pub fn check_line<O: Write, E: Write>(pipeline: &Pipeline, out: &mut O, err: &mut E) -> u8
+    ensures status { IsTold DONE result }
+    ensures printed { result ≡ DONE → Appends (O.contents out.old) (O.contents out.new) (spec.accepted_lines pipeline.now.nodes) }
+    ensures silent { result ≡ DONE → err.new ≡ err.old }
+{
+    for k in 0..pipeline.nodes() {
+        let name = NodeName(pipeline.node(k).entry());
+        let status = tell(out, format_args!("{name} accepted"), DONE);
+        if status != DONE {
+            return tell_if_memory(err, status);
+        }
+    }
+    DONE
+}
+
+/// The node of an entry, where the pipeline has it.
+fn node_at(pipeline: &Pipeline, which: Entry) -> Option<&Checked>
+    ensures { option_map (λ node. node.now) result ≡ spec.node_at pipeline.now which }
+{
+    let ports = pipeline.ports();
+    match which {
+        Entry::Port(port) if usize::from(port) < ports => { Some(pipeline.node(usize::from(port))) }
+        Entry::Ring(ring) if usize::from(ring) < pipeline.nodes() - ports => {
+            Some(pipeline.node(ports + usize::from(ring)))
+        }
+        _ => None,
+    }
+}
+
+/// Prints the certificate of a node, and answers the status: 2 where the pipeline has no such node, which is told.
+pub fn infer_line<O: Write, E: Write>(
+    alloc: Global,
+    pipeline: &Pipeline,
+    which: Entry,
+    out: &mut O,
+    err: &mut E,
+) -> u8
+    ensures status { MatchOption (spec.node_at pipeline.now which) (IsTold USAGE result) (λ _. IsTold DONE result) }
+    ensures printed { result ≡ DONE → IfSome (spec.node_at pipeline.now which) (λ node. Appends (O.contents out.old) (O.contents out.new) (spelling node.rows)) }
+    ensures silent { result ≡ DONE → err.new ≡ err.old }
+    ensures nothing { IfNone (spec.node_at pipeline.now which) (out.new ≡ out.old) }
+{
+    let Some(node) = node_at(pipeline, which) else {
+        let name = NodeName(which);
+        return tell(
+            err,
+            format_args!("error: the pipeline has no {name}"),
+            USAGE,
+        );
+    };
+    let Ok(text) = encode(alloc, node.cert()) else {
+        return tell_fault(err, Fault::Memory);
+    };
+    let status = status_of_write(out.write_all(text.as_slice()), DONE);
+    tell_if_memory(err, status)
+}
