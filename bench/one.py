@@ -2,7 +2,7 @@
 """Times `dpv one` with strip beside `cp` and, where it is installed, editcap, on captures that it makes.
 
 Usage: bench/one.py [RECORDS ..]   (100000 and 1000000 by default)
-Prints one table: the best of three runs of each, and the ratio to cp. Compares what dpv and editcap wrote byte for byte.
+Prints one table: the best of nine rounds, each of which runs all of them, and the ratio to cp. Compares what dpv and editcap wrote byte for byte.
 """
 import pathlib
 import shutil
@@ -10,7 +10,7 @@ import struct
 import sys
 import tempfile
 
-from timing import best
+from timing import best_in_turn
 
 TOP = pathlib.Path(__file__).resolve().parent.parent
 STRIP = TOP / "examples" / "strip"
@@ -41,11 +41,13 @@ def main() -> None:
         for count in counts:
             for name, sizes in SIZES.items():
                 make(source, count, sizes)
-                base = best(["cp", str(source), str(copy)])
-                dpv = best([str(TOP / "dpv"), "one", str(STRIP / "strip.dpv"), str(STRIP / "strip.cert"), str(source), str(ours)])
-                row = f"{count:>9}  {name:<12} {base:>8.3f} {dpv:>8.3f} {dpv / base:>7.1f}"
+                words = [str(TOP / "dpv"), "one", str(STRIP / "strip.dpv"), str(STRIP / "strip.cert"), str(source), str(ours)]
+                commands = [["cp", str(source), str(copy)], words]
                 if editcap:
-                    other = best([editcap, "-F", "pcap", "-L", "-C", "14", str(source), str(theirs)])
+                    commands.append([editcap, "-F", "pcap", "-L", "-C", "14", str(source), str(theirs)])
+                base, dpv, *others = best_in_turn(commands, 9, [copy, ours, theirs])
+                row = f"{count:>9}  {name:<12} {base:>8.3f} {dpv:>8.3f} {dpv / base:>7.1f}"
+                for other in others:
                     same = packets(ours) == packets(theirs)
                     row += f" {other:>10.3f} {other / base:>11.1f}  {'yes' if same else 'NO'}"
                 print(row, flush=True)

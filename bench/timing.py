@@ -1,4 +1,5 @@
 """What the benches share."""
+import pathlib
 import re
 import shutil
 import subprocess
@@ -7,12 +8,21 @@ import time
 
 def best(command: list[str]) -> float:
     """The least time of three runs, in seconds."""
-    times = []
-    for _ in range(3):
-        start = time.perf_counter()
-        subprocess.run(command, check=True, stdout=subprocess.DEVNULL)
-        times.append(time.perf_counter() - start)
-    return min(times)
+    return best_in_turn([command], 3)[0]
+
+
+def best_in_turn(commands: list[list[str]], rounds: int, made: list[pathlib.Path] | None = None) -> list[float]:
+    """The least time of each command, in seconds. Each round runs all of them, so that a busy moment meets them alike, and begins
+    without the files that they make: a file system may take longer to close one that was there before."""
+    times: list[list[float]] = [[] for _ in commands]
+    for _ in range(rounds):
+        for file in made or []:
+            file.unlink(missing_ok=True)
+        for command, taken in zip(commands, times):
+            start = time.perf_counter()
+            subprocess.run(command, check=True, stdout=subprocess.DEVNULL)
+            taken.append(time.perf_counter() - start)
+    return [min(taken) for taken in times]
 
 
 def instructions(command: list[str]) -> int | None:
