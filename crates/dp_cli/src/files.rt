@@ -5,7 +5,7 @@ use std::io::Read;
 use std::rt::Files;
 use std::{fs, io};
 
-/// The most bytes of a program, certificate or script file.
+/// The most bytes of a pipeline, program, certificate or script file.
 pub const LONGEST: u64 = 1_048_576;
 
 /// Why a file was not read.
