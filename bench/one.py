@@ -42,10 +42,10 @@ def main() -> None:
             for name, sizes in SIZES.items():
                 make(source, count, sizes)
                 words = [str(TOP / "dpv"), "one", str(STRIP / "strip.dpv"), str(STRIP / "strip.cert"), str(source), str(ours)]
-                commands = [["cp", str(source), str(copy)], words]
+                commands = [(["cp", str(source), str(copy)], copy), (words, ours)]
                 if editcap:
-                    commands.append([editcap, "-F", "pcap", "-L", "-C", "14", str(source), str(theirs)])
-                base, dpv, *others = best_in_turn(commands, 9, [copy, ours, theirs])
+                    commands.append(([editcap, "-F", "pcap", "-L", "-C", "14", str(source), str(theirs)], theirs))
+                base, dpv, *others = best_in_turn(commands, 9)
                 row = f"{count:>9}  {name:<12} {base:>8.3f} {dpv:>8.3f} {dpv / base:>7.1f}"
                 for other in others:
                     same = packets(ours) == packets(theirs)

@@ -6,22 +6,26 @@ import subprocess
 import time
 
 
+def seconds(command: list[str]) -> float:
+    """The time of one run."""
+    start = time.perf_counter()
+    subprocess.run(command, check=True, stdout=subprocess.DEVNULL)
+    return time.perf_counter() - start
+
+
 def best(command: list[str]) -> float:
     """The least time of three runs, in seconds."""
-    return best_in_turn([command], 3)[0]
+    return min(seconds(command) for _ in range(3))
 
 
-def best_in_turn(commands: list[list[str]], rounds: int, made: list[pathlib.Path] | None = None) -> list[float]:
-    """The least time of each command, in seconds. Each round runs all of them, so that a busy moment meets them alike, and begins
-    without the files that they make: a file system may take longer to close one that was there before."""
+def best_in_turn(commands: list[tuple[list[str], pathlib.Path]], rounds: int) -> list[float]:
+    """The least time of each command, in seconds. Each round runs all of them, so that a busy moment meets them alike, and each run
+    begins without the file that it makes: a file system may take longer to close one that was there before."""
     times: list[list[float]] = [[] for _ in commands]
     for _ in range(rounds):
-        for file in made or []:
-            file.unlink(missing_ok=True)
-        for command, taken in zip(commands, times):
-            start = time.perf_counter()
-            subprocess.run(command, check=True, stdout=subprocess.DEVNULL)
-            taken.append(time.perf_counter() - start)
+        for (command, made), taken in zip(commands, times):
+            made.unlink(missing_ok=True)
+            taken.append(seconds(command))
     return [min(taken) for taken in times]
 
 

@@ -17,7 +17,7 @@ use clap::error::ErrorKind;
 use dp_check::Checked;
 use dp_lang::assemble;
 use dp_model::Entry;
-use dp_pcap::{OfBuffered, OfWrite};
+use dp_pcap::{OfBufReader, OfBufWriter};
 use dp_pipe::{How, PipeError, Pipeline};
 use fault::{DONE, FAULT, Fault, USAGE, tell, tell_fault, tell_unloaded};
 use files::ReadFault;
@@ -180,8 +180,8 @@ fn run_files<R: Files + Print, E: io::Write>(
     let Ok(writer) = BufWriter::with_capacity(alloc, BUFFER, target) else {
         return tell_fault(err, Fault::Memory);
     };
-    let mut feed = OfBuffered::new(reader);
-    let mut sink = OfWrite::new(writer);
+    let mut feed = OfBufReader::new(reader);
+    let mut sink = OfBufWriter::new(writer);
     let status = one_run(
         alloc,
         checked,

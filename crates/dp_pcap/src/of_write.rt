@@ -8,8 +8,8 @@ use std::io::Write;
 /// that are not empty. It is not asked again.
 #[derive(Drop)]
 pub struct OfWrite<W> {
-    inner: W,
-    health: Health,
+    pub(crate) inner: W,
+    pub(crate) health: Health,
 }
 
 impl<W: Write> OfWrite<W> {
@@ -45,6 +45,7 @@ impl<W: Write> Sink for OfWrite<W> {
 
     ghost contents = { λ d. W.contents d.inner };
 
+    #[inline(always)]
     fn push(&mut self, bytes: &[u8]) -> Result<usize, Failed> {
         self.health.call();
         if self.health.is_broken() {

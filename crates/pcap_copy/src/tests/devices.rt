@@ -1,11 +1,11 @@
 //! How often devices are called, and what they are asked behind a failure.
 use super::{MICRO_HEADER, NANO_HEADER, ROOM, copied, hundred_bytes, next};
 use dp_pcap::{
-    Failed, Feed, Next, OfBuffered, OfRead, OfWrite, PcapError, Sink, Time, Unit, put_header,
-    read_header,
+    Failed, Feed, Next, OfBufReader, OfBufWriter, OfRead, OfWrite, PcapError, Sink, Time, Unit,
+    put_header, read_header,
 };
 use std::io;
-use std::io::{BufReader, Read, Write};
+use std::io::{BufReader, BufWriter, Read, Write};
 use std::process::Abort;
 use std::test::Fail;
 
@@ -115,7 +115,7 @@ fn a_failed_reader_is_left_alone(rt: HostRuntime) -> Result<(), Fail> {
 #[test]
 fn a_failed_reader_behind_a_buffer_is_left_alone(rt: HostRuntime) -> Result<(), Fail> {
     let inner = BufReader::with_capacity(rt.alloc(), 64, FailsOnce { count: 0 })?;
-    let mut r = OfBuffered::new(inner);
+    let mut r = OfBufReader::new(inner);
     assert_eq!(rt; read_header(&mut r).err(), Some(PcapError::Read));
     assert_eq!(rt; read_header(&mut r).err(), Some(PcapError::Read));
     let FailsOnce { count } = r.into_inner().into_inner();
@@ -125,20 +125,23 @@ fn a_failed_reader_behind_a_buffer_is_left_alone(rt: HostRuntime) -> Result<(), 
 
 // Buffers that end in every place of a header, of a record's head and of its bytes.
 #[test]
-fn a_buffer_of_any_room_gives_the_same(rt: HostRuntime) -> Result<(), Fail> {
+fn buffers_of_any_room_change_nothing(rt: HostRuntime) -> Result<(), Fail> {
     let bytes = hundred_bytes(rt.alloc())?;
     let mut buf = vec![in rt.alloc(); 0u8; ROOM]?;
     for room in 0..102usize {
-        let inner = BufReader::with_capacity(rt.alloc(), room, bytes.as_slice())?;
-        let mut r = OfBuffered::new(inner);
-        let mut w = OfWrite::new(Vec::new(rt.alloc()));
+        let reader = BufReader::with_capacity(rt.alloc(), room, bytes.as_slice())?;
+        let mut r = OfBufReader::new(reader);
+        let writer = BufWriter::with_capacity(rt.alloc(), room, Vec::new(rt.alloc()))?;
+        let mut w = OfBufWriter::new(writer);
         assert_eq!(rt; copied(&rt, &mut r, &mut w, &mut buf), Ok(None), "{room}");
-        assert_eq!(rt; w.into_inner().as_slice(), bytes.as_slice(), "{room}");
         let left = r.into_inner();
         assert!(rt;
             left.buffer().is_empty() && left.get_ref().is_empty(),
             "{room}"
         );
+        let mut held = w.into_inner();
+        held.flush()?;
+        assert_eq!(rt; held.get_ref().as_slice(), bytes.as_slice(), "{room}");
     }
     Ok(())
 }

@@ -1,8 +1,8 @@
 //! What is written of captures.
 use super::{MICRO_HEADER, NANO_HEADER, ROOM, copied, hundred_bytes};
 use dp_pcap::{
-    FailingSink, OfBuffered, OfRead, OfWrite, PcapError, Time, Unit, put_bytes, put_head,
-    put_header, put_record,
+    FailingSink, OfBufReader, OfBufWriter, OfRead, OfWrite, PcapError, Time, Unit, put_bytes,
+    put_head, put_header, put_record,
 };
 use std::fs;
 use std::io::{BufReader, BufWriter, Read, Write};
@@ -125,9 +125,9 @@ fn copies_files(rt: HostRuntime) -> Result<(), Fail> {
     let written = fs::read(&rt, "pcap_copy_out")?;
     assert_eq!(rt; written.as_slice(), bytes.as_slice());
     let file = fs::open(&rt, "pcap_copy_in")?;
-    let mut r = OfBuffered::new(BufReader::new(rt.alloc(), file)?);
+    let mut r = OfBufReader::new(BufReader::new(rt.alloc(), file)?);
     let file = fs::create(&rt, "pcap_copy_out")?;
-    let mut w = OfWrite::new(BufWriter::new(rt.alloc(), file)?);
+    let mut w = OfBufWriter::new(BufWriter::new(rt.alloc(), file)?);
     let answer = copied(&rt, &mut r, &mut w, &mut buf);
     assert_eq!(rt; answer, Ok(None));
     let mut inside = w.into_inner();

@@ -1,46 +1,47 @@
-use Rattle.std.proofs.Common.{◌+◌, ◌<◌, length, arith, rules, refl, append-nil, []}
-use Rattle.dp_model.specs.Packets.{packet_bytes, segment_bytes}
-use Rattle.dp_pcap.specs.Text.{head_text}
-use Rattle.dp_engine.proofs.Devices.{called_head, called_piece, called_front}
-use Rattle.dp_engine.proofs.Writing.{at_place, appends_piece, part_piece, sound_after, on_err_of}
+-- A packet of one segment.
+use Rattle.std.proofs.Common.{◌≡◌, ℕ, ◌+◌, ◌≤◌, List, [], ◌∷◌, length, Some, arith, sym, ap, refl, ◌∙◌, subst, append-nil, length-append}
+use Rattle.std.specs.Prelude.{slice_get}
+use Rattle.std.specs.Io.KnownBytes.{Appends}
+use Rattle.std.proofs.lemmas.Result.{on_err_weaker, on_ok_weaker}
+use Rattle.dp_model.specs.Buffers.{Buffers}
+use Rattle.dp_model.specs.Packets.{Packet, Segment, packet_bytes, segment_bytes}
+use Rattle.dp_pcap.specs.Text.{head_text, record_text, AppendsPart}
+use Rattle.dp_engine.proofs.Devices.{length_head}
 use Rattle.dp_engine.proofs.put.put_packet.Goals as goal
 
-pub returns-in_err-put_head-clause-counted : goal.returns-in_err-put_head-clause-counted
-returns-in_err-put_head-clause-counted g c k has =
-    called_head _ _ c.args.unit c.args.time _ _ c.in_err-put_head.ensures.counted
+-- its bytes are those of the segment
+one_segment : (buffers : Buffers) (k : Packet) (bytes : List ℕ) → length k ≡ 1 → ((s : Segment) → slice_get k 0 ≡ Some s → bytes ≡ segment_bytes buffers s) → bytes ≡ packet_bytes buffers k
+one_segment buffers [] bytes one at = absurd (omega (arith, one))
+one_segment buffers (s ∷ []) bytes one at = at s refl ∙ sym (append-nil (segment_bytes buffers s))
+one_segment buffers (s ∷ t ∷ rest) bytes one at = absurd (omega (arith, one))
 
-pub loop-index-init : goal.loop-index-init
-loop-index-init g c = record {
-  wrote = λ k has. rw (append-nil, ← c.length.ensures.value k has) c.in_ok-put_head.ensures.ok;
-  sound = search rules;
-  failures = search rules;
-  counted = λ k has. called_head _ _ c.args.unit c.args.time _ [] c.in_ok-put_head.ensures.counted;
-}
+pub segment_bytes-requires : goal.segment_bytes-requires
+segment_bytes-requires g c =
+    let (k, has, _) = c.requires.live in
+    (k, has, omega (arith, c.segments.ensures k has, c.if-segments-ne1.false))
 
-pub returns-in_err-put_bytes-clause-counted : goal.returns-in_err-put_bytes-clause-counted
-returns-in_err-put_bytes-clause-counted g c k has =
-    let lt : c.loop-index.index < length k = omega (arith, c.segments-index-end.ensures k has) in
-    let (s, here) = at_place k c.loop-index.index lt in
-    called_front _ _ (head_text c.args.unit c.args.time (length (packet_bytes (g.P.PacketLayer.store c.args.layer.now).buffers k))) (segment_bytes (g.P.PacketLayer.store c.args.layer.now).buffers) k (c.loop-index.index + 1)
-    (called_piece _ _ _ _ (segment_bytes (g.P.PacketLayer.store c.args.layer.now).buffers) k c.loop-index.index s c.segment_bytes.result.now here (c.segment_bytes.ensures k has s here) (c.loop-index.invariant.counted k has) c.in_err-put_bytes.ensures.counted)
+pub put_record-requires-clause-len : goal.put_record-requires-clause-len
+put_record-requires-clause-len g c =
+    let (k, has, _) = c.requires.live in
+    let bytes = one_segment _ k _ (omega (arith, c.segments.ensures k has, c.if-segments-ne1.false)) (c.segment_bytes.ensures k has) in
+    omega (arith, ap length bytes, c.length-length.ensures.value k has, c.length-length.ensures.bound)
 
-pub returns-in_err-put_bytes-clause-err : goal.returns-in_err-put_bytes-clause-err
-returns-in_err-put_bytes-clause-err g c =
-    on_err_of c.from_residual-in_err-put_bytes.result (λ k has.
-    let lt : c.loop-index.index < length k = omega (arith, c.segments-index-end.ensures k has) in
-    let (s, here) = at_place k c.loop-index.index lt in
-    part_piece _ _ _ _ (segment_bytes (g.P.PacketLayer.store c.args.layer.now).buffers) k c.loop-index.index s c.segment_bytes.result.now here (c.segment_bytes.ensures k has s here) (c.loop-index.invariant.wrote k has) c.in_err-put_bytes.ensures.err)
+pub returns-clause-ok : goal.returns-clause-ok
+returns-clause-ok g c =
+    on_ok_weaker c.put_record.result (λ wrote k has.
+    subst (λ bytes. Appends (g.W.Sink.contents c.args.w.now) (g.W.Sink.contents c.put_record.new.w) (record_text c.args.unit (record { time = c.args.time; bytes = bytes })))
+    (one_segment _ k _ (omega (arith, c.segments.ensures k has, c.if-segments-ne1.false)) (c.segment_bytes.ensures k has)) wrote)
+    c.put_record.ensures.ok
 
-pub loop-index-preserved : goal.loop-index-preserved
-loop-index-preserved g c = record {
-  wrote = λ k has.
-      let lt : c.loop-index.index < length k = omega (arith, c.segments-index-end.ensures k has) in
-      let (s, here) = at_place k c.loop-index.index lt in
-      appends_piece _ _ _ _ (segment_bytes (g.P.PacketLayer.store c.args.layer.now).buffers) k c.loop-index.index s c.segment_bytes.result.now here (c.segment_bytes.ensures k has s here) (c.loop-index.invariant.wrote k has) c.in_ok-put_bytes.ensures.ok;
-  sound = sound_after g.W.Sink.is_broken c.loop-index.w c.put_bytes.new.w c.segment_bytes.result.now c.loop-index.invariant.sound (λ some. c.in_ok-put_bytes.ensures.sound some refl) c.in_ok-put_bytes.ensures.untouched;
-  failures = search rules;
-  counted = λ k has.
-      let lt : c.loop-index.index < length k = omega (arith, c.segments-index-end.ensures k has) in
-      let (s, here) = at_place k c.loop-index.index lt in
-      called_piece _ _ _ _ (segment_bytes (g.P.PacketLayer.store c.args.layer.now).buffers) k c.loop-index.index s c.segment_bytes.result.now here (c.segment_bytes.ensures k has s here) (c.loop-index.invariant.counted k has) c.in_ok-put_bytes.ensures.counted;
-}
+pub returns-clause-err : goal.returns-clause-err
+returns-clause-err g c =
+    on_err_weaker c.put_record.result (λ part k has.
+    subst (λ bytes. AppendsPart (g.W.Sink.contents c.args.w.now) (g.W.Sink.contents c.put_record.new.w) (record_text c.args.unit (record { time = c.args.time; bytes = bytes })))
+    (one_segment _ k _ (omega (arith, c.segments.ensures k has, c.if-segments-ne1.false)) (c.segment_bytes.ensures k has)) part)
+    c.put_record.ensures.err
+
+pub returns-clause-counted : goal.returns-clause-counted
+returns-clause-counted g c k has =
+    let bytes = one_segment _ k _ (omega (arith, c.segments.ensures k has, c.if-segments-ne1.false)) (c.segment_bytes.ensures k has) in
+    subst (λ bytes. g.W.Sink.calls c.put_record.new.w ≤ g.W.Sink.calls c.args.w.now + length (record_text c.args.unit (record { time = c.args.time; bytes = bytes }))) bytes
+    (omega (arith, c.put_record.ensures.counted, length_head c.args.unit c.args.time (length c.segment_bytes.result.now), length-append (head_text c.args.unit c.args.time (length c.segment_bytes.result.now)) c.segment_bytes.result.now))

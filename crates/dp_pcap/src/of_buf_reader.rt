@@ -6,34 +6,34 @@ use std::io::{BufRead, BufReader, Read};
 
 /// A buffered reader as a [`Feed`], as [`OfRead`] is. What the buffer holds is copied from there at once.
 #[derive(Drop)]
-pub struct OfBuffered<R> {
+pub struct OfBufReader<R> {
     feed: OfRead<BufReader<R>>,
 }
 
-impl<R: Read> OfBuffered<R> {
+impl<R: Read> OfBufReader<R> {
     ghost use Rattle.dp_pcap.specs.Health.{fresh};
-    ghost use Rattle.dp_pcap.specs.OfStd.{buffered_inside, buffered_health};
+    ghost use Rattle.dp_pcap.specs.OfStd.{buffered_reader, buffered_feed_health};
 
     /// Takes a reader.
-    pub fn new(inner: BufReader<R>) -> OfBuffered<R>
-        ensures inner { buffered_inside result ≡ inner }
-        ensures health { buffered_health result ≡ fresh }
+    pub fn new(inner: BufReader<R>) -> OfBufReader<R>
+        ensures inner { buffered_reader result ≡ inner }
+        ensures health { buffered_feed_health result ≡ fresh }
     {
-        OfBuffered {
+        OfBufReader {
             feed: OfRead::new(inner),
         }
     }
 
     /// Gives the reader back.
     pub fn into_inner(self) -> BufReader<R>
-        ensures { result ≡ buffered_inside self }
+        ensures { result ≡ buffered_reader self }
     {
-        let OfBuffered { feed } = self;
+        let OfBufReader { feed } = self;
         feed.into_inner()
     }
 }
 
-impl<R: Read> Feed for OfBuffered<R> {
+impl<R: Read> Feed for OfBufReader<R> {
     ghost use Rattle.std.specs.Io.Buffered.{reader_remaining};
 
     ghost is_broken = { λ d. d.feed.health.is_broken };

@@ -4,7 +4,7 @@ use Rattle.std.specs.Io.KnownBytes.{Appends}
 use Rattle.dp_pcap.specs.Text.{head_text}
 use Rattle.dp_model.specs.Packets.{packet_bytes, segment_bytes}
 use Rattle.dp_model.specs.Stores.{Of}
-use Rattle.dp_engine.proofs.put.put_packet.Given as goal
+use Rattle.dp_engine.proofs.put.put_segments.Given as goal
 
 abbrev pub invariant-loop-index : goal.invariant-loop-index
 invariant-loop-index g l = record {

@@ -3,7 +3,7 @@ use Rattle.std.proofs.lemmas.List.{take-append-le, take-append-drop}
 use Rattle.std.proofs.Math.Seq.{take-length}
 use Rattle.std.specs.Prelude.{IfSome}
 use Rattle.std.specs.Io.KnownBytes.{Consumes, prepend_known}
-use Rattle.dp_pcap.proofs.of_buffered.OfBufferedFeed.pull.Goals as goal
+use Rattle.dp_pcap.proofs.of_buf_reader.OfBufReaderFeed.pull.Goals as goal
 
 -- what a buffer gives is the front of the bytes that are left
 held-Consumes : (is_empty : Bool) (known new : Option (List ℕ)) (held given : List ℕ) (n : ℕ) → n ≤ length held → given ≡ take n held → length given ≡ n

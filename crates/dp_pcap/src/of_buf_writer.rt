@@ -1,0 +1,72 @@
+//! A sink made of a buffered writer of std.
+ghost use Rattle.std.specs.Prelude.{◌≡◌, ◌+◌, ◌<◌, ◌≤◌, ◌↔◌, length, IfOk, IsErr, IsTrue, MatchResult};
+ghost use Rattle.std.specs.Io.KnownBytes.{WriteAppends};
+
+use crate::{Failed, OfWrite, Sink};
+use std::io::{BufWriter, Write};
+
+/// A buffered writer as a [`Sink`], as [`OfWrite`] is. Bytes that fit into its buffer go there at once.
+#[derive(Drop)]
+pub struct OfBufWriter<W: Write + Drop> {
+    sink: OfWrite<BufWriter<W>>,
+}
+
+impl<W: Write + Drop> OfBufWriter<W> {
+    ghost use Rattle.dp_pcap.specs.Health.{fresh};
+    ghost use Rattle.dp_pcap.specs.OfStd.{buffered_writer, buffered_sink_health};
+
+    /// Takes a writer.
+    pub fn new(inner: BufWriter<W>) -> OfBufWriter<W>
+        ensures inner { buffered_writer result ≡ inner }
+        ensures health { buffered_sink_health result ≡ fresh }
+    {
+        OfBufWriter {
+            sink: OfWrite::new(inner),
+        }
+    }
+
+    /// Gives the writer back. It is not flushed.
+    pub fn into_inner(self) -> BufWriter<W>
+        ensures { result ≡ buffered_writer self }
+    {
+        let OfBufWriter { sink } = self;
+        sink.into_inner()
+    }
+}
+
+impl<W: Write + Drop> Sink for OfBufWriter<W> {
+    ghost use Rattle.std.specs.Io.Buffered.{writer_contents};
+
+    ghost is_broken = { λ d. d.sink.health.is_broken };
+
+    ghost calls = { λ d. d.sink.health.calls };
+
+    ghost failures = { λ d. d.sink.health.failures };
+
+    ghost contents = { λ d. writer_contents W.contents d.sink.inner };
+
+    #[inline(always)]
+    fn push(&mut self, bytes: &[u8]) -> Result<usize, Failed> {
+        let held = self.sink.inner.buffer().len();
+        if bytes.len() < self.sink.inner.capacity().wrapping_sub(held) {
+            self.sink.push(bytes)
+        } else {
+            push_past(&mut self.sink, bytes)
+        }
+    }
+}
+
+// Past what the buffer has room for.
+#[cold]
+#[inline(never)]
+fn push_past<S: Sink>(sink: &mut S, bytes: &[u8]) -> Result<usize, Failed>
+    ensures bound { IfOk result (λ n. n ≤ length bytes.now) }
+    ensures some { IfOk result (λ n. 0 < length bytes.now → 0 < n) }
+    ensures bytes { WriteAppends (S.contents sink.old) (S.contents sink.new) result bytes.now }
+    ensures failed { IsErr result ↔ IsTrue (S.is_broken sink.new) }
+    ensures stays { IsTrue (S.is_broken sink.old) → IsTrue (S.is_broken sink.new) }
+    ensures counted { S.calls sink.new ≡ S.calls sink.old + 1 }
+    ensures failures { MatchResult result (λ _. S.failures sink.new ≡ S.failures sink.old) (λ _. S.failures sink.new ≡ S.failures sink.old + 1) }
+{
+    sink.push(bytes)
+}
