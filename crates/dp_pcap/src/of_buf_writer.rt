@@ -47,6 +47,7 @@ impl<W: Write + Drop> Sink for OfBufWriter<W> {
 
     #[inline(always)]
     fn push(&mut self, bytes: &[u8]) -> Result<usize, Failed> {
+        // It holds no more than its capacity, so nothing wraps. Asked first, so that what fits cannot fail.
         let held = self.sink.inner.buffer().len();
         if bytes.len() < self.sink.inner.capacity().wrapping_sub(held) {
             self.sink.push(bytes)
