@@ -49,18 +49,21 @@ impl<W: Write + Drop> Sink for OfBufWriter<W> {
     fn push(&mut self, bytes: &[u8]) -> Result<usize, Failed> {
         // It holds no more than its capacity, so nothing wraps. Asked first, so that what fits cannot fail.
         let held = self.sink.inner.buffer().len();
-        if bytes.len() < self.sink.inner.capacity().wrapping_sub(held) {
+        let spare = self.sink.inner.capacity().wrapping_sub(held);
+        if bytes.len() < spare {
             self.sink.push(bytes)
         } else {
-            push_past(&mut self.sink, bytes)
+            push_past(&mut self.sink, bytes, spare)
         }
     }
 }
 
-// Past what the buffer has room for.
+// Past what the buffer has room for: as many bytes as fill it, or all where it is full. So what is inside is given whole buffers,
+// and a file that is written from its start has each of them at a multiple of its size.
 #[cold]
 #[inline(never)]
-fn push_past<S: Sink>(sink: &mut S, bytes: &[u8]) -> Result<usize, Failed>
+fn push_past<S: Sink>(sink: &mut S, bytes: &[u8], spare: usize) -> Result<usize, Failed>
+    requires room { spare ≤ length bytes.now }
     ensures bound { IfOk result (λ n. n ≤ length bytes.now) }
     ensures some { IfOk result (λ n. 0 < length bytes.now → 0 < n) }
     ensures bytes { WriteAppends (S.contents sink.old) (S.contents sink.new) result bytes.now }
@@ -69,5 +72,8 @@ fn push_past<S: Sink>(sink: &mut S, bytes: &[u8]) -> Result<usize, Failed>
     ensures counted { S.calls sink.new ≡ S.calls sink.old + 1 }
     ensures failures { MatchResult result (λ _. S.failures sink.new ≡ S.failures sink.old) (λ _. S.failures sink.new ≡ S.failures sink.old + 1) }
 {
-    sink.push(bytes)
+    if spare == 0 {
+        return sink.push(bytes);
+    }
+    sink.push(&bytes[..spare])
 }
