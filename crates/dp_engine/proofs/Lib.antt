@@ -19,3 +19,4 @@ pub mod Filling
 pub mod Opened
 pub mod Opening
 pub mod Ones
+pub mod Lending

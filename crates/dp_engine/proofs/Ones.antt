@@ -289,7 +289,7 @@ header_failed e a b c d source unit one read same wrote = (
   inl (refl, refl, wrote),
 )
 
-pub refused : (e e' : EngineState) (a b b' c d : Option (List ℕ)) (old new : Standing) (unit : TimeUnit) (buf : List ℕ) (error : PcapError) (pulls pulls' pushes pushes' : ℕ) → Going e e' a b c d old unit pulls pulls' pushes pushes'
+refused : (e e' : EngineState) (a b b' c d : Option (List ℕ)) (old new : Standing) (unit : TimeUnit) (buf : List ℕ) (error : PcapError) (pulls pulls' pushes pushes' : ℕ) → Going e e' a b c d old unit pulls pulls' pushes pushes'
     → WhereKnown b b' (λ left rest. Continues old new left rest buf (Err error)) → IsInRange old (Err error) → IsRun e e' a b' c d (Err (In error))
 refused e e' a b b' c d old new unit buf BadTime pulls pulls' pushes pushes' going more fits =
     inr (unit, going.packets, going.sent, going.outcomes, known_joined a b b' _ _ _ going.read more (λ x y z had goes. rw (← going.same_unit) (goes x going.packets had)), going.runs, going.tallied, going.wrote)
@@ -304,6 +304,12 @@ refused e e' a b b' c d old new unit buf BadVersion pulls pulls' pushes pushes' 
 refused e e' a b b' c d old new unit buf BadLink pulls pulls' pushes pushes' going more fits = absurd fits
 refused e e' a b b' c d old new unit buf ShortHeader pulls pulls' pushes pushes' going more fits = absurd fits
 refused e e' a b b' c d old new unit buf Write pulls pulls' pushes pushes' going more fits = absurd fits
+
+-- the engine is as it was
+pub refused_after : (e e' e2 : EngineState) (a b b' c d : Option (List ℕ)) (old new : Standing) (unit : TimeUnit) (buf : List ℕ) (error : PcapError) (pulls pulls' pushes pushes' : ℕ) → e2 ≡ e' → Going e e' a b c d old unit pulls pulls' pushes pushes'
+    → WhereKnown b b' (λ left rest. Continues old new left rest buf (Err error)) → IsInRange old (Err error) → IsRun e e2 a b' c d (Err (In error))
+refused_after e e' e2 a b b' c d old new unit buf error pulls pulls' pushes pushes' same going more fits =
+    subst (λ (x : EngineState). IsRun e x a b' c d (Err (In error))) (sym same) (refused e e' a b b' c d old new unit buf error pulls pulls' pushes pushes' going more fits)
 
 -- ---- how often the devices were called
 

@@ -1,18 +1,21 @@
 -- A run of one port, from a capture to a capture.
-use Rattle.std.specs.Prelude.{◌≡◌, ℕ, Bool, List, [], ◌∷◌, ◌++◌, length, map, take, slice_get, Option, None, Some, Result, Ok, Err, ◌⊎◌}
+use Rattle.std.specs.Prelude.{◌≡◌, ℕ, Bool, List, [], ◌∷◌, ◌++◌, ◌+◌, ◌≤◌, length, map, take, slice_get, Option, None, Some, Result, Ok, Err, ◌⊎◌}
 use Rattle.std.specs.Io.KnownBytes.{Appends, Keeps}
 use Rattle.dp_pcap.specs.declared.time.Time.{Time}
 use Rattle.dp_pcap.specs.declared.time.Unit.{Unit as TimeUnit}
+use Rattle.dp_pcap.specs.declared.error.PcapError.{PcapError}
 use Rattle.dp_pcap.specs.declared.error.PcapError.TheVariants.{Read}
+use Rattle.dp_pcap.specs.declared.source.Next.{Next}
+use Rattle.dp_pcap.specs.declared.source.Next.TheVariants.{Record}
 use Rattle.dp_pcap.specs.Standing.{Standing}
 use Rattle.dp_pcap.specs.Capture.{PacketRecord, Ending, IsCapture, HasBadHeader}
 use Rattle.dp_pcap.specs.Capture as capture
-use Rattle.dp_pcap.specs.Source.{WhereKnown, HasRead}
+use Rattle.dp_pcap.specs.Source.{WhereKnown, HasRead, Continues}
 use Rattle.dp_pcap.specs.Text.{text, header_text, record_text, AppendsPart}
 use Rattle.dp_model.specs.Environments.{Environment}
 use Rattle.dp_model.specs.Rules.{Question}
 use Rattle.dp_model.specs.Machine.{World}
-use Rattle.dp_model.specs.Runs.{Arrival, Outcome, Run, NeverStuck}
+use Rattle.dp_model.specs.Runs.{Arrival, Outcome, Turn, Run, NeverStuck}
 use Rattle.dp_model.specs.Safety.{Beginning, IsOfRun}
 use Rattle.dp_engine.specs.declared.report.InputState.{InputState}
 use Rattle.dp_engine.specs.declared.report.InputState.TheVariants.{Open, Whole, Cut}
@@ -22,7 +25,7 @@ use Rattle.dp_engine.specs.declared.one.OneCause.TheVariants.{Memory, In, Out}
 use Rattle.dp_engine.specs.declared.one.OneFault.{OneFault}
 use Rattle.dp_engine.specs.Drains.{captured, emptied}
 use Rattle.dp_engine.specs.Reports.{IsReport, IsUnopened, IsWhole}
-use Rattle.dp_engine.specs.Tallies.{Tallied}
+use Rattle.dp_engine.specs.Tallies.{Tallied, counted}
 use Rattle.dp_engine.specs.Turns.{EngineState, IsOpened}
 
 abbrev pub arrival_of : PacketRecord → Arrival Time
@@ -53,6 +56,27 @@ abbrev pub StopsIn : Option (List ℕ) → Option (List ℕ) → TimeUnit → Li
 StopsIn c d unit sent whole =
     ((sent ≡ []) × (whole ≡ 0) × AppendsPart c d (header_text unit))
     ⊎ ((next : PacketRecord) × (slice_get sent whole ≡ Some next) × AppendsPart c d (text unit (take whole sent) ++ record_text unit next))
+
+-- a turn with these bytes at the only port
+pub record TakesTurn (e e' : EngineState) (bytes : List ℕ) : Type 0 where
+  pub outcome : Outcome
+  pub runs : ℕ
+  pub told : List Bool
+  pub turn : Turn e.setting e.nodes 0 bytes e.world outcome runs told e'.world
+  pub tallies : e'.tallies ≡ counted outcome e.tallies
+  pub turns : e'.turns ≡ e.turns + 1
+  pub setting : e'.setting ≡ e.setting
+  pub nodes : e'.nodes ≡ e.nodes
+
+-- behind a record there was a turn with its bytes, and behind anything else none
+abbrev pub TurnsOn : EngineState → EngineState → List ℕ → Result Next PcapError → Type 0
+TurnsOn e e' bytes (Ok (Record time len)) = (len ≤ length bytes) × TakesTurn e e' (take len bytes)
+TurnsOn e e' bytes answer = e' ≡ e
+
+-- what comes next in a capture was read, and where it is a record a turn was taken
+abbrev pub ReadsTurn : EngineState → EngineState → Standing → Standing → Option (List ℕ) → Option (List ℕ) → Result Next PcapError → Type 0
+ReadsTurn e e' source source' a b answer =
+    (bytes : List ℕ) × WhereKnown a b (λ left rest. Continues source source' left rest bytes answer) × TurnsOn e e' bytes answer
 
 -- from an engine to an engine, with the bytes that a reader had left and has left, and those that a writer held and holds
 abbrev pub IsRun : EngineState → EngineState → Option (List ℕ) → Option (List ℕ) → Option (List ℕ) → Option (List ℕ) → Result (Option ℕ) OneCause → Type 0

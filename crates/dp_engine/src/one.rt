@@ -1,8 +1,9 @@
 //! A run of one port, from a capture to a capture.
-ghost use Rattle.std.specs.Prelude.{◌≡◌, ℕ, ◌+◌, ◌^◌, ◌<◌, ◌≤◌, ◌↔◌, ◌⊎◌, MatchResult, false, [], length, IsOk, IsErr, IsErrOf, IfErr, IsTrue};
+ghost use Rattle.std.specs.Prelude.{◌≡◌, ℕ, ◌+◌, ◌^◌, ◌<◌, ◌≤◌, ◌↔◌, ◌⊎◌, MatchResult, true, false, [], length, take, IsOk, IsErr, IsErrOf, IfErr, IsTrue};
 ghost use Rattle.dp_model.specs.Machine.{live};
 ghost use Rattle.dp_model.specs.Runs.{between};
-ghost use Rattle.dp_engine.specs.Ones.{IsRun, OneAnswers, AllFree, state_of};
+ghost use Rattle.dp_pcap.specs.Source.{body_in, IsInRange, Moves, most_pulls, failed_pulls};
+ghost use Rattle.dp_engine.specs.Ones.{IsRun, ReadsTurn, OneAnswers, AllFree, state_of};
 ghost use Rattle.dp_engine.specs.Devices.{IsCalledIn, OneCalls, failed_reads, failed_writes, looks};
 ghost use Rattle.dp_engine.specs.Reports.{IsUnopened};
 ghost use Rattle.dp_engine.specs.Turns.{IsPlainSetup};
@@ -13,7 +14,10 @@ use crate::report::{InputState, PoolReport, PortReport, Report};
 use arrayvec::ArrayVec;
 use dp_check::Checked;
 use dp_model::{Entry, Env, PacketLayer};
-use dp_pcap::{Feed, Next, PcapError, Sink, next_record, put_header, read_header};
+use dp_pcap::{
+    Feed, Next, PcapError, Sink, Source, next_record, pass_record, put_header, read_header,
+    record_at_hand,
+};
 use std::alloc::Global;
 
 /// Why a run stopped.
@@ -34,6 +38,55 @@ pub struct OneFault {
     pub cause: OneCause,
     /// Its numbers until then, in which every buffer is free and the input is open.
     pub report: Report,
+}
+
+// The bytes of a record: those that the reader has at hand, or those in the buffer.
+#[inline(always)]
+fn bytes_of<'a, R: Feed>(r: &'a R, buf: &'a [u8], is_held: bool, len: usize) -> &'a [u8]
+    requires held { IsTrue is_held → 16 + len ≤ length (R.at_hand r.now) }
+    requires copied { is_held ≡ false → len ≤ length buf.now }
+    ensures held { IsTrue is_held → (result.now ≡ body_in (R.at_hand r.now) len) × (R.is_broken r.now ≡ false) }
+    ensures copied { is_held ≡ false → result.now ≡ take len buf.now }
+{
+    if is_held {
+        &r.held()[16..16 + len]
+    } else {
+        &buf[..len]
+    }
+}
+
+// Reads what comes next and, where it is a record, takes a turn with it. Mostly the reader has it at hand, and the mbuf's is
+// the only copy of its bytes.
+#[inline(always)]
+fn next_turn<P: PacketLayer, R: Feed>(
+    engine: &mut Engine<P>,
+    r: &mut R,
+    source: &mut Source,
+    buf: &mut [u8],
+) -> Result<Next, PcapError>
+    requires buf { 262144 ≤ length buf.old }
+    requires one { length engine.old.setting.env.ports ≡ 1 }
+    requires limit { engine.old.turns ≤ source.old.given }
+    requires open { source.old.is_open ≡ true }
+    ensures turn { ReadsTurn engine.old engine.new source.old source.new (R.remaining r.old) (R.remaining r.new) result }
+    ensures in_range { IsInRange source.old result }
+    ensures source { Moves source.old source.new result }
+    ensures failed { IsErrOf result PcapError.Read ↔ IsTrue (R.is_broken r.new) }
+    ensures counted { R.calls r.new ≤ R.calls r.old + most_pulls result }
+    ensures failures { R.failures r.new ≡ R.failures r.old + failed_pulls result }
+{
+    let (time, len, is_held) = match record_at_hand(r, source) {
+        Some((time, len)) => (time, len, true),
+        None => match next_record(r, source, buf) {
+            Ok(Next::Record(time, len)) => (time, len, false),
+            other => return other,
+        },
+    };
+    let _turn = engine.turn(0, bytes_of(r, buf, is_held, len));
+    if is_held {
+        pass_record(r, source, len);
+    }
+    Ok(Next::Record(time, len))
 }
 
 // Reads a capture, takes a turn and a drain for each record, and says where the capture is cut, if it is.
@@ -64,9 +117,8 @@ pub(crate) fn run_records<P: PacketLayer, R: Feed, W: Sink>(
         return Err(OneCause::Out);
     }
     loop {
-        match next_record(r, &mut source, buf) {
-            Ok(Next::Record(time, len)) => {
-                let _turn = engine.turn(0, &buf[..len]);
+        match next_turn(engine, r, &mut source, buf) {
+            Ok(Next::Record(time, _)) => {
                 if engine.drain(0, time, unit, w).is_err() {
                     return Err(OneCause::Out);
                 }

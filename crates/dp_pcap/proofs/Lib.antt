@@ -1,3 +1,4 @@
+pub mod AtHand
 pub mod CountLemmas
 pub mod Fills
 pub mod Pieces

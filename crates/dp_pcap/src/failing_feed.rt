@@ -43,7 +43,7 @@ impl<F: Feed> FailingFeed<F> {
 }
 
 impl<F: Feed> Feed for FailingFeed<F> {
-    ghost use Rattle.std.specs.Prelude.{◌≡◌, ◌+◌, ◌≤◌, ◌↔◌, ◌⊎◌, take, length, IfOk, IsErr, IsTrue, OnErr, MatchResult};
+    ghost use Rattle.std.specs.Prelude.{◌≡◌, ◌+◌, ◌≤◌, ◌↔◌, ◌⊎◌, [], take, length, IfOk, IsErr, IsTrue, OnErr, MatchResult};
     ghost use Rattle.std.specs.Option.{option_map};
     ghost use Rattle.std.specs.Io.KnownBytes.{ReadConsumes};
     ghost use Rattle.dp_pcap.specs.Failing.{feed_inside, bytes_to_give, feed_health};
@@ -55,6 +55,17 @@ impl<F: Feed> Feed for FailingFeed<F> {
     ghost failures = { λ d. d.health.failures };
 
     ghost remaining = { λ d. option_map (take d.left) (F.remaining d.inner) };
+
+    ghost at_hand = { λ d. [] };
+
+    /// It has nothing at hand, so each byte is asked of it.
+    fn held(&self) -> &[u8] {
+        &[]
+    }
+
+    fn pass(&mut self, n: usize) {
+        let _none = n;
+    }
 
     /// Fails only where it was broken, where no byte may come any more, or where the feed inside failed.
     fn pull(&mut self, buf: &mut [u8]) -> Result<usize, Failed>

@@ -4,7 +4,7 @@ ghost use Rattle.std.specs.Prelude.{◌≡◌};
 use crate::{Failed, Feed, OfRead};
 use std::io::{BufRead, BufReader, Read};
 
-/// A buffered reader as a [`Feed`], as [`OfRead`] is. What the buffer holds is copied from there at once.
+/// A buffered reader as a [`Feed`], as [`OfRead`] is. What its buffer holds is at hand, and is copied from there at once.
 #[derive(Drop)]
 pub struct OfBufReader<R> {
     feed: OfRead<BufReader<R>>,
@@ -34,7 +34,8 @@ impl<R: Read> OfBufReader<R> {
 }
 
 impl<R: Read> Feed for OfBufReader<R> {
-    ghost use Rattle.std.specs.Io.Buffered.{reader_remaining};
+    ghost use Rattle.std.specs.Prelude.{[], if◌then◌else◌};
+    ghost use Rattle.std.specs.Io.Buffered.{reader_remaining, reader_buffer};
 
     ghost is_broken = { λ d. d.feed.health.is_broken };
 
@@ -43,6 +44,21 @@ impl<R: Read> Feed for OfBufReader<R> {
     ghost failures = { λ d. d.feed.health.failures };
 
     ghost remaining = { λ d. reader_remaining R.remaining d.feed.inner };
+
+    ghost at_hand = { λ d. if d.feed.health.is_broken then [] else reader_buffer d.feed.inner };
+
+    #[inline(always)]
+    fn held(&self) -> &[u8] {
+        if self.feed.health.is_broken() {
+            return &[];
+        }
+        self.feed.inner.buffer()
+    }
+
+    #[inline(always)]
+    fn pass(&mut self, n: usize) {
+        self.feed.inner.consume(n);
+    }
 
     #[inline(always)]
     fn pull(&mut self, buf: &mut [u8]) -> Result<usize, Failed> {

@@ -37,6 +37,8 @@ impl<R: Read> OfRead<R> {
 }
 
 impl<R: Read> Feed for OfRead<R> {
+    ghost use Rattle.std.specs.Prelude.{[]};
+
     ghost is_broken = { λ d. d.health.is_broken };
 
     ghost calls = { λ d. d.health.calls };
@@ -44,6 +46,16 @@ impl<R: Read> Feed for OfRead<R> {
     ghost failures = { λ d. d.health.failures };
 
     ghost remaining = { λ d. R.remaining d.inner };
+
+    ghost at_hand = { λ d. [] };
+
+    fn held(&self) -> &[u8] {
+        &[]
+    }
+
+    fn pass(&mut self, n: usize) {
+        let _none = n;
+    }
 
     fn pull(&mut self, buf: &mut [u8]) -> Result<usize, Failed> {
         self.health.call();

@@ -2,7 +2,8 @@
 
 use crate::given::{HEADER, capture, checked, one_port, run, says};
 use dp_engine::{InputState, OneCause, run_one};
-use dp_pcap::{FailingSink, OfRead, OfWrite, PcapError};
+use dp_pcap::{FailingSink, OfBufReader, OfRead, OfWrite, PcapError};
+use std::io::BufReader;
 use std::test::Fail;
 
 // Cuts 14 bytes off, and drops what is shorter.
@@ -26,6 +27,27 @@ fn fourteen_bytes_are_cut_off(rt: HostRuntime) -> Result<(), Fail> {
     wanted.extend_from_slice(&RECORD[14..])?;
     assert!(rt; ran.output == wanted);
     assert!(rt; says(&ran.report, 1, 1, 64, 1, 0));
+    Ok(())
+}
+
+// A record that its reader has at hand is received from there, and any other by way of a buffer.
+#[test]
+fn a_reader_of_any_room_changes_nothing(rt: HostRuntime) -> Result<(), Fail> {
+    let env = one_port(64, 32)?;
+    let records: [&[u8]; 3] = [&RECORD, &RECORD[..13], &RECORD];
+    let wanted = run(&rt, &env, STRIP, &records)?;
+    let input = capture(&rt, &records)?;
+    for room in [0, 16, 75, 76, 100, 110, 205, 4096] {
+        let checked = checked(&rt, STRIP, &env)?;
+        let reader = BufReader::with_capacity(rt.alloc(), room, input.as_slice())?;
+        let mut r = OfBufReader::new(reader);
+        let mut w = OfWrite::new(Vec::new(rt.alloc()));
+        let Ok(report) = run_one(rt.alloc(), &env, checked, &mut r, &mut w) else {
+            return Err(Fail::from("stopped"));
+        };
+        assert!(rt; w.into_inner() == wanted.output, "{room}");
+        assert!(rt; says(&report, 3, 2, 64, 3, 0), "{room}");
+    }
     Ok(())
 }
 

@@ -1,9 +1,10 @@
 //! How often devices are called, and what they are asked behind a failure.
 use super::{MICRO_HEADER, NANO_HEADER, ROOM, copied, hundred_bytes, next};
 use dp_pcap::{
-    Failed, Feed, Next, OfBufReader, OfBufWriter, OfRead, OfWrite, PcapError, Sink, Time, Unit,
-    put_header, read_header,
+    Failed, FailingFeed, Feed, Next, OfBufReader, OfBufWriter, OfRead, OfWrite, PcapError, Sink,
+    Time, Unit, pass_record, put_header, read_header, record_at_hand,
 };
+use std::alloc::{AllocError, Global};
 use std::io;
 use std::io::{BufReader, BufWriter, Read, Write};
 use std::process::Abort;
@@ -24,6 +25,16 @@ impl<F: Feed> Feed for Counting<F> {
     ghost failures = { λ d. F.failures d.inner };
 
     ghost remaining = { λ d. F.remaining d.inner };
+
+    ghost at_hand = { λ d. F.at_hand d.inner };
+
+    fn held(&self) -> &[u8] {
+        self.inner.held()
+    }
+
+    fn pass(&mut self, n: usize) {
+        self.inner.pass(n);
+    }
 
     fn pull(&mut self, buf: &mut [u8]) -> Result<usize, Failed> {
         self.count = self.count.wrapping_add(1);
@@ -46,16 +57,86 @@ impl<S: Sink> Sink for Counting<S> {
     }
 }
 
-// Records of 14, 0 and 60 bytes, from a reader that gives all it is asked for.
-#[test]
-fn a_call_a_piece(rt: HostRuntime) -> Result<(), Fail> {
-    let mut bytes = NANO_HEADER.to_vec(rt.alloc())?;
+// A capture of 146 bytes: records of 14, 0 and 60 bytes at second 0.
+fn three_records(alloc: Global) -> Result<Vec<u8>, AllocError> {
+    let mut bytes = NANO_HEADER.to_vec(alloc)?;
     for len in [14u8, 0, 60] {
         bytes.extend_from_slice(&[0, 0, 0, 0, 0, 0, 0, 0, len, 0, 0, 0, len, 0, 0, 0])?;
-        for _ in 0..len {
-            bytes.push(len)?;
+        for byte in 0..len {
+            bytes.push(byte)?;
         }
     }
+    Ok(bytes)
+}
+
+// A record that is at hand is the one that comes next, and stepping over it is no call.
+#[test]
+fn what_is_at_hand_comes_next(rt: HostRuntime) -> Result<(), Fail> {
+    let bytes = three_records(rt.alloc())?;
+    let mut buf = vec![in rt.alloc(); 0u8; ROOM]?;
+    for (room, lent) in [(0, 0), (16, 0), (54, 1), (146, 3), (200, 3)] {
+        let mut plain = OfRead::new(bytes.as_slice());
+        let mut other = read_header(&mut plain)?;
+        let inner = BufReader::with_capacity(rt.alloc(), room, bytes.as_slice())?;
+        let inner = OfBufReader::new(inner);
+        let mut r = Counting { inner, count: 0 };
+        let mut source = read_header(&mut r)?;
+        let mut seen = 0usize;
+        for _ in 0..4 {
+            let calls = r.count;
+            let comes = next(&rt, &mut plain, &mut other, &mut buf);
+            let Some((time, len)) = record_at_hand(&r, &source) else {
+                assert_eq!(rt; next(&rt, &mut r, &mut source, &mut buf), comes, "{room}");
+                continue;
+            };
+            assert_eq!(rt; Ok(Next::Record(time, len)), comes, "{room}");
+            assert!(rt; len <= buf.len(), "{room}");
+            assert_eq!(rt; &r.held()[16..16 + len], &buf[..len], "{room}");
+            pass_record(&mut r, &mut source, len);
+            assert_eq!(rt; r.count, calls, "{room}");
+            seen = seen.wrapping_add(1);
+        }
+        assert_eq!(rt; seen, lent, "{room}");
+        assert!(rt; r.held().is_empty(), "{room}");
+    }
+    Ok(())
+}
+
+// A part of a record is none, and neither is one whose head is wrong.
+#[test]
+fn nothing_else_is_at_hand(rt: HostRuntime) -> Result<(), Fail> {
+    let bytes = three_records(rt.alloc())?;
+    for (at, byte) in [(31, 255), (35, 1), (32, 255)] {
+        let mut wrong = bytes.as_slice().to_vec(rt.alloc())?;
+        assert!(rt; at < wrong.len());
+        wrong[at] = byte;
+        let inner = BufReader::with_capacity(rt.alloc(), 256, wrong.as_slice())?;
+        let mut r = OfBufReader::new(inner);
+        let source = read_header(&mut r)?;
+        assert!(rt; record_at_hand(&r, &source).is_none(), "{at}");
+        assert_eq!(rt; r.held().len(), 122, "{at}");
+    }
+    Ok(())
+}
+
+// A device that is broken or keeps nothing has nothing at hand.
+#[test]
+fn nothing_is_at_hand_without_a_buffer(rt: HostRuntime) -> Result<(), Fail> {
+    let bytes = three_records(rt.alloc())?;
+    let mut r = OfRead::new(bytes.as_slice());
+    let source = read_header(&mut r)?;
+    assert!(rt; r.held().is_empty() && record_at_hand(&r, &source).is_none());
+    let inner = BufReader::with_capacity(rt.alloc(), 256, bytes.as_slice())?;
+    let mut r = FailingFeed::new(OfBufReader::new(inner), 30);
+    let source = read_header(&mut r)?;
+    assert!(rt; r.held().is_empty() && record_at_hand(&r, &source).is_none());
+    Ok(())
+}
+
+// From a reader that gives all it is asked for.
+#[test]
+fn a_call_a_piece(rt: HostRuntime) -> Result<(), Fail> {
+    let bytes = three_records(rt.alloc())?;
     let mut buf = vec![in rt.alloc(); 0u8; ROOM]?;
     let inner = OfRead::new(bytes.as_slice());
     let mut r = Counting { inner, count: 0 };
