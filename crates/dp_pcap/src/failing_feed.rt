@@ -63,9 +63,7 @@ impl<F: Feed> Feed for FailingFeed<F> {
         &[]
     }
 
-    fn pass(&mut self, n: usize) {
-        let _none = n;
-    }
+    fn pass(&mut self, _n: usize) {}
 
     /// Fails only where it was broken, where no byte may come any more, or where the feed inside failed.
     fn pull(&mut self, buf: &mut [u8]) -> Result<usize, Failed>

@@ -65,6 +65,7 @@ impl<W: Write + Drop> Sink for OfBufWriter<W> {
 fn push_past<S: Sink>(sink: &mut S, bytes: &[u8], spare: usize) -> Result<usize, Failed>
     requires room { spare ≤ length bytes.now }
     ensures bound { IfOk result (λ n. n ≤ length bytes.now) }
+    ensures fills { IfOk result (λ n. 0 < spare → n ≤ spare) }
     ensures some { IfOk result (λ n. 0 < length bytes.now → 0 < n) }
     ensures bytes { WriteAppends (S.contents sink.old) (S.contents sink.new) result bytes.now }
     ensures failed { IsErr result ↔ IsTrue (S.is_broken sink.new) }

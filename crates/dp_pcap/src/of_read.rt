@@ -53,9 +53,7 @@ impl<R: Read> Feed for OfRead<R> {
         &[]
     }
 
-    fn pass(&mut self, n: usize) {
-        let _none = n;
-    }
+    fn pass(&mut self, _n: usize) {}
 
     fn pull(&mut self, buf: &mut [u8]) -> Result<usize, Failed> {
         self.health.call();
