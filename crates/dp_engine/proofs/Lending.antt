@@ -22,8 +22,10 @@ lent e e' s s' a b held bytes time len is more those took =
 pub found : (s s' : Standing) (held held' : List ℕ) (x : Time × ℕ × Bool) (time : Time) (len : ℕ) → s' ≡ s → held' ≡ held → x ≡ (time, len, true) → IsHeld s held time len → IsHeld s' held' x.0 x.1
 found s s' held held' x time len a b c is = rw (a, b, c) is
 
+-- the source and the reader are still where the record was found
 pub read_from : (e e' : EngineState) (s0 s s' : Standing) (a0 a b : Option (List ℕ)) (answer : Result Next PcapError) → s ≡ s0 → a ≡ a0 → ReadsTurn e e' s s' a b answer → ReadsTurn e e' s0 s' a0 b answer
 read_from e e' s0 s s' a0 a b answer p q reads = rw (← p, ← q) reads
 
+-- a record is at hand or was copied
 pub not_both : (b : Bool) → b ≡ false → b ≡ true → ⊥
 not_both b is_no is_yes = cc
