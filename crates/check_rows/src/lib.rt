@@ -6,6 +6,8 @@ mod bytes;
 #[cfg(test)]
 mod given;
 #[cfg(test)]
+mod groups;
+#[cfg(test)]
 mod inferences;
 #[cfg(test)]
 mod refusals;

@@ -147,11 +147,7 @@ fn entry_cert(rt: &HostRuntime, env: &Env) -> Result<Option<Cert>, Fail> {
 #[test]
 fn programs_of_one_instruction(rt: HostRuntime) -> Result<(), Fail> {
     let env = environment(1)?;
-    for (text, at) in [
-        ("free p0\n", (0, 3)),
-        ("a: jmp a\n", (0, 12)),
-        ("exit\n", (0, 10)),
-    ] {
+    for (text, at) in [("free p0\n", (0, 3)), ("exit\n", (0, 10))] {
         match entry_cert(&rt, &env)? {
             Some(cert) => {
                 let found = refusal(program(&rt, text)?, cert, &env, Entry::Port(0));
@@ -159,6 +155,19 @@ fn programs_of_one_instruction(rt: HostRuntime) -> Result<(), Fail> {
             }
             None => assert!(rt; false, "no entry"),
         }
+    }
+    Ok(())
+}
+
+#[test]
+fn a_jump_to_itself(rt: HostRuntime) -> Result<(), Fail> {
+    let env = environment(1)?;
+    match entry_cert(&rt, &env)? {
+        Some(cert) => {
+            let found = refusal(program(&rt, "a: jmp a\n")?, cert, &env, Entry::Port(0));
+            assert_eq!(rt; found, None);
+        }
+        None => assert!(rt; false, "no entry"),
     }
     Ok(())
 }

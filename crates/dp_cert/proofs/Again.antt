@@ -8,8 +8,10 @@ use Rattle.std.proofs.lemmas.Slice.Eq.{bytes_eq-Decides}
 use Rattle.hex.specs.Hex.{encode_with, encode_lower, lower_digits, decode_sized}
 use Rattle.hex.proofs.HexLemmas.{length-encode_with, decode_sized-encode_lower}
 use Rattle.dp_model.specs.declared.row.Row.{Row}
-use Rattle.dp_cert.specs.Spelling.{row_bytes, head_line, row_line, spelling, IsRow}
-use Rattle.dp_cert.specs.Reading.{is_digit, digits_in, is_line, row_of, rows_of, cert_of}
+use Rattle.dp_cert.specs.Spelling.{Certificate, row_bytes, head_line, row_line, spelling, IsRow, IsCertificate}
+use Rattle.dp_cert.specs.declared.cert.Version.{Version}
+use Rattle.dp_cert.specs.declared.cert.Version.TheVariants.{One, Two}
+use Rattle.dp_cert.specs.Reading.{is_digit, digits_in, is_line, row_of, rows_of, certified, cert_of}
 use Rattle.dp_cert.proofs.Loop.{one_row}
 use Rattle.dp_cert.proofs.RowBytes.{Low, IsBytes-from, length-row, Low-row, row_again}
 
@@ -27,59 +29,68 @@ digits_good (b ∷ bytes) h =
     let low : b < 256 = h.0 in
     rw (digit_good (b / 16) (omega arith), digit_good (b % 16) (omega arith), digits_good bytes h.1) refl
 
-pub line_again : (row : Row) → IsRow row → row_of (row_line row) ≡ Ok row
-unfolding row_of
-line_again row fits =
-    let bytes = row_bytes row in
-    let digits = encode_lower bytes in
-    let line = row_line row in
-    let size : length digits ≡ 306 = omega (arith, length-encode_with lower_digits bytes, length-row row fits) in
-    let size2 : length line ≡ 307 = omega (arith, size, length-append digits (10 ∷ [])) in
-    let inner : digits_in line ≡ digits = take_at digits (10 ∷ []) (length line - 1) (omega (arith, size, size2)) in
-    let t1 : eqb (length line) 307 ≡ true = eq-eqb (length line) 307 size2 in
-    let t2 : list_all is_digit (digits_in line) ≡ true = rw inner (digits_good bytes (Low-row row fits)) in
-    let here : length line - 1 - 306 ≡ 0 = omega (arith, size2) in
-    let last : get_or line (length line - 1) 0 ≡ 10 = get_or-append_right digits (10 ∷ []) 306 (length line - 1) 0 size (omega (arith, size2)) ∙ ap (λ (k : ℕ). get_or (10 ∷ []) k 0) here in
-    let t3 : eqb (get_or line (length line - 1) 0) 10 ≡ true = eq-eqb (get_or line (length line - 1) 0) 10 last in
-    let good : is_line line ≡ true = rw (t1, t2, t3) refl in
-    let read : decode_sized (digits_in line) 153 ≡ Ok bytes = rw inner (decode_sized-encode_lower bytes 153 (length-row row fits) (IsBytes-from bytes (Low-row row fits))) in
-    let same : bytes_eq line line ≡ true = (bytes_eq-Decides line line).1 refl in
-    rw (good, read, row_again row fits, same, fits.well_formed) refl
+module _ (version : Version) where
+  pub line_again : (row : Row) → IsRow version row → row_of version (row_line row) ≡ Ok row
+  unfolding row_of
+  line_again row fits =
+      let bytes = row_bytes row in
+      let digits = encode_lower bytes in
+      let line = row_line row in
+      let size : length digits ≡ 306 = omega (arith, length-encode_with lower_digits bytes, length-row row fits) in
+      let size2 : length line ≡ 307 = omega (arith, size, length-append digits (10 ∷ [])) in
+      let inner : digits_in line ≡ digits = take_at digits (10 ∷ []) (length line - 1) (omega (arith, size, size2)) in
+      let t1 : eqb (length line) 307 ≡ true = eq-eqb (length line) 307 size2 in
+      let t2 : list_all is_digit (digits_in line) ≡ true = rw inner (digits_good bytes (Low-row row fits)) in
+      let here : length line - 1 - 306 ≡ 0 = omega (arith, size2) in
+      let last : get_or line (length line - 1) 0 ≡ 10 = get_or-append_right digits (10 ∷ []) 306 (length line - 1) 0 size (omega (arith, size2)) ∙ ap (λ (k : ℕ). get_or (10 ∷ []) k 0) here in
+      let t3 : eqb (get_or line (length line - 1) 0) 10 ≡ true = eq-eqb (get_or line (length line - 1) 0) 10 last in
+      let good : is_line line ≡ true = rw (t1, t2, t3) refl in
+      let read : decode_sized (digits_in line) 153 ≡ Ok bytes = rw inner (decode_sized-encode_lower bytes 153 (length-row row fits) (IsBytes-from bytes (Low-row row fits))) in
+      let same : bytes_eq line line ≡ true = (bytes_eq-Decides line line).1 refl in
+      rw (good, read, row_again row fits, same, fits.well_formed) refl
 
-rows_again : (line : ℕ) (rows : List Row) → AllByRecursion IsRow rows → rows_of line (length rows) (flat_map row_line rows) ≡ Ok rows
-unfolding rows_of
-rows_again line [] h = refl
-rows_again line (row ∷ rows) h =
-    let rest = flat_map row_line rows in
-    let size : length (row_line row) ≡ 307 = omega (arith, length-encode_with lower_digits (row_bytes row), length-row row h.0, length-append (encode_lower (row_bytes row)) (10 ∷ [])) in
-    let front : take 307 (row_line row ++ rest) ≡ row_line row = take_at (row_line row) rest 307 size in
-    let back : drop 307 (row_line row ++ rest) ≡ rest = drop_at (row_line row) rest 307 size in
-    one_row line (length rows) (row_line row ++ rest) (Ok row) (omega (arith, size, length-append (row_line row) rest)) (rw front (line_again row h.0))
-    ∙ rw (back, rows_again (line + 1) rows h.1) refl
+  rows_again : (line : ℕ) (rows : List Row) → AllByRecursion (IsRow version) rows → rows_of version line (length rows) (flat_map row_line rows) ≡ Ok rows
+  unfolding rows_of
+  rows_again line [] h = refl
+  rows_again line (row ∷ rows) h =
+      let rest = flat_map row_line rows in
+      let size : length (row_line row) ≡ 307 = omega (arith, length-encode_with lower_digits (row_bytes row), length-row row h.0, length-append (encode_lower (row_bytes row)) (10 ∷ [])) in
+      let front : take 307 (row_line row ++ rest) ≡ row_line row = take_at (row_line row) rest 307 size in
+      let back : drop 307 (row_line row ++ rest) ≡ rest = drop_at (row_line row) rest 307 size in
+      one_row version line (length rows) (row_line row ++ rest) (Ok row) (omega (arith, size, length-append (row_line row) rest)) (rw front (line_again row h.0))
+      ∙ rw (back, rows_again (line + 1) rows h.1) refl
 
-pub cert_again : (rows : List Row) → AllByRecursion IsRow rows → cert_of (length rows) (spelling rows) ≡ Ok rows
+parts_again : (version : Version) (rows : List Row) → AllByRecursion (IsRow version) rows → cert_of (length rows) (head_line version ++ flat_map row_line rows) ≡ Ok (record { version = version; rows = rows })
 unfolding cert_of
-cert_again rows h = rows_again 2 rows h
+parts_again One rows h = ap (certified One) (rows_again One 2 rows h)
+parts_again Two rows h = ap (certified Two) (rows_again Two 2 rows h)
+
+pub cert_again : (cert : Certificate) → IsCertificate cert → cert_of (length cert.rows) (spelling cert) ≡ Ok cert
+cert_again cert h = parts_again cert.version cert.rows h
 
 -- ---- one spelling
 
-length-line : (row : Row) → IsRow row → length (row_line row) ≡ 307
+length-line : {version : Version} (row : Row) → IsRow version row → length (row_line row) ≡ 307
 length-line row fits = omega (arith, length-encode_with lower_digits (row_bytes row), length-row row fits, length-append (encode_lower (row_bytes row)) (10 ∷ []))
 
-length-lines : (rows : List Row) → AllByRecursion IsRow rows → length (flat_map row_line rows) ≡ 307 * length rows
-length-lines [] h = omega arith
-length-lines (row ∷ rows) h =
+length-lines : (version : Version) (rows : List Row) → AllByRecursion (IsRow version) rows → length (flat_map row_line rows) ≡ 307 * length rows
+length-lines version [] h = omega arith
+length-lines version (row ∷ rows) h =
     let one = length-line row h.0 in
-    let rest = length-lines rows h.1 in
+    let rest = length-lines version rows h.1 in
     omega (arith, one, rest, length-append (row_line row) (flat_map row_line rows))
 
-pub length-spelling : (rows : List Row) → AllByRecursion IsRow rows → length (spelling rows) ≡ 11 + 307 * length rows
-length-spelling rows h = omega (arith, length-lines rows h, length-append head_line (flat_map row_line rows))
+length-head : (version : Version) → length (head_line version) ≡ 11
+length-head One = refl
+length-head Two = refl
 
-pub one_spelling : (rows rows' : List Row) → AllByRecursion IsRow rows → AllByRecursion IsRow rows' → spelling rows ≡ spelling rows' → rows ≡ rows'
-one_spelling rows rows' h h' e =
-    let long : length (spelling rows) ≡ length (spelling rows') = ap length e in
-    let same : length rows ≡ length rows' = omega (arith, long, length-spelling rows h, length-spelling rows' h') in
-    let first : cert_of (length rows) (spelling rows) ≡ Ok rows = cert_again rows h in
-    let second : cert_of (length rows) (spelling rows) ≡ Ok rows' = rw (e, same) (cert_again rows' h') in
+pub length-spelling : (cert : Certificate) → IsCertificate cert → length (spelling cert) ≡ 11 + 307 * length cert.rows
+length-spelling cert h = omega (arith, length-lines cert.version cert.rows h, length-head cert.version, length-append (head_line cert.version) (flat_map row_line cert.rows))
+
+pub one_spelling : (cert cert' : Certificate) → IsCertificate cert → IsCertificate cert' → spelling cert ≡ spelling cert' → cert ≡ cert'
+one_spelling cert cert' h h' e =
+    let long : length (spelling cert) ≡ length (spelling cert') = ap length e in
+    let same : length cert.rows ≡ length cert'.rows = omega (arith, long, length-spelling cert h, length-spelling cert' h') in
+    let first : cert_of (length cert.rows) (spelling cert) ≡ Ok cert = cert_again cert h in
+    let second : cert_of (length cert.rows) (spelling cert) ≡ Ok cert' = rw (e, same) (cert_again cert' h') in
     cc (first, second)

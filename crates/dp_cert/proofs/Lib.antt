@@ -6,3 +6,5 @@ pub mod RowBytes
 pub mod Again
 pub mod LineFaults
 pub mod Faulty
+pub mod Heads
+pub mod Versions

@@ -10,10 +10,10 @@ use Rattle.hex.specs.Hex.{decode_sized, is_hex_digit}
 use Rattle.hex.specs.declared.error.FromHexError.{FromHexError}
 use Rattle.hex.proofs.HexLemmas.{IsOk-decode_sized}
 use Rattle.dp_model.specs.declared.row.Row.{Row}
-use Rattle.dp_model.specs.Rows.{is_well_formed_row}
+use Rattle.dp_cert.specs.declared.cert.Version.{Version}
 use Rattle.dp_cert.specs.declared.error.Cause.{Cause}
 use Rattle.dp_cert.specs.declared.error.Cause.TheVariants.{BadHead, BadLine, BadRow, BadCount}
-use Rattle.dp_cert.specs.Spelling.{IsRow, row_line, is_digit, digits_in, is_line}
+use Rattle.dp_cert.specs.Spelling.{IsRow, is_row_of, row_line, is_digit, digits_in, is_line}
 use Rattle.dp_cert.specs.Faults.{IsWrong}
 use Rattle.dp_cert.specs.Reading.{of_bytes, row_in, row_of}
 use Rattle.dp_cert.proofs.Found.{both_true}
@@ -23,14 +23,14 @@ abbrev pub wrong : {A E : Type 0} → E → Result A E
 wrong e = Err e
 
 -- what is wrong with a line alone
-abbrev pub IsWrongLine : List ℕ → Cause → Type 0
-IsWrongLine line BadLine = is_line line ≡ false
-IsWrongLine line BadRow = (is_line line ≡ true) × ((row : Row) → IsRow row → line ≢ row_line row)
-IsWrongLine line BadHead = ⊥
-IsWrongLine line BadCount = ⊥
+abbrev pub IsWrongLine : Version → List ℕ → Cause → Type 0
+IsWrongLine version line BadLine = is_line line ≡ false
+IsWrongLine version line BadRow = (is_line line ≡ true) × ((row : Row) → IsRow version row → line ≢ row_line row)
+IsWrongLine version line BadHead = ⊥
+IsWrongLine version line BadCount = ⊥
 
-pub not_spelled : (line : List ℕ) (cause : Cause) → row_of line ≡ Err cause → (row : Row) → IsRow row → line ≢ row_line row
-not_spelled line cause h row fits e = let other : row_of line ≡ Ok row = rw e (line_again row fits) in absurd (cc (h, other))
+pub not_spelled : (version : Version) (line : List ℕ) (cause : Cause) → row_of version line ≡ Err cause → (row : Row) → IsRow version row → line ≢ row_line row
+not_spelled version line cause h row fits e = let other : row_of version line ≡ Ok row = rw e (line_again version row fits) in absurd (cc (h, other))
 
 pub same_error : {A E : Type 0} (x y : E) → wrong {A = A} x ≡ wrong y → x ≡ y
 same_error x y h = cc
@@ -65,26 +65,26 @@ pub row_wrong : (b : Bool) (row : Row) (cause : Cause) → cond b (Ok row) (Err 
 row_wrong true row cause h = absurd cc
 row_wrong false row cause h = cc
 
-pub bytes_wrong : (line : List ℕ) (d : Result (List ℕ) FromHexError) (cause : Cause) → IsOk d → of_bytes line d ≡ Err cause → cause ≡ BadRow
-bytes_wrong line (Ok bytes) cause ok h = row_wrong (bytes_eq (row_line (row_in bytes)) line && is_well_formed_row (row_in bytes)) (row_in bytes) cause h
-bytes_wrong line (Err e) cause ok h = absurd cc
+pub bytes_wrong : (version : Version) (line : List ℕ) (d : Result (List ℕ) FromHexError) (cause : Cause) → IsOk d → of_bytes version line d ≡ Err cause → cause ≡ BadRow
+bytes_wrong version line (Ok bytes) cause ok h = row_wrong (bytes_eq (row_line (row_in bytes)) line && is_row_of version (row_in bytes)) (row_in bytes) cause h
+bytes_wrong version line (Err e) cause ok h = absurd cc
 
-pub line_wrong : (line : List ℕ) (cause : Cause) → row_of line ≡ Err cause → IsWrongLine line cause
+pub line_wrong : (version : Version) (line : List ℕ) (cause : Cause) → row_of version line ≡ Err cause → IsWrongLine version line cause
 unfolding row_of
-line_wrong line cause h = go (is_line line) refl
+line_wrong version line cause h = go (is_line line) refl
   where
-    go : (b : Bool) → is_line line ≡ b → IsWrongLine line cause
+    go : (b : Bool) → is_line line ≡ b → IsWrongLine version line cause
     go true e =
-        let read : of_bytes line (decode_sized (digits_in line) 153) ≡ Err cause = rw e at h in
-        let is : cause ≡ BadRow = bytes_wrong line (decode_sized (digits_in line) 153) cause (has_bytes line e) read in
-        subst (λ (x : Cause). IsWrongLine line x) (sym is) (e, not_spelled line cause h)
+        let read : of_bytes version line (decode_sized (digits_in line) 153) ≡ Err cause = rw e at h in
+        let is : cause ≡ BadRow = bytes_wrong version line (decode_sized (digits_in line) 153) cause (has_bytes line e) read in
+        subst (λ (x : Cause). IsWrongLine version line x) (sym is) (e, not_spelled version line cause h)
     go false e =
         let read : Err BadLine ≡ Err cause = rw e at h in
-        subst (λ (x : Cause). IsWrongLine line x) (same_error BadLine cause read) e
+        subst (λ (x : Cause). IsWrongLine version line x) (same_error BadLine cause read) e
 
 -- the next of the lines is wrong
-pub next_wrong : (n : ℕ) (rows : List Row) (rest : List ℕ) (cause : Cause) → length rows < n → 0 < length rest → IsWrongLine (take 307 rest) cause → IsWrong n rows rest cause
-next_wrong n rows rest BadHead lt some h = h
-next_wrong n rows rest BadLine lt some h = (lt, some, h)
-next_wrong n rows rest BadRow lt some h = (lt, h.0, h.1)
-next_wrong n rows rest BadCount lt some h = absurd h
+pub next_wrong : (version : Version) (n : ℕ) (rows : List Row) (rest : List ℕ) (cause : Cause) → length rows < n → 0 < length rest → IsWrongLine version (take 307 rest) cause → IsWrong version n rows rest cause
+next_wrong version n rows rest BadHead lt some h = h
+next_wrong version n rows rest BadLine lt some h = (lt, some, h)
+next_wrong version n rows rest BadRow lt some h = (lt, h.0, h.1)
+next_wrong version n rows rest BadCount lt some h = absurd h

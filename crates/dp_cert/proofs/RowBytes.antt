@@ -9,6 +9,7 @@ use Rattle.dp_model.specs.declared.row.Fact.{Fact}
 use Rattle.dp_model.specs.declared.row.Fact.TheVariants.{Empty, Held}
 use Rattle.dp_model.specs.declared.row.Row.{Row}
 use Rattle.dp_cert.specs.Spelling.{fact_bytes, row_bytes, FactInRange, IsRow}
+use Rattle.dp_cert.specs.declared.cert.Version.{Version}
 use Rattle.dp_cert.specs.Reading.{fact_in, bound_in, parts_in, facts_in, bounds_in, row_in}
 
 -- ---- bytes
@@ -84,7 +85,7 @@ pub flag : (b : Bool) → eqb (cond b 1 0) 1 ≡ b
 flag true = refl
 flag false = refl
 
-pub length-row : (row : Row) → IsRow row → length (row_bytes row) ≡ 153
+pub length-row : {version : Version} (row : Row) → IsRow version row → length (row_bytes row) ≡ 153
 length-row row fits =
     let a = length-flat fact_bytes 11 length-fact row.facts in
     let b = length-flat (to_be_bytes w64) 8 (λ n. refl) row.bounds in
@@ -94,10 +95,10 @@ pub low_flag : (b : Bool) → cond b 1 0 < 256
 low_flag true = omega arith
 low_flag false = omega arith
 
-pub Low-row : (row : Row) → IsRow row → Low (row_bytes row)
+pub Low-row : {version : Version} (row : Row) → IsRow version row → Low (row_bytes row)
 Low-row row fits = (low_flag row.live, Low-append (flat_map fact_bytes row.facts) (flat_map (to_be_bytes w64) row.bounds) (Low-flat FactInRange fact_bytes row.facts Low-fact fits.facts) (Low-flat (λ n. n < 2 ^ 64) (to_be_bytes w64) row.bounds (λ n h. Low-be 8 n) fits.bounds))
 
-pub row_again : (row : Row) → IsRow row → row_in (row_bytes row) ≡ row
+pub row_again : {version : Version} (row : Row) → IsRow version row → row_in (row_bytes row) ≡ row
 unfolding row_in facts_in bounds_in
 row_again row fits =
     let a = flat_map fact_bytes row.facts in

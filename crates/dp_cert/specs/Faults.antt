@@ -2,13 +2,13 @@
 use Rattle.std.specs.Prelude.{◌≡◌, ◌≢◌, ℕ, ◌+◌, ◌<◌, ◌⊎◌, true, false, List, ◌++◌, length, take, nat_eq}
 use Rattle.std.specs.List.{AllByRecursion, starts_with}
 use Rattle.dp_model.specs.declared.row.Row.{Row}
-use Rattle.dp_model.specs.Rows.{is_well_formed_row}
+use Rattle.dp_cert.specs.declared.cert.Version.{Version}
 use Rattle.dp_cert.specs.declared.error.Cause.{Cause}
 use Rattle.dp_cert.specs.declared.error.Cause.TheVariants.{BadHead, BadLine, BadRow, BadCount}
 use Rattle.dp_cert.specs.declared.error.Fault.{Fault}
 use Rattle.dp_cert.specs.declared.error.CertError.{CertError}
 use Rattle.dp_cert.specs.declared.error.CertError.TheVariants as errors
-use Rattle.dp_cert.specs.Spelling.{IsRow, head_line, row_line, spelling, is_line}
+use Rattle.dp_cert.specs.Spelling.{Certificate, IsRow, is_row_of, head_line, row_line, spelling, is_line}
 
 -- the number of a cause
 abbrev pub number_of : Cause → ℕ
@@ -19,26 +19,26 @@ number_of BadCount = 4
 
 -- What is wrong where these rows were read, of n that there should be, and these bytes are left: the next line has no such
 -- digits, or no row is spelled as it is, or there is no next line, or there is one too many.
-abbrev pub IsWrong : ℕ → List Row → List ℕ → Cause → Type 0
-IsWrong n rows rest BadHead = ⊥
-IsWrong n rows rest BadLine = (length rows < n) × (0 < length rest) × (is_line (take 307 rest) ≡ false)
-IsWrong n rows rest BadRow =
-    (length rows < n) × (is_line (take 307 rest) ≡ true) × ((row : Row) → IsRow row → take 307 rest ≢ row_line row)
-IsWrong n rows rest BadCount = ((length rows < n) × (length rest ≡ 0)) ⊎ ((length rows ≡ n) × (0 < length rest))
+abbrev pub IsWrong : Version → ℕ → List Row → List ℕ → Cause → Type 0
+IsWrong version n rows rest BadHead = ⊥
+IsWrong version n rows rest BadLine = (length rows < n) × (0 < length rest) × (is_line (take 307 rest) ≡ false)
+IsWrong version n rows rest BadRow =
+    (length rows < n) × (is_line (take 307 rest) ≡ true) × ((row : Row) → IsRow version row → take 307 rest ≢ row_line row)
+IsWrong version n rows rest BadCount = ((length rows < n) × (length rest ≡ 0)) ⊎ ((length rows ≡ n) × (0 < length rest))
 
--- the first line of the text is wrong
+-- the first line of the text is that of no version
 pub record HasBadHead (text : List ℕ) (fault : Fault) : Type 0 where
   pub is : fault ≡ record { line = 1; cause = BadHead }
-  pub other : starts_with nat_eq text head_line ≡ false
+  pub other : (version : Version) → starts_with nat_eq text (head_line version) ≡ false
 
--- these rows were read, and then something is wrong
+-- the first line tells the version, these rows were read, and then something is wrong
 pub record HasBadLine (n : ℕ) (text : List ℕ) (fault : Fault) : Type 0 where
-  pub rows : List Row
+  pub cert : Certificate
   pub rest : List ℕ
-  pub read : text ≡ spelling rows ++ rest
-  pub well_formed : AllByRecursion (λ row. is_well_formed_row row ≡ true) rows
-  pub line : fault.line ≡ length rows + 2
-  pub wrong : IsWrong n rows rest fault.cause
+  pub read : text ≡ spelling cert ++ rest
+  pub well_formed : AllByRecursion (λ row. is_row_of cert.version row ≡ true) cert.rows
+  pub line : fault.line ≡ length cert.rows + 2
+  pub wrong : IsWrong cert.version n cert.rows rest fault.cause
 
 -- the first fault of a text that should have n rows
 abbrev pub HasFault : ℕ → List ℕ → Fault → Type 0

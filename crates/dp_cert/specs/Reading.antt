@@ -8,14 +8,17 @@ use Rattle.hex.specs.declared.error.FromHexError.{FromHexError}
 use Rattle.dp_model.specs.declared.row.Fact.{Fact}
 use Rattle.dp_model.specs.declared.row.Fact.TheVariants.{Empty, Held}
 use Rattle.dp_model.specs.declared.row.Row.{Row}
-use Rattle.dp_model.specs.Rows.{is_well_formed_row}
+use Rattle.std.specs.Option.{option_map_or}
+use Rattle.std.specs.Prelude.{Option, Some, None}
+use Rattle.dp_cert.specs.declared.cert.Version.{Version}
+use Rattle.dp_cert.specs.declared.cert.Version.TheVariants.{One, Two}
 use Rattle.dp_cert.specs.declared.error.Cause.{Cause}
 use Rattle.dp_cert.specs.declared.error.Cause.TheVariants.{BadHead, BadLine, BadRow, BadCount}
 use Rattle.dp_cert.specs.declared.error.Fault.{Fault}
 use Rattle.dp_cert.specs.declared.error.CertError.{CertError}
 use Rattle.dp_cert.specs.declared.error.CertError.TheVariants as errors
 pub use Rattle.dp_cert.specs.Spelling.{is_digit, digits_in, is_line}
-use Rattle.dp_cert.specs.Spelling.{head_line, row_line}
+use Rattle.dp_cert.specs.Spelling.{Certificate, head_line, is_row_of, row_line}
 
 -- ---- the row that some bytes would be, if they were spelled as a row is
 
@@ -49,16 +52,16 @@ row_in bytes = record { live = slice_index bytes 0 == 1; facts = facts_in (drop 
 
 -- ---- lines
 
--- the line is the one spelling of a row that is well formed
-abbrev pub spelled_row : List ℕ → Row → Result Row Cause
-spelled_row line row = if bytes_eq (row_line row) line && is_well_formed_row row then Ok row else Err BadRow
+-- the line is the one spelling of a row that a certificate of the version can have
+abbrev pub spelled_row : Version → List ℕ → Row → Result Row Cause
+spelled_row version line row = if bytes_eq (row_line row) line && is_row_of version row then Ok row else Err BadRow
 
-abbrev pub of_bytes : List ℕ → Result (List ℕ) FromHexError → Result Row Cause
-of_bytes line (Ok bytes) = spelled_row line (row_in bytes)
-of_bytes line (Err e) = Err BadLine
+abbrev pub of_bytes : Version → List ℕ → Result (List ℕ) FromHexError → Result Row Cause
+of_bytes version line (Ok bytes) = spelled_row version line (row_in bytes)
+of_bytes version line (Err e) = Err BadLine
 
-unfoldable pub row_of : List ℕ → Result Row Cause
-row_of line = if is_line line then of_bytes line (decode_sized (digits_in line) 153) else Err BadLine
+unfoldable pub row_of : Version → List ℕ → Result Row Cause
+row_of version line = if is_line line then of_bytes version line (decode_sized (digits_in line) 153) else Err BadLine
 
 infixl 10 ◌>>=◌
 abbrev pub ◌>>=◌ : {A B E : Type 0} → Result A E → (A → Result B E) → Result B E
@@ -73,14 +76,26 @@ abbrev pub onto : Row → List Row → Result (List Row) Fault
 onto row rows = Ok (row ∷ rows)
 
 -- so many rows, from a line on, and nothing behind them
-unfoldable pub rows_of : ℕ → ℕ → List ℕ → Result (List Row) Fault
-rows_of line zero [] = Ok []
-rows_of line zero (b ∷ bytes) = Err (record { line = line; cause = BadCount })
-rows_of line (suc n) [] = Err (record { line = line; cause = BadCount })
-rows_of line (suc n) (b ∷ bytes) = at_line line (row_of (take 307 (b ∷ bytes))) >>= λ row. rows_of (line + 1) n (drop 307 (b ∷ bytes)) >>= onto row
+unfoldable pub rows_of : Version → ℕ → ℕ → List ℕ → Result (List Row) Fault
+rows_of version line zero [] = Ok []
+rows_of version line zero (b ∷ bytes) = Err (record { line = line; cause = BadCount })
+rows_of version line (suc n) [] = Err (record { line = line; cause = BadCount })
+rows_of version line (suc n) (b ∷ bytes) =
+    at_line line (row_of version (take 307 (b ∷ bytes))) >>= λ row. rows_of version (line + 1) n (drop 307 (b ∷ bytes)) >>= onto row
 
-unfoldable pub cert_of : ℕ → List ℕ → Result (List Row) Fault
-cert_of n text = if starts_with nat_eq text head_line then rows_of 2 n (drop 11 text) else Err (record { line = 1; cause = BadHead })
+-- the version that the first line tells
+abbrev pub version_in : List ℕ → Option Version
+version_in text =
+    if starts_with nat_eq text (head_line One) then Some One else
+    if starts_with nat_eq text (head_line Two) then Some Two else None
+
+-- a certificate of the version with these rows
+abbrev pub certified : Version → Result (List Row) Fault → Result Certificate Fault
+certified version read = read >>= λ rows. Ok (record { version = version; rows = rows })
+
+unfoldable pub cert_of : ℕ → List ℕ → Result Certificate Fault
+cert_of n text =
+    option_map_or (λ version. certified version (rows_of version 2 n (drop 11 text))) (version_in text) (Err (record { line = 1; cause = BadHead }))
 
 -- What a function returned, seen by view, is what reading gives, unless memory ran out.
 abbrev pub Fails : {Y : Type 0} → CertError → Result Y Fault → Type 0

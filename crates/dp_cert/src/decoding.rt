@@ -4,15 +4,15 @@ ghost use Rattle.std.specs.Prelude.{◌≡◌, ◌<◌, length, IsTrue, IfOk, If
 ghost use Rattle.std.specs.List.{list_all};
 ghost use Rattle.dp_model.specs.Rows.{is_well_formed_row};
 ghost use Rattle.hex.specs.Hex.{decode_sized};
-ghost use Rattle.dp_cert.specs.Spelling.{CertText, IsRow, spelling};
+ghost use Rattle.dp_cert.specs.Spelling.{Certificate, CertText, IsCertificate, is_row_of, spelling};
 ghost use Rattle.dp_cert.specs.Faults.{IsFaultOf};
 ghost use Rattle.std.specs.Prelude.{List, Ok};
 ghost use Rattle.std.specs.List.{AllByRecursion};
 ghost use Rattle.dp_model.specs.declared.row.Row.{Row};
 ghost use Rattle.dp_cert.specs.Reading as spec;
 
-use crate::cert::Cert;
-use crate::encoding::row_line;
+use crate::cert::{Cert, Version};
+use crate::encoding::{head_line, row_line};
 use crate::error::{Cause, CertError, Fault};
 use crate::parsing::row_in;
 use dp_model::Row;
@@ -44,12 +44,17 @@ fn is_line(line: &[u8]) -> bool
     are_digits(digits_in(line)) && line[line.len() - 1] == b'\n'
 }
 
-/// The row of a line's bytes, if the line is its spelling.
-fn spelled_row(alloc: Global, line: &[u8], row: Row) -> Result<Result<Row, Cause>, AllocError>
-    ensures { IfOk result (λ read. read ≡ spec.spelled_row line.now row) }
+/// The row of a line's bytes, if the line is its spelling and the version can have it.
+fn spelled_row(
+    alloc: Global,
+    version: Version,
+    line: &[u8],
+    row: Row,
+) -> Result<Result<Row, Cause>, AllocError>
+    ensures { IfOk result (λ read. read ≡ spec.spelled_row version line.now row) }
 {
     let spelled = row_line(alloc, &row)?;
-    if spelled.as_slice() == line && row.is_well_formed() {
+    if spelled.as_slice() == line && version.can_have(&row) {
         Ok(Ok(row))
     } else {
         Ok(Err(Cause::BadRow))
@@ -69,21 +74,21 @@ fn bytes_of(digits: &[u8]) -> Option<[u8; 153]>
 
 /// The row that a line spells.
 #[tactic(auto, unfolding(crate::specs::Reading::row_of))]
-fn row_of(alloc: Global, line: &[u8]) -> Result<Result<Row, Cause>, AllocError>
-    ensures { IfOk result (λ read. read ≡ spec.row_of line.now) }
+fn row_of(alloc: Global, version: Version, line: &[u8]) -> Result<Result<Row, Cause>, AllocError>
+    ensures { IfOk result (λ read. read ≡ spec.row_of version line.now) }
 {
     if !is_line(line) {
         return Ok(Err(Cause::BadLine));
     }
     match bytes_of(digits_in(line)) {
-        Some(bytes) => spelled_row(alloc, line, row_in(&bytes)),
+        Some(bytes) => spelled_row(alloc, version, line, row_in(&bytes)),
         None => Ok(Err(Cause::BadLine)),
     }
 }
 
 /// So many rows, one a line, or the first fault.
-fn rows_of(alloc: Global, n: usize, text: &[u8]) -> Result<Vec<Row>, CertError>
-    ensures { spec.Gives (λ v. v.items) result (spec.rows_of 2 n text.now) }
+fn rows_of(alloc: Global, version: Version, n: usize, text: &[u8]) -> Result<Vec<Row>, CertError>
+    ensures { spec.Gives (λ v. v.items) result (spec.rows_of version 2 n text.now) }
 {
     let mut rest = text;
     let mut rows = Vec::new(alloc);
@@ -95,7 +100,7 @@ fn rows_of(alloc: Global, n: usize, text: &[u8]) -> Result<Vec<Row>, CertError>
             }));
         }
         let (line, after) = rest.split_at(rest.len().min(307));
-        match row_of(alloc, line)? {
+        match row_of(alloc, version, line)? {
             Ok(row) => rows.push(row)?,
             Err(cause) => return Err(CertError::Fault(Fault { line: i + 2, cause })),
         }
@@ -111,29 +116,41 @@ fn rows_of(alloc: Global, n: usize, text: &[u8]) -> Result<Vec<Row>, CertError>
     }
 }
 
-#[tactic(auto, unfolding(crate::specs::Reading::cert_of))]
-fn cert_of(alloc: Global, text: &[u8], n: usize) -> Result<Vec<Row>, CertError>
-    ensures { spec.Gives (λ v. v.items) result (spec.cert_of n text.now) }
+/// So many rows that the version can have, or the first fault.
+fn read_rows(alloc: Global, version: Version, n: usize, text: &[u8]) -> Result<Vec<Row>, CertError>
+    ensures well_formed { IfOk result (λ v. IsTrue (list_all (is_row_of version) v.items)) }
+    ensures exact { spec.Gives (λ v. v.items) result (spec.rows_of version 2 n text.now) }
 {
-    if !text.starts_with(b"dpv-cert 1\n") {
+    rows_of(alloc, version, n, text)
+}
+
+/// The version that the first line tells.
+fn version_in(text: &[u8]) -> Option<Version>
+    ensures { result ≡ spec.version_in text.now }
+{
+    if text.starts_with(head_line(Version::One)) {
+        Some(Version::One)
+    } else if text.starts_with(head_line(Version::Two)) {
+        Some(Version::Two)
+    } else {
+        None
+    }
+}
+
+/// The certificate that a text spells, or the first fault.
+fn read(alloc: Global, text: &[u8], n: usize) -> Result<Cert, CertError>
+    ensures { spec.Gives (λ c. c) result (spec.cert_of n text.now) }
+{
+    let Some(version) = version_in(text) else {
         return Err(CertError::Fault(Fault {
             line: 1,
             cause: Cause::BadHead,
         }));
+    };
+    match read_rows(alloc, version, n, &text[11..]) {
+        Ok(rows) => Ok(Cert::of_version(version, rows)),
+        Err(error) => Err(error),
     }
-    rows_of(alloc, n, &text[11..])
-}
-
-/// The rows of a text, each of which is well formed, or the first fault.
-fn read(alloc: Global, text: &[u8], n: usize) -> Result<Vec<Row>, CertError>
-    ensures well_formed { IfOk result (λ v. IsTrue (list_all is_well_formed_row v.items)) }
-    ensures found { IfOk result (λ v. CertText n text.now v.items) }
-    ensures only { (rows : List Row) → AllByRecursion IsRow rows → length rows ≡ n → text.now ≡ spelling rows
-        → spec.Gives (λ v. v.items) result (Ok rows) }
-    ensures fault { IfErr result (λ e. IsFaultOf n text.now e) }
-    ensures exact { spec.Gives (λ v. v.items) result (spec.cert_of n text.now) }
-{
-    cert_of(alloc, text, n)
 }
 
 /// The certificate that a text spells, with `n` rows, or the first fault of the text.
@@ -145,15 +162,12 @@ pub fn decode(alloc: Global, text: &[u8], n: usize) -> Result<Cert, CertError>
     // What is read is spelled so.
     ensures found { IfOk result (λ cert. CertText n text.now cert) }
     // What is spelled so is read, unless memory runs out.
-    ensures only { (rows : List Row) → AllByRecursion IsRow rows → length rows ≡ n → text.now ≡ spelling rows
-        → spec.Gives (λ c. c) result (Ok rows) }
+    ensures only { (cert : Certificate) → IsCertificate cert → length cert.rows ≡ n → text.now ≡ spelling cert
+        → spec.Gives (λ c. c) result (Ok cert) }
     // Why nothing is read, in words.
     ensures fault { IfErr result (λ e. IsFaultOf n text.now e) }
     // Which fault it is: the lines judged one after the other.
     ensures exact { spec.Gives (λ c. c) result (spec.cert_of n text.now) }
 {
-    match read(alloc, text, n) {
-        Ok(rows) => Ok(Cert::new(rows)),
-        Err(error) => Err(error),
-    }
+    read(alloc, text, n)
 }

@@ -5,7 +5,7 @@ ghost use Rattle.std.specs.List.{flat_map};
 ghost use Rattle.std.specs.Int.{w64, to_be_bytes};
 ghost use Rattle.dp_cert.specs.Spelling as spec;
 
-use crate::cert::Cert;
+use crate::cert::{Cert, Version};
 use dp_model::{Fact, Row};
 use std::alloc::{AllocError, Global};
 
@@ -73,11 +73,21 @@ pub fn row_line(alloc: Global, row: &Row) -> Result<Vec<u8>, AllocError>
     Ok(line)
 }
 
-/// The text of the rows.
-fn encode_rows(alloc: Global, rows: &[Row]) -> Result<Vec<u8>, AllocError>
-    ensures { IfOk result (λ v. v.items ≡ spec.spelling rows.now) }
+/// The first line of a version.
+pub(crate) fn head_line(version: Version) -> &'static [u8]
+    ensures { result.now ≡ spec.head_line version }
 {
-    let mut out = Vec::from_slice(alloc, b"dpv-cert 1\n")?;
+    match version {
+        Version::One => b"dpv-cert 1\n",
+        Version::Two => b"dpv-cert 2\n",
+    }
+}
+
+/// The text of the rows behind a first line.
+fn encode_rows(alloc: Global, head: &[u8], rows: &[Row]) -> Result<Vec<u8>, AllocError>
+    ensures { IfOk result (λ v. v.items ≡ head.now ++ flat_map spec.row_line rows.now) }
+{
+    let mut out = Vec::from_slice(alloc, head)?;
     for row in rows {
         let line = row_line(alloc, row)?;
         out.extend_from_slice(&line)?;
@@ -92,5 +102,5 @@ fn encode_rows(alloc: Global, rows: &[Row]) -> Result<Vec<u8>, AllocError>
 pub fn encode(alloc: Global, cert: &Cert) -> Result<Vec<u8>, AllocError>
     ensures { IfOk result (λ v. v.items ≡ spec.spelling cert.now) }
 {
-    encode_rows(alloc, cert.rows())
+    encode_rows(alloc, head_line(cert.version_kind()), cert.rows())
 }

@@ -9,7 +9,7 @@ use thiserror::Error;
 /// What is wrong with a line of a text.
 #[derive(Clone, Copy, Debug, PartialEq, Eq, Error)]
 pub enum Cause {
-    /// The first line is not `dpv-cert 1` and a newline.
+    /// The first line is neither `dpv-cert 1` nor `dpv-cert 2` and a newline.
     #[error("this is not the head of a certificate")]
     BadHead,
     /// The line is not 306 lower-case hexadecimal digits and a newline.

@@ -10,7 +10,7 @@ mod error;
 mod laws;
 mod parsing;
 
-pub use cert::Cert;
+pub use cert::{Cert, Version};
 pub use decoding::decode;
 pub use encoding::encode;
 pub use error::{Cause, CertError, Fault};

@@ -29,9 +29,9 @@ impl Model for Checked {
 
     ghost Value = { Question };
 
-    ghost view = { λ a. question a.program a.cert a.env a.entry };
+    ghost view = { λ a. question a.program a.cert.rows a.env a.entry };
 
-    ghost invariant = { λ a. IsChecked (question a.program a.cert a.env a.entry) };
+    ghost invariant = { λ a. IsChecked (question a.program a.cert.rows a.env a.entry) };
 }
 
 impl Checked {
@@ -49,7 +49,7 @@ impl Checked {
 
     /// Its certificate.
     pub fn cert(&self) -> &Cert
-        ensures { result.now ≡ self.now.rows }
+        ensures { result.now.rows ≡ self.now.rows }
     {
         &self.cert
     }
@@ -69,7 +69,7 @@ impl Checked {
     }
 }
 
-/// A program that is refused: the least failing label, from 0, the number of its first failing rule, 1 to 12, and
+/// A program that is refused: the least failing label, from 0, the number of its first failing rule, 1 to 11, and
 /// what was handed in. It is displayed as `refused at 4 by J11`.
 #[derive(Drop)]
 pub struct Refused {
@@ -120,8 +120,8 @@ fn first_fault(program: &[Instr], rows: &[Row], env: &Env, entry: Entry) -> Opti
 /// Why a program would be refused: the least failing label and its first failing rule, or nothing where it would be
 /// accepted. This is what `check` finds, for one who only wants to know.
 pub fn fault_of(program: &Program, cert: &Cert, env: &Env, entry: Entry) -> Option<(u16, Rule)>
-    ensures none { IfNone result (IsAccepted (question program.now cert.now env.now entry)) }
-    ensures some { IfSome result (λ f. IsRefused (question program.now cert.now env.now entry) f.0 f.1) }
+    ensures none { IfNone result (IsAccepted (question program.now cert.now.rows env.now entry)) }
+    ensures some { IfSome result (λ f. IsRefused (question program.now cert.now.rows env.now entry) f.0 f.1) }
 {
     first_fault(program.instrs(), cert.rows(), env, entry)
 }
@@ -133,9 +133,9 @@ pub fn fault_of(program: &Program, cert: &Cert, env: &Env, entry: Entry) -> Opti
 /// `Refused` where a rule fails, with the least failing label and the first rule that fails there. An entry that the
 /// environment does not have is refused at label 0 by J2.
 pub fn check(program: Program, cert: Cert, env: &Env, entry: Entry) -> Result<Checked, Refused>
-    ensures same { IfOk result (λ checked. checked ≡ question program cert env.now entry) }
+    ensures same { IfOk result (λ checked. checked ≡ question program cert.rows env.now entry) }
     ensures accepted { IfOk result (λ checked. IsChecked checked) }
-    ensures refused { IfErr result (λ r. IsRefusedWith (question program cert env.now entry) r.label r.rule) }
+    ensures refused { IfErr result (λ r. IsRefusedWith (question program cert.rows env.now entry) r.label r.rule) }
     ensures program_back { IfErr result (λ r. r.program ≡ program) }
     ensures cert_back { IfErr result (λ r. r.cert ≡ cert) }
 {

@@ -18,7 +18,8 @@ impl fmt::Display for StateText {
     }
 }
 
-/// A report as lines: one for each port, each ring and each pool, and one for the allocation calls.
+/// A report as lines: one for each port, each ring and each pool, one for the allocation calls, and one for the
+/// node runs that were cut, if there are any.
 #[derive(Drop)]
 pub struct ReportText(pub Report);
 
@@ -35,7 +36,11 @@ impl fmt::Display for ReportText {
         }
         write_left(f, &report.rings)?;
         write_pools(f, &report.pools)?;
-        write!(f, "calls {} refused {}", report.calls, report.refused)
+        write!(f, "calls {} refused {}", report.calls, report.refused)?;
+        if report.cut > 0 {
+            write!(f, "\ncut {}", report.cut)?;
+        }
+        Ok(())
     }
 }
 

@@ -229,6 +229,21 @@ fn a_header_is_taken_off_a_record(rt: HostRuntime) {
 }
 
 #[test]
+fn a_node_run_that_does_not_end_is_cut(rt: HostRuntime) {
+    let alloc = rt.alloc();
+    let cert = cert_text(alloc, ["010102008000000000000001"].as_slice()).expect(&rt, "memory");
+    let input = one_record(alloc, 0).expect(&rt, "memory");
+    let (status, out, err, written) = run(alloc, "a: jmp a\n", cert.as_slice(), input.as_slice());
+    let report =
+        "port 0 received 1 nobuf 0 oversize 0 sent 0 input whole\npool 0 free 64 of 64\ncalls 1 refused 0\ncut 1\n";
+    assert_eq!(&rt;
+        (status, out.as_slice(), err.as_slice()),
+        (0, report.as_bytes(), b"".as_slice())
+    );
+    assert_eq!(&rt; written.as_slice(), HEADER.as_slice());
+}
+
+#[test]
 fn short_records_are_dropped(rt: HostRuntime) {
     let alloc = rt.alloc();
     let cert = cert_text(alloc, STRIP_ROWS.as_slice()).expect(&rt, "memory");

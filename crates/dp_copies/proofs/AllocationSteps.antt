@@ -28,7 +28,7 @@ set_copies pools st p k c buffers told same is =
     let held = map-set (option_map (copy_of pools buffers)) st.packets p (Some k) ∙ ap (λ x. slice_set (map (option_map (copy_of pools buffers)) st.packets) p (Some x)) is ∙ ap (λ xs. slice_set xs p (Some c)) (held_same pools old buffers st.packets (λ b one. same b (omega (arith, one, live_parts st b)))) in
     let rings = listed_same pools old buffers st.world.rings (λ b one. same b (omega (arith, one, live_parts st b))) in
     let outboxes = listed_same pools old buffers st.world.outboxes (λ b one. same b (omega (arith, one, live_parts st b))) in
-    λ i. record { packets = held i; numbers = st.numbers; rings = rings i; outboxes = outboxes i; to_tell = told }
+    λ i. record { packets = held i; numbers = st.numbers; jumps = st.jumps; rings = rings i; outboxes = outboxes i; to_tell = told; cuts = st.world.cuts }
 
 -- an alloc that is given a buffer
 pub alloc_given : (env : Environment) (tables : List (List Route)) (label : ℕ) (st : State) (p pool l : ℕ) (n : Number) (buffers : Buffers) (later : List Bool) → IsEmpty st p → IsFresh env.pools (live st) pool n → ChangesOnly (n ∷ []) st.world.buffers buffers → copy_step env tables label (copied env.pools st (true ∷ later)) (Alloc p pool l) ≡ Some (At (label + 1), copied env.pools (with_call (with_packet p (allocated env.pools (n ∷ [])) (with_buffers buffers st))) later)

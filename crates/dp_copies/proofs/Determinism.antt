@@ -32,7 +32,7 @@ serve env tables programs n x fuel o = option_map_or (λ next. option_and_then (
 module _ (env : Environment) (tables : List (List Route)) (fuel more : ℕ) (le : fuel ≤ more) where
   -- a node run
   node_less : (program : List Instr) (k : Copy) (number : ℕ) (x : CopyState) → Less (copy_node_run env tables fuel program k number x) (copy_node_run env tables more program k number x)
-  node_less program k number x t e = goes_more env tables program fuel 0 (record x { packets = Some k ∷ replicate 7 None; numbers = number ∷ replicate 7 0 }) t e more le
+  node_less program k number x t e = goes_more env tables program fuel 0 (record x { packets = Some k ∷ replicate 7 None; numbers = number ∷ replicate 7 0; jumps = 0 }) t e more le
 
   -- the runs of rings
   serves_less : (programs : List (List Instr)) (n : ℕ) (x : CopyState) → Less (copy_serves env tables fuel programs n x) (copy_serves env tables more programs n x)
@@ -78,11 +78,12 @@ module _ (env : Environment) (tables : List (List Route)) (fuel more : ℕ) (le 
       (λ m. map_less {A = List (List (T × List ℕ)) × CopyState} {B = List (List (T × List ℕ)) × CopyState} (λ rest. (joined (copy_records_at a.time m.1) rest.0, rest.1)) _ _ (run_less nodes arrivals (record m.1 { outboxes = map (λ _. []) m.1.outboxes })))
       (turn_less nodes a.port a.bytes x) r e
 
--- there is one list of captures
-pub captures_once : {T : Type 0} (env : Environment) (tables : List (List Route)) (nodes : Nodes) (arrivals : List (Arrival T)) (told : List Bool) (captures captures' : List (List (T × List ℕ))) → Captures env tables nodes arrivals told captures → Captures env tables nodes arrivals told captures' → captures ≡ captures'
-captures_once {T} env tables nodes arrivals told captures captures' (fuel, x, e, _) (fuel', x', e', _) =
+-- there is one list of captures, and one number of cuts
+pub captures_once : {T : Type 0} (env : Environment) (tables : List (List Route)) (nodes : Nodes) (arrivals : List (Arrival T)) (told : List Bool) (captures captures' : List (List (T × List ℕ))) (cuts cuts' : ℕ) → Captures env tables nodes arrivals told captures cuts → Captures env tables nodes arrivals told captures' cuts' → (captures ≡ captures') × (cuts ≡ cuts')
+captures_once {T} env tables nodes arrivals told captures captures' cuts cuts' (fuel, x, e, _, is) (fuel', x', e', _, is') =
     let one = run_less env tables fuel (fuel + fuel') (omega arith) nodes arrivals (copy_start env told) (captures, x) e in
     let other = run_less env tables fuel' (fuel + fuel') (omega arith) nodes arrivals (copy_start env told) (captures', x') e' in
     let r : List (List (T × List ℕ)) × CopyState = (captures, x) in
     let r' : List (List (T × List ℕ)) × CopyState = (captures', x') in
-    ap (λ (r : List (List (T × List ℕ)) × CopyState). r.0) (same_Some r r' (sym one ∙ other))
+    let same : r ≡ r' = same_Some r r' (sym one ∙ other) in
+    (ap (λ (r : List (List (T × List ℕ)) × CopyState). r.0) same, sym is ∙ (ap (λ (r : List (List (T × List ℕ)) × CopyState). r.1.cuts) same ∙ is'))

@@ -17,6 +17,7 @@ pub record Shows (pools : List PoolSpec) (w : World) (told : List Bool) (x : Cop
   pub rings : x.rings ≡ map (map (copy_of pools w.buffers)) w.rings
   pub outboxes : x.outboxes ≡ map (map (copy_of pools w.buffers)) w.outboxes
   pub to_tell : x.to_tell ≡ told
+  pub cuts : x.cuts ≡ w.cuts
 
 -- with enough steps the copies make this of a state that shows the world
 pub record Lands {R : Type 0} (c : Setting) (w : World) (later : List Bool) (go : ℕ → Option R) (made : CopyState → R) : Type 0 where
@@ -41,12 +42,12 @@ stays c w w' told later x go made well shows none is e =
 pub node_lands : (c : Setting) (program : List Instr) (k : Packet) (number : ℕ) (w w' : World) (told later : List Bool) (x : CopyState) → IsInside c (first_state k number w) → Shows c.env.pools w (told ++ later) x → NodeRun c program k number w told w' → Lands c w' later (λ fuel. copy_node_run c.env c.tables fuel program (copy_of c.env.pools w.buffers k) number x) (λ t. t)
 node_lands c program k number w w' told later x well shows (n, s, goes, is) =
     let pools = c.env.pools in
-    let begins : record x { packets = Some (copy_of pools w.buffers k) ∷ replicate 7 None; numbers = number ∷ replicate 7 0 } ≡ copied pools (first_state k number w) (told ++ later) =
-    λ i. record { packets = Some (copy_of pools w.buffers k) ∷ replicate 7 None; numbers = number ∷ replicate 7 0; rings = shows.rings i; outboxes = shows.outboxes i; to_tell = shows.to_tell i } in
+    let begins : record x { packets = Some (copy_of pools w.buffers k) ∷ replicate 7 None; numbers = number ∷ replicate 7 0; jumps = 0 } ≡ copied pools (first_state k number w) (told ++ later) =
+    λ i. record { packets = Some (copy_of pools w.buffers k) ∷ replicate 7 None; numbers = number ∷ replicate 7 0; jumps = 0; rings = shows.rings i; outboxes = shows.outboxes i; to_tell = shows.to_tell i; cuts = shows.cuts i } in
     let inside = goes_within c program n 0 (first_state k number w) s told Ended well goes in
     subst (λ w'. Lands c w' later (λ fuel. copy_node_run c.env c.tables fuel program (copy_of pools w.buffers k) number x) (λ t. t)) (sym is) (record {
       state = copied pools s later;
-      shows = record { rings = refl; outboxes = refl; to_tell = refl };
+      shows = record { rings = refl; outboxes = refl; to_tell = refl; cuts = refl };
       enough = n;
       lands = λ fuel le. ap (copy_goes c.env c.tables program fuel 0) begins
           ∙ goes_more c.env c.tables program n 0 (copied pools (first_state k number w) (told ++ later)) (copied pools s later) (goes_copies c (steps_copy c) program n 0 (first_state k number w) s told later well goes) fuel le;

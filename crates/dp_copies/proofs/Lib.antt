@@ -1,5 +1,6 @@
 pub mod AllocationSteps
 pub mod Beside
+pub mod Budget
 pub mod ByteSteps
 pub mod Corollaries
 pub mod Determinism

@@ -38,4 +38,4 @@ empty_step pools st told p move empty =
 pub put_copies : (pools : List PoolSpec) (st : State) (p : ℕ) (o : Option Packet) (told : List Bool) → copied pools (record st { packets = slice_set st.packets p o }) told ≡ copy_put p (option_map (copy_of pools st.world.buffers) o) (copied pools st told)
 put_copies pools st p o told =
     let e = map-set (option_map (copy_of pools st.world.buffers)) st.packets p o in
-    λ i. record { packets = e i; numbers = st.numbers; rings = map (map (copy_of pools st.world.buffers)) st.world.rings; outboxes = map (map (copy_of pools st.world.buffers)) st.world.outboxes; to_tell = told }
+    λ i. record { packets = e i; numbers = st.numbers; jumps = st.jumps; rings = map (map (copy_of pools st.world.buffers)) st.world.rings; outboxes = map (map (copy_of pools st.world.buffers)) st.world.outboxes; to_tell = told; cuts = st.world.cuts }

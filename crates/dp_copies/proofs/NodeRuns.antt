@@ -1,16 +1,18 @@
 -- Each node run is a node run of the copies, and more steps allowed change none.
 use Rattle.std.proofs.Common.{◌≡◌, ℕ, zero, suc, ◌≤◌, Bool, List, [], ◌++◌, Option, Some, None, ◌∙◌, ap, subst, arith, sym, append_assoc}
-use Rattle.std.specs.Prelude.{slice_get, option_and_then}
+use Rattle.std.specs.Prelude.{slice_get, option_map, option_and_then}
 use Rattle.dp_model.specs.Packets.{IsWithin}
-use Rattle.dp_model.specs.Machine.{State, live, At, Setting, Next, Ended, with_step}
-use Rattle.dp_model.specs.CopyMachine.{CopyMove, copy_step, is_told, CopyState, copy_then, copy_goes}
+use Rattle.dp_model.specs.Machine.{State, live, At, Setting, Next, Ended}
+use Rattle.dp_model.specs.CopyMachine.{CopyMove, copy_step, is_told, CopyState, copy_then, copy_goes, copy_budgeted}
 use Rattle.dp_model.specs.Copies.{copied}
 use Rattle.dp_model.specs.Environments.{Environment}
 use Rattle.dp_model.specs.Prefixes.{Route}
 use Rattle.dp_model.specs.declared.instr.Instr.{Instr}
 use Rattle.dp_model.specs.Runs.{Then, Goes}
-use Rattle.dp_model.proofs.Within.{acts_within, IsInside}
+use Rattle.dp_model.proofs.Within.{IsInside}
+use Rattle.dp_model.proofs.Budget.{step_within}
 use Rattle.dp_copies.proofs.Steps.{StepsCopy}
+use Rattle.dp_copies.proofs.Budget.{step_copies}
 
 -- where a step leads, with more steps allowed
 pub then_more : (o : Option CopyMove) (f g : ℕ → CopyState → Option CopyState) (t : CopyState) → ((l : ℕ) (s t : CopyState) → f l s ≡ Some t → g l s ≡ Some t) → copy_then o f ≡ Some t → copy_then o g ≡ Some t
@@ -23,7 +25,7 @@ pub goes_more : (env : Environment) (tables : List (List Route)) (program : List
 goes_more env tables program zero label s t e fuel le = cc
 goes_more env tables program (suc n) label s t e zero le = absurd (omega arith)
 goes_more env tables program (suc n) label s t e (suc fuel) le =
-    then_more (option_and_then (copy_step env tables label s) (slice_get program label)) (copy_goes env tables program n) (copy_goes env tables program fuel) t (λ l s t h. goes_more env tables program n l s t h fuel (omega (arith, le))) e
+    then_more (option_map (copy_budgeted label) (option_and_then (copy_step env tables label s) (slice_get program label))) (copy_goes env tables program n) (copy_goes env tables program fuel) t (λ l s t h. goes_more env tables program n l s t h fuel (omega (arith, le))) e
 
 -- steps in a row
 pub goes_copies : (c : Setting) → StepsCopy c → (program : List Instr) (n label : ℕ) (s s' : State) (told later : List Bool) → IsWithin c.env.pools s.world.buffers (live s) → Goes c program n label s told Ended s' → copy_goes c.env c.tables program n label (copied c.env.pools s (told ++ later)) ≡ Some (copied c.env.pools s' later)
@@ -31,11 +33,10 @@ goes_copies c steps program zero label s s' told later within (is_next, _, _) = 
 goes_copies c steps program (suc n) label s s' told later within (m, rest, st, is_told, next) =
     let pools = c.env.pools in
     let split : told ++ later ≡ m.told ++ (rest ++ later) = ap (λ xs. xs ++ later) is_told ∙ append_assoc m.told rest later in
-    let step = steps label (with_step s) st.instr m (rest ++ later) within st.acts in
-    let o : option_and_then (copy_step c.env c.tables label (copied pools s (told ++ later))) (slice_get program label) ≡ Some (m.next, copied pools m.state (rest ++ later)) =
-    ap (option_and_then (copy_step c.env c.tables label (copied pools s (told ++ later)))) st.here ∙ (ap (λ xs. copy_step c.env c.tables label (copied pools s xs) st.instr) split ∙ step) in
+    let o : option_map (copy_budgeted label) (option_and_then (copy_step c.env c.tables label (copied pools s (told ++ later))) (slice_get program label)) ≡ Some (m.next, copied pools m.state (rest ++ later)) =
+    ap (λ xs. option_map (copy_budgeted label) (option_and_then (copy_step c.env c.tables label (copied pools s xs)) (slice_get program label))) split ∙ step_copies c steps program label s m (rest ++ later) within st in
     ap (λ o. copy_then o (copy_goes c.env c.tables program n)) o
-    ∙ go m.next next (goes_copies c steps program n) (acts_within c label (with_step s) st.instr m within st.acts)
+    ∙ go m.next next (goes_copies c steps program n) (step_within c program label s m within st)
   where
     go : (x : Next) → Then x (λ l. Goes c program n l m.state rest Ended s') ((Ended ≡ Ended) × (n ≡ 0) × (rest ≡ []) × (s' ≡ m.state)) → ((label : ℕ) (s s' : State) (told later : List Bool) → IsWithin c.env.pools s.world.buffers (live s) → Goes c program n label s told Ended s' → copy_goes c.env c.tables program n label (copied c.env.pools s (told ++ later)) ≡ Some (copied c.env.pools s' later)) → IsWithin c.env.pools m.state.world.buffers (live m.state) → copy_then (Some (x, copied c.env.pools m.state (rest ++ later))) (copy_goes c.env c.tables program n) ≡ Some (copied c.env.pools s' later)
     go (At l) next on within = on l m.state s' rest later within next
@@ -46,7 +47,7 @@ goes_copies c steps program (suc n) label s s' told later within (m, rest, st, i
 pub goes_within : (c : Setting) (program : List Instr) (n label : ℕ) (s s' : State) (told : List Bool) (next : Next) → IsInside c s → Goes c program n label s told next s' → IsInside c s'
 goes_within c program zero label s s' told next well (_, _, is) = subst (IsInside c) (sym is) well
 goes_within c program (suc n) label s s' told next well (m, rest, st, is_told, further) =
-    go m.next further (λ l. goes_within c program n l m.state s' rest next) (acts_within c label (with_step s) st.instr m well st.acts)
+    go m.next further (λ l. goes_within c program n l m.state s' rest next) (step_within c program label s m well st)
   where
     go : (x : Next) → Then x (λ l. Goes c program n l m.state rest next s') ((next ≡ Ended) × (n ≡ 0) × (rest ≡ []) × (s' ≡ m.state)) → ((l : ℕ) → IsInside c m.state → Goes c program n l m.state rest next s' → IsInside c s') → IsInside c m.state → IsInside c s'
     go (At l) further on well = on l well further

@@ -53,7 +53,7 @@ behind_written segments n (s ∷ t ∷ rest) old sole = further (behind_written 
     further (inr w) = inr (record { buffer = w.buffer; bytes = w.bytes; is = w.is; sole = w.sole; part = omega (arith, w.part, refs-cons s (t ∷ rest) w.buffer) })
 
 -- the packet is as it was after a move
-abbrev Stays : Setting → State → Packet → Move → Type 0
+abbrev pub Stays : Setting → State → Packet → Move → Type 0
 Stays c s k m = copy_of c.env.pools m.state.world.buffers k ≡ copy_of c.env.pools s.world.buffers k
 
 -- a write is not seen through a packet beside

@@ -64,7 +64,7 @@ serves_lands c programs (suc n) w w' told later runs x well shows serves =
         let waiting : copy_first_waiting x.rings ≡ Some (copy_waiting pools w.buffers next) = ap copy_first_waiting shows.rings ∙ (first_copies pools w.buffers w.rings ∙ ap (option_map (copy_waiting pools w.buffers)) e) in
         let y : CopyState = record x { rings = map (map (copy_of pools w.buffers)) next.rings } in
         let split : told ++ later ≡ now ++ (rest ++ later) = ap (λ ts. ts ++ later) is_told ∙ append_assoc now rest later in
-        let node = node_lands c program next.packet next.ring (record w { rings = next.rings }) mid now (rest ++ later) y (ring_inside c next w e well) (record { rings = refl; outboxes = shows.outboxes; to_tell = shows.to_tell ∙ split }) run in
+        let node = node_lands c program next.packet next.ring (record w { rings = next.rings }) mid now (rest ++ later) y (ring_inside c next w e well) (record { rings = refl; outboxes = shows.outboxes; to_tell = shows.to_tell ∙ split; cuts = shows.cuts }) run in
         let others = on mid rest more node.state node.within node.shows serves in
         record {
           state = others.state;

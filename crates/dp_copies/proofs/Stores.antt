@@ -47,7 +47,7 @@ store_copies pools st p (s ∷ rest) off w n told holds some short sole well =
     (λ i u ne there. other_register i u ne there (λ j segments. others j (λ b. segments b (mine b)))) ∙ ap (λ c. slice_set (map (option_map (copy_of pools old)) st.packets) p (Some c)) head in
     let rings = listed_same pools old new st.world.rings (others (segments_listed st.world.rings) (λ b. omega (arith, mine b, live_parts st b, refs_held st.packets p (Some k) b holds))) in
     let outboxes = listed_same pools old new st.world.outboxes (others (segments_listed st.world.outboxes) (λ b. omega (arith, mine b, live_parts st b, refs_held st.packets p (Some k) b holds))) in
-    λ i. record { packets = packets i; numbers = st.numbers; rings = rings i; outboxes = outboxes i; to_tell = told }
+    λ i. record { packets = packets i; numbers = st.numbers; jumps = st.jumps; rings = rings i; outboxes = outboxes i; to_tell = told; cuts = st.world.cuts }
   where
     other_register : (i : ℕ) (u : Option Packet) → i ≢ p → slice_get st.packets i ≡ Some u → ((j : Packet) → ((b : Number) → one_if (same_number s.buffer b) ≤ refs (s ∷ rest) b → one_if (same_number s.buffer b) + refs j b ≤ refs (live st) b) → Same pools st.world.buffers (stored off w n (s ∷ rest) st.world.buffers) j) → option_map (copy_of pools (stored off w n (s ∷ rest) st.world.buffers)) u ≡ option_map (copy_of pools st.world.buffers) u
     other_register i None ne there f = refl

@@ -45,6 +45,7 @@ got_lands c program port spec bytes w w' told later x room well shows r =
       rings = shows.rings ∙ sym (listed_same pools w.buffers new w.rings (λ b one. same b (omega (arith, one, live_parts (between w) b))));
       outboxes = shows.outboxes ∙ sym (listed_same pools w.buffers new w.outboxes (λ b one. same b (omega (arith, one, live_parts (between w) b))));
       to_tell = refl;
+      cuts = shows.cuts;
     })
     r.run in
     record {
@@ -66,7 +67,7 @@ arrives_lands c program port spec bytes w w' Oversize told later x room well sho
 arrives_lands c program port spec bytes w w' NoBuffer told later x room well shows (small, denied, is_told, is) =
     subst (λ v. Lands c v later (λ fuel. copy_arrives c.env c.tables fuel program port spec bytes x) (λ t. (NoBuffer, t))) (sym is) (record {
       state = record x { to_tell = later };
-      shows = record { rings = shows.rings; outboxes = shows.outboxes; to_tell = refl };
+      shows = record { rings = shows.rings; outboxes = shows.outboxes; to_tell = refl; cuts = shows.cuts };
       enough = 0;
       lands = λ fuel le.
           ap (λ b. cond b (Some (Oversize, x)) (copy_receives c.env c.tables fuel program port spec bytes x x.to_tell)) (le-ltb spec.segs (needed c.env.pools spec.pool (length bytes)) small)
@@ -89,7 +90,7 @@ arrives_lands c program port spec bytes w w' Got told later x room well shows r 
 pub turn_lands : (c : Setting) (nodes : Nodes) (port : ℕ) (bytes : List ℕ) (w w' : World) (outcome : Outcome) (runs : ℕ) (told later : List Bool) (x : CopyState) → HaveRoom c.env → IsInside c (between w) → Shows c.env.pools w (told ++ later) x → Turn c nodes port bytes w outcome runs told w' → Lands c w' later (λ fuel. copy_turn c.env c.tables fuel nodes port bytes x) (λ t. (outcome, t))
 turn_lands c nodes port bytes w w' outcome runs told later x rooms well shows t =
     let split : told ++ later ≡ t.now ++ (t.later ++ later) = ap (λ ts. ts ++ later) t.told_is ∙ append_assoc t.now t.later later in
-    let came = arrives_lands c t.program port t.spec bytes w t.mid outcome t.now (t.later ++ later) x (rooms port t.spec t.spec_is) well (record { rings = shows.rings; outboxes = shows.outboxes; to_tell = shows.to_tell ∙ split }) t.arrives in
+    let came = arrives_lands c t.program port t.spec bytes w t.mid outcome t.now (t.later ++ later) x (rooms port t.spec t.spec_is) well (record { rings = shows.rings; outboxes = shows.outboxes; to_tell = shows.to_tell ∙ split; cuts = shows.cuts }) t.arrives in
     let served = serves_lands c nodes.rings 32 t.mid w' t.later later t.more came.state came.within came.shows t.serves in
     record {
       state = served.state;

@@ -60,8 +60,8 @@ pub shared_run : (w' : World) × Run {T = ℕ} setting nodes arrivals before tol
 shared_run = (record m11.state.world { outboxes = [] ∷ [] }, (Got, [], told, [], 1, m11.state.world, [] ∷ [], turns, (refl, refl, refl, refl), refl, refl, refl))
 
 -- with a list of bytes for each packet: computed
-pub copy_captures : Captures {T = ℕ} one_port [] nodes arrivals told captures
-copy_captures = (12, record { packets = replicate 8 None; numbers = 0 ∷ 9 ∷ replicate 6 0; rings = []; outboxes = [] ∷ []; to_tell = [] }, refl, refl)
+pub copy_captures : Captures {T = ℕ} one_port [] nodes arrivals told captures 0
+copy_captures = (12, record { packets = replicate 8 None; numbers = 0 ∷ 9 ∷ replicate 6 0; jumps = 0; rings = []; outboxes = [] ∷ []; to_tell = []; cuts = 0 }, refl, refl, refl)
 
 -- the bytes of earlier use
 all_sixes : (n : ℕ) → AllByRecursion (λ x. x < 256) (replicate n 6)
@@ -70,7 +70,7 @@ all_sixes (suc n) = (omega arith, all_sixes n)
 
 -- and the run starts as runs do
 pub starts : IsStart one_port before
-starts = record { rings = refl; outboxes = refl; rooms = λ b is. room b.pool b.index is; bytes = λ b. bytes b.pool b.index }
+starts = record { rings = refl; outboxes = refl; rooms = λ b is. room b.pool b.index is; bytes = λ b. bytes b.pool b.index; cuts = refl }
   where
     room : (p i : ℕ) → i < count_at one_port.pools p → length (slice_index_or (slice_index_or before.buffers p []) i []) ≡ room_at one_port.pools p
     room zero zero is = refl

@@ -29,10 +29,10 @@ run_lands c nodes [] w w' told later outcomes captures x rooms well shows (none,
 run_lands {T} c nodes (a ∷ arrivals) w w' told later outcomes captures x rooms well shows (outcome, rest, now, then, runs, mid, more, turn, run, is_told, _, are) =
     let pools = c.env.pools in
     let split : told ++ later ≡ now ++ (then ++ later) = ap (λ ts. ts ++ later) is_told ∙ append_assoc now then later in
-    let first = turn_lands c nodes a.port a.bytes w mid outcome runs now (then ++ later) x rooms well (record { rings = shows.rings; outboxes = shows.outboxes; to_tell = shows.to_tell ∙ split }) turn in
+    let first = turn_lands c nodes a.port a.bytes w mid outcome runs now (then ++ later) x rooms well (record { rings = shows.rings; outboxes = shows.outboxes; to_tell = shows.to_tell ∙ split; cuts = shows.cuts }) turn in
     let y : CopyState = record first.state { outboxes = map (λ _. []) first.state.outboxes } in
     let others = run_lands c nodes arrivals (with_empty_outboxes mid) w' then later rest more y rooms (drained_inside c mid first.within)
-    (record { rings = first.shows.rings; outboxes = ap (map (λ _. [])) first.shows.outboxes ∙ empty_lists (copy_of pools mid.buffers) mid.outboxes; to_tell = first.shows.to_tell }) run in
+    (record { rings = first.shows.rings; outboxes = ap (map (λ _. [])) first.shows.outboxes ∙ empty_lists (copy_of pools mid.buffers) mid.outboxes; to_tell = first.shows.to_tell; cuts = first.shows.cuts }) run in
     let all : List (List Copy) → List (List (T × List ℕ)) = map (map (λ k. (a.time, copy_bytes k))) in
     let records : copy_records_at a.time first.state ≡ records_at a.time mid = ap all first.shows.outboxes ∙ lists_records a.time pools mid.buffers mid.outboxes in
     record {
@@ -45,7 +45,7 @@ run_lands {T} c nodes (a ∷ arrivals) w w' told later outcomes captures x rooms
     }
 
 -- a whole run has the captures of the copies
-pub run_copies : {T : Type 0} (c : Setting) (nodes : Nodes) (arrivals : List (Arrival T)) (w w' : World) (told : List Bool) (outcomes : List Outcome) (captures : List (List (T × List ℕ))) → HaveRoom c.env → IsStart c.env w → Run c nodes arrivals w told outcomes captures w' → Captures c.env c.tables nodes arrivals told captures
+pub run_copies : {T : Type 0} (c : Setting) (nodes : Nodes) (arrivals : List (Arrival T)) (w w' : World) (told : List Bool) (outcomes : List Outcome) (captures : List (List (T × List ℕ))) → HaveRoom c.env → IsStart c.env w → Run c nodes arrivals w told outcomes captures w' → Captures c.env c.tables nodes arrivals told captures w'.cuts
 run_copies c nodes arrivals w w' told outcomes captures rooms start run =
     let copy = copy_of c.env.pools w.buffers in
     let lands = run_lands c nodes arrivals w w' told [] outcomes captures (copy_start c.env told) rooms (start_inside c w start)
@@ -53,5 +53,6 @@ run_copies c nodes arrivals w w' told outcomes captures rooms start run =
       rings = no_lists copy c.env.rings ∙ ap (map (map copy)) (sym start.rings);
       outboxes = no_lists copy c.env.ports ∙ ap (map (map copy)) (sym start.outboxes);
       to_tell = sym (append-nil told);
+      cuts = sym start.cuts;
     }) run in
-    (lands.enough, lands.state, lands.lands lands.enough (omega arith), lands.shows.to_tell)
+    (lands.enough, lands.state, lands.lands lands.enough (omega arith), lands.shows.to_tell, lands.shows.cuts)

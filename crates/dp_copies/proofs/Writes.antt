@@ -43,7 +43,7 @@ wrote pools st p k k' n new c told holds changes sole one is =
     ∙ set_one (option_map (copy_of pools old)) (option_map (copy_of pools new)) st.packets p (Some c) (other_register others)) in
     let rings = listed_same pools old new st.world.rings (others (segments_listed st.world.rings) (λ b. omega (arith, live_parts st b, refs_held st.packets p (Some k) b holds))) in
     let outboxes = listed_same pools old new st.world.outboxes (others (segments_listed st.world.outboxes) (λ b. omega (arith, live_parts st b, refs_held st.packets p (Some k) b holds))) in
-    λ i. record { packets = packets i; numbers = st.numbers; rings = rings i; outboxes = outboxes i; to_tell = told }
+    λ i. record { packets = packets i; numbers = st.numbers; jumps = st.jumps; rings = rings i; outboxes = outboxes i; to_tell = told; cuts = st.world.cuts }
   where
     other_register : ((segments : List Segment) → ((b : Number) → refs k b + refs segments b ≤ refs (live st) b) → Same pools st.world.buffers new segments) → (i : ℕ) (u : Option Packet) → i ≢ p → slice_get st.packets i ≡ Some u → option_map (copy_of pools new) u ≡ option_map (copy_of pools st.world.buffers) u
     other_register others i None ne there = refl

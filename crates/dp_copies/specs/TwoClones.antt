@@ -51,6 +51,7 @@ before = record {
   outboxes = [] ∷ [];
   calls = 0;
   steps = 0;
+  cuts = 0;
 }
 
 -- the record, the other packet and the two clones get buffers

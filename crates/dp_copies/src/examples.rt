@@ -12,5 +12,5 @@ ghost use Rattle.dp_copies.specs.TwoClones.{one_port, setting, nodes, arrivals, 
 pub fn two_clones_in_both_machines()
     ensures starts { IsStart one_port before }
     ensures shared { (w' : World) × Run {T = ℕ} setting nodes arrivals before told (Got ∷ []) captures w' }
-    ensures copied { Captures {T = ℕ} one_port [] nodes arrivals told captures }
+    ensures copied { Captures {T = ℕ} one_port [] nodes arrivals told captures 0 }
 {}

@@ -14,29 +14,29 @@ ghost use Rattle.dp_model.specs.CopyMachine.{Captures};
 ghost use Rattle.dp_copies.specs.Seen.{IsQueued, IsBeside};
 
 /// Clones are copies: a whole run over shared buffers, in which no node run is stuck, has the captures of the
-/// machine in which each packet has bytes of its own, where the allocation calls are told the same. No row, rule or
-/// certificate occurs. The environment is one that `Env::new` accepts. A `T` is the time of a record.
+/// machine in which each packet has bytes of its own, where the allocation calls are told the same, and as many node runs
+/// are cut. No row, rule or certificate occurs. The environment is one that `Env::new` accepts. A `T` is the time of a record.
 pub fn clones_are_copies<T>()
     ensures { (c : Setting) (nodes : Nodes) (arrivals : List (Arrival T)) (w w' : World) (told : List Bool) (outcomes : List Outcome) (captures : List (List (T × List ℕ))) →
         fault_of c.env ≡ None → IsStart c.env w → Run c nodes arrivals w told outcomes captures w' →
-        Captures c.env c.tables nodes arrivals told captures }
+        Captures c.env c.tables nodes arrivals told captures w'.cuts }
 {}
 
 /// The machine of copies is deterministic: on the same records, with the same told to its allocation calls, it has
-/// one list of captures.
+/// one list of captures, and one number of cuts.
 pub fn copies_are_deterministic<T>()
-    ensures { (env : Environment) (tables : List (List Route)) (nodes : Nodes) (arrivals : List (Arrival T)) (told : List Bool) (captures captures' : List (List (T × List ℕ))) →
-        Captures env tables nodes arrivals told captures → Captures env tables nodes arrivals told captures' →
-        captures ≡ captures' }
+    ensures { (env : Environment) (tables : List (List Route)) (nodes : Nodes) (arrivals : List (Arrival T)) (told : List Bool) (captures captures' : List (List (T × List ℕ))) (cuts cuts' : ℕ) →
+        Captures env tables nodes arrivals told captures cuts → Captures env tables nodes arrivals told captures' cuts' →
+        (captures ≡ captures') × (cuts ≡ cuts') }
 {}
 
-/// Two runs on the same records, whose allocation calls are told the same, have the same captures, whatever
-/// buffers were taken and whatever they held.
+/// Two runs on the same records, whose allocation calls are told the same, have the same captures and as many cuts,
+/// whatever buffers were taken and whatever they held.
 pub fn buffers_are_not_seen<T>()
     ensures { (c d : Setting) (nodes : Nodes) (arrivals : List (Arrival T)) (w w' v v' : World) (told : List Bool) (outcomes outcomes' : List Outcome) (captures captures' : List (List (T × List ℕ))) →
         c.env ≡ d.env → c.tables ≡ d.tables → fault_of c.env ≡ None → IsStart c.env w → IsStart c.env v →
         Run c nodes arrivals w told outcomes captures w' → Run d nodes arrivals v told outcomes' captures' v' →
-        captures ≡ captures' }
+        (captures ≡ captures') × (w'.cuts ≡ v'.cuts) }
 {}
 
 /// No store, prepend or append is seen through another packet, nor is a buffer that was used before: a packet in a

@@ -7,7 +7,7 @@ use Rattle.std.proofs.lemmas.List.{map-append, same_from_push, length_push}
 use Rattle.dp_model.specs.Machine.{with_outbox}
 use Rattle.dp_model.proofs.Refs.{get_set_other, get_set_same}
 use Rattle.dp_model.specs.Stores.{Store, with_slot}
-use Rattle.dp_engine.specs.Handles.{packet_at, handles_held, once, occurs, in_slot, StandOnce, Core, core_of, moved}
+use Rattle.dp_engine.specs.Handles.{packet_at, handles_held, once, occurs, in_slot, StandOnce, Core, core_of, moved, Ran}
 use Rattle.dp_engine.proofs.Handles.{is_one, occurs_push, in_slot_some, not_held, not_there}
 use Rattle.std.proofs.lemmas.List.{length-append, take-append-le}
 use Rattle.dp_pcap.specs.Text.{AppendsPart}
@@ -24,7 +24,7 @@ part_before a b xs ys (n, less, appends) = (n, omega (arith, less, length-append
 
 -- ---- the last packet of the list is given up
 
-pub last_held : (s : Store) (room : ℕ) (registers : List (Option ℕ)) (numbers outbox rest : List ℕ) (h calls steps : ℕ) (core : Core) → core_of s room registers numbers outbox calls steps ≡ core → outbox ≡ rest ++ h ∷ [] → StandOnce s.slots registers outbox → (k : Packet) × (slice_get s.slots h ≡ Some (Some k))
+pub last_held : (s : Store) (room : ℕ) (registers : List (Option ℕ)) (numbers outbox rest : List ℕ) (h calls : ℕ) (steps : Ran) (core : Core) → core_of s room registers numbers outbox calls steps ≡ core → outbox ≡ rest ++ h ∷ [] → StandOnce s.slots registers outbox → (k : Packet) × (slice_get s.slots h ≡ Some (Some k))
 last_held s room registers numbers outbox rest h calls steps core is at stand =
     let e : occurs h outbox ≡ occurs h (rest ++ h ∷ []) = ap (occurs h) at in
     in_slot_some (slice_get s.slots h) (omega (arith, stand h, e, occurs_push rest h h, is_one h h refl))
@@ -50,7 +50,7 @@ stand_dropped slots registers outbox rest h k at there stand x =
         no false f = ap once f
 
 -- the view without it
-pub drops : (s : Store) (room : ℕ) (registers : List (Option ℕ)) (numbers outbox rest : List ℕ) (h calls steps : ℕ) (core : Core) (packets : List Packet) (k k' : Packet) → core_of s room registers numbers outbox calls steps ≡ core → outbox ≡ rest ++ h ∷ [] → slice_get s.slots h ≡ Some (Some k') → StandOnce s.slots registers outbox → core.state.world.outboxes ≡ (packets ++ k ∷ []) ∷ []
+pub drops : (s : Store) (room : ℕ) (registers : List (Option ℕ)) (numbers outbox rest : List ℕ) (h calls : ℕ) (steps : Ran) (core : Core) (packets : List Packet) (k k' : Packet) → core_of s room registers numbers outbox calls steps ≡ core → outbox ≡ rest ++ h ∷ [] → slice_get s.slots h ≡ Some (Some k') → StandOnce s.slots registers outbox → core.state.world.outboxes ≡ (packets ++ k ∷ []) ∷ []
     → core_of (with_slot h None s) room registers numbers rest calls steps ≡ moved (with_outbox 0 packets core.state) core
 drops s room registers numbers outbox rest h calls steps core packets k k' is at there stand box =
     let e : occurs h outbox ≡ occurs h (rest ++ h ∷ []) = ap (occurs h) at in

@@ -20,3 +20,4 @@ pub mod Opened
 pub mod Opening
 pub mod Ones
 pub mod Lending
+pub mod GivingUp

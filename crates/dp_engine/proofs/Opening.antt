@@ -6,6 +6,7 @@ use Rattle.std.proofs.lemmas.Bool.{and_parts, leb-true}
 use Rattle.std.proofs.lemmas.Bool.Decides.{nat_tests}
 use Rattle.dp_model.specs.declared.env.PoolSpec.{PoolSpec}
 use Rattle.dp_model.specs.declared.env.PortSpec.{PortSpec}
+use Rattle.dp_model.specs.declared.env.RingSpec.{RingSpec}
 use Rattle.dp_model.specs.declared.env.Entry.TheVariants.{Port}
 use Rattle.dp_model.specs.declared.instr.Instr.{Instr}
 use Rattle.dp_model.specs.Environments.{Environment, room_at, count_at, fault_of, numbers_fit, port_fits, is_ring_count}
@@ -21,12 +22,12 @@ use Rattle.std.specs.List.{position_from}
 use Rattle.std.specs.Option.{option_or}
 use Rattle.std.proofs.lemmas.Iterator.Adapters.{position_from-zero}
 use Rattle.dp_model.specs.declared.env.EnvError.TheVariants.{BadNumber, BadPort}
-use Rattle.dp_engine.specs.Handles.{Core, core_of, in_slot}
+use Rattle.dp_engine.specs.Handles.{Core, core_of, in_slot, ran}
 use Rattle.dp_engine.specs.Steps.{setting_of}
 use Rattle.dp_engine.specs.Plain.{store_of}
 use Rattle.dp_engine.specs.Tallies.{refused_of}
 use Rattle.std.proofs.lemmas.Option.{same_Some}
-use Rattle.dp_model.specs.Rules.{IsAccepted}
+use Rattle.dp_model.specs.Rules.{IsCertified}
 use Rattle.dp_model.specs.Machine.{Setting, live}
 use Rattle.dp_model.specs.Runs.{Nodes, between}
 use Rattle.dp_model.specs.Laws.{Checked}
@@ -111,7 +112,7 @@ all_bytes pool b = go b.pool b.index
     go (suc p) i = tt
 
 abbrev pub first_core : PoolSpec → ℕ → Core
-first_core pool room = core_of (store_of pool (zero_buffers pool) (replicate pool.count None)) room (replicate 8 None) (replicate 8 0) [] 0 0
+first_core pool room = core_of (store_of pool (zero_buffers pool) (replicate pool.count None)) room (replicate 8 None) (replicate 8 0) [] 0 (ran 0 0 0)
 
 pub starts : (env : Environment) (s : IsPlainSetup env) (room : ℕ) → IsStart env (first_core s.pool room).state.world
 starts env s room = record {
@@ -119,6 +120,7 @@ starts env s room = record {
   outboxes = sym (ap (map (λ _. [])) s.port_is);
   rooms = λ b lt. (let P : List PoolSpec → Type 0 = λ pools. IsNumber pools b → length (bytes_of (zero_buffers s.pool ∷ []) b) ≡ room_at pools b.pool in subst P (sym s.pool_is) (rooms_are s.pool b) lt);
   bytes = all_bytes s.pool;
+  cuts = refl;
 }
 
 pub engine_opened : (q : Question) (s : IsPlainSetup q.env) (room : ℕ) → fault_of q.env ≡ None → q.entry ≡ Port 0 → room ≡ s.port.queue → IsEngine q [] (first_core s.pool room) 0 no_tallies
@@ -141,6 +143,7 @@ engine_opened q s room valid entry room_is =
       limit = omega arith;
       all_counted = refl;
       calls = omega arith;
+      cuts = omega arith;
       sent = omega arith;
       ready = start_ready (setting_of q.env []) w (record { count = sym s.tables; hops = tt }) (starts q.env s room);
     }
@@ -185,7 +188,7 @@ reached_none pattern i n calls count here lt is = omega (arith, is, refused_more
 
 -- ---- what is known of a run from an opened engine
 
-pub is_pipeline : (q : Question) (s : IsPlainSetup q.env) (e : EngineState) → IsOpened q e → fault_of q.env ≡ None → IsAccepted q → q.entry ≡ Port 0 → IsPipeline e.setting e.nodes
+pub is_pipeline : (q : Question) (s : IsPlainSetup q.env) (e : EngineState) → IsOpened q e → fault_of q.env ≡ None → IsCertified q → q.entry ≡ Port 0 → IsPipeline e.setting e.nodes
 is_pipeline q s e o valid accepted entry =
     let c = setting_of q.env [] in
     let nodes : Nodes = record { ports = q.program ∷ []; rings = [] } in
@@ -195,12 +198,17 @@ is_pipeline q s e o valid accepted entry =
         ports = port_checked;
         rings = λ ring program there. absurd (no_ring ring program there);
         rooms = ports_have_room q.env valid;
+        facts = λ ring spec there. absurd (no_spec ring spec q.env.rings s.rings there);
       };
       ports = sym (ap length s.port_is);
       rings = sym (ap length s.rings);
     } in
     subst (λ n. IsPipeline e.setting n) (sym o.nodes) (subst (λ c. IsPipeline c nodes) (sym o.setting) p)
   where
+    no_spec : (ring : ℕ) (spec : RingSpec) (rings : List RingSpec) → rings ≡ [] → slice_get rings ring ≡ Some spec → ⊥
+    no_spec ring spec [] none there = cc
+    no_spec ring spec (x ∷ rings) none there = cc
+
     no_ring : (ring : ℕ) (program : List Instr) → slice_get [] ring ≡ Some program → ⊥
     no_ring ring program there = cc
 
@@ -208,7 +216,7 @@ is_pipeline q s e o valid accepted entry =
     port_checked zero program there = record { question = q; accepted = accepted; program_is = same_Some q.program program there; env_is = refl; entry_is = entry }
     port_checked (suc port) program there = cc
 
-pub never_sticks : (q : Question) (s : IsPlainSetup q.env) (e : EngineState) → IsOpened q e → fault_of q.env ≡ None → IsAccepted q → q.entry ≡ Port 0 → NeverSticks e
+pub never_sticks : (q : Question) (s : IsPlainSetup q.env) (e : EngineState) → IsOpened q e → fault_of q.env ≡ None → IsCertified q → q.entry ≡ Port 0 → NeverSticks e
 never_sticks q s e o valid accepted entry arrivals b of_run =
     let pipeline = is_pipeline q s e o valid accepted entry in
     let start : IsStart e.setting.env e.world = subst (λ (c : Setting). IsStart c.env e.world) (sym o.setting) o.start in
@@ -229,7 +237,7 @@ whole_report env e state r same none is p pools =
 
 -- ---- what a whole run answers
 
-pub ran_is : (q : Question) (s : IsPlainSetup q.env) (first last end : EngineState) (a b c d : Option (List ℕ)) (answer answer' : Result (Option ℕ) OneCause) (state : InputState) (report : Report) → fault_of q.env ≡ None → IsAccepted q → q.entry ≡ Port 0 → IsOpened q first → IsRun first last a b c d answer → answer ≡ answer' → end ≡ emptied last → IsReport end state report → Ran q a b c d answer' state report
+pub ran_is : (q : Question) (s : IsPlainSetup q.env) (first last end : EngineState) (a b c d : Option (List ℕ)) (answer answer' : Result (Option ℕ) OneCause) (state : InputState) (report : Report) → fault_of q.env ≡ None → IsCertified q → q.entry ≡ Port 0 → IsOpened q first → IsRun first last a b c d answer → answer ≡ answer' → end ≡ emptied last → IsReport end state report → Ran q a b c d answer' state report
 ran_is q s first last end a b c d answer answer' state report valid accepted entry opened run same is reports = record {
   first = first;
   last = last;

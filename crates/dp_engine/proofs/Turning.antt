@@ -6,13 +6,13 @@ use Rattle.std.specs.List.{AllByRecursion}
 use Rattle.dp_model.specs.declared.env.PortSpec.{PortSpec}
 use Rattle.dp_model.specs.Environments.{room_at}
 use Rattle.dp_model.specs.Packets.{Packet, needed, received}
-use Rattle.dp_model.specs.Rules.{Question, IsAccepted}
+use Rattle.dp_model.specs.Rules.{Question, IsCertified}
 use Rattle.dp_model.specs.Machine.{Setting, World, State, At, is_denied, with_outbox}
 use Rattle.dp_model.specs.Runs.{Outcome, Got, first_state, between, Serves, Arrives, Turn, runs_of}
 use Rattle.dp_model.specs.Laws.{Ready, Begins}
 use Rattle.dp_model.proofs.Begin.{received_begins}
 use Rattle.dp_model.proofs.NodeRuns.{goes_known, begins_known, accepted_is_sound}
-use Rattle.dp_model.proofs.Later.{acts_lead}
+use Rattle.dp_model.proofs.Soundness.{acts_place}
 use Rattle.dp_engine.specs.Handles.{Core, moved}
 use Rattle.dp_engine.specs.Steps.{setting_of, CanRun, Runs}
 use Rattle.dp_engine.specs.declared.report.Tallies.{Tallies}
@@ -49,7 +49,7 @@ pub record Received (q : Question) (pattern : List ℕ) (core : Core) (spec : Po
   pub ready : (s' : State) → Runs (setting_of q.env pattern) q.program s s' → Ready (setting_of q.env pattern) s'.world
   pub arrives : is_denied (setting_of q.env pattern) (between core.state.world) spec.pool (needed q.env.pools spec.pool (length bytes)) ≡ false → (s' : State) → Runs (setting_of q.env pattern) q.program s s' → (told : List Bool) × Arrives (setting_of q.env pattern) q.program 0 spec bytes core.state.world Got told s'.world
 
-pub received_is : {turns : ℕ} {t : Tallies} (q : Question) (pattern : List ℕ) (core : Core) (e : IsEngine q pattern core turns t) (bytes : List ℕ) (s : State) → IsAccepted q → needed q.env.pools e.spec.pool (length bytes) ≤ e.spec.segs → IsReceived (setting_of q.env pattern) e.spec.pool 0 bytes core.state.world s → Received q pattern core e.spec bytes s
+pub received_is : {turns : ℕ} {t : Tallies} (q : Question) (pattern : List ℕ) (core : Core) (e : IsEngine q pattern core turns t) (bytes : List ℕ) (s : State) → IsCertified q → needed q.env.pools e.spec.pool (length bytes) ≤ e.spec.segs → IsReceived (setting_of q.env pattern) e.spec.pool 0 bytes core.state.world s → Received q pattern core e.spec bytes s
 received_is q pattern core e bytes s accepted fits r =
     let c = setting_of q.env pattern in
     let w = core.state.world in
@@ -60,10 +60,12 @@ received_is q pattern core e bytes s accepted fits r =
     let start = begins_known c q k 0 w1 accepted begins in
     subst (Received q pattern core e.spec bytes) (sym r.state) (record {
       can_run = record {
+        first = refl;
+        eight = refl;
         never_stuck = sound.never_stuck;
         leads = λ n label told s' i m goes here acts.
             let (at, within, place) = goes_known c q refl accepted n 0 (first_state k 0 w1) told (At label) s' start goes in
-            acts_lead c q label at.0 s' refl accepted at.1 at.2 within i m here acts;
+            acts_place c q label at.0 s' refl accepted at.1 at.2 within i m here acts;
       };
       ready = λ s' (n, told, goes). sound.ends told s'.world (n, s', goes, refl);
       arrives = λ allowed s' (n, told, goes). (
@@ -109,6 +111,7 @@ cleared q pattern core packets t' box e received nobuf oversize sent =
       limit = e.limit;
       all_counted = omega (arith, e.all_counted, received, nobuf, oversize);
       calls = e.calls;
+      cuts = e.cuts;
       sent = omega (arith, e.sent, sent, count);
       ready = subst none same (drained_ready c w e.ready);
     }
@@ -120,6 +123,13 @@ idle_count (Some k ∷ packets) all = let never = all.0 in cc
 
 pub received_count : (c : Setting) (pool port : ℕ) (bytes : List ℕ) (w : World) (s : State) → IsReceived c pool port bytes w s → packet_count s ≡ listed_count w.outboxes + 1
 received_count c pool port bytes w s r = let e = ap packet_count r.state in omega (arith, e)
+
+-- receiving counts no step and no cut
+pub received_steps : (c : Setting) (pool port : ℕ) (bytes : List ℕ) (w : World) (s : State) → IsReceived c pool port bytes w s → s.world.steps ≡ w.steps
+received_steps c pool port bytes w s r = ap (λ (x : State). x.world.steps) r.state
+
+pub received_cuts : (c : Setting) (pool port : ℕ) (bytes : List ℕ) (w : World) (s : State) → IsReceived c pool port bytes w s → s.world.cuts ≡ w.cuts
+received_cuts c pool port bytes w s r = ap (λ (x : State). x.world.cuts) r.state
 
 pub only_port : (ports : List PortSpec) (spec : PortSpec) (port : ℕ) → ports ≡ spec ∷ [] → port < length ports → port ≡ 0
 only_port ports spec port e lt = let n : length ports ≡ 1 = ap length e in omega (arith, n, lt)

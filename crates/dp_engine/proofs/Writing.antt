@@ -18,7 +18,7 @@ use Rattle.dp_model.specs.Packets.{Packet, packet_bytes}
 use Rattle.dp_model.specs.Machine.{World}
 use Rattle.dp_model.specs.Runs.{drained}
 use Rattle.dp_model.specs.Stores.{Store, Has}
-use Rattle.dp_engine.specs.Handles.{held_of, packet_at, occurs, StandOnce, Core, core_of}
+use Rattle.dp_engine.specs.Handles.{held_of, packet_at, occurs, StandOnce, Core, core_of, Ran}
 use Rattle.dp_engine.specs.Drains.{record_of, captured, WrotePart, Written}
 use Rattle.dp_engine.proofs.Handles.{get_map, in_slot_some, is_one}
 
@@ -80,7 +80,7 @@ sound_after is_broken w w' (x ∷ bytes) sound some none = some (omega arith)
 
 -- ---- the packets of the transmit list
 
-pub listed_at : (s : Store) (room : ℕ) (registers : List (Option ℕ)) (numbers outbox : List ℕ) (calls steps : ℕ) (core : Core) (i h d : ℕ) (packets : List Packet) (k : Packet) → core_of s room registers numbers outbox calls steps ≡ core → StandOnce s.slots registers outbox → core.state.world.outboxes ≡ packets ∷ [] → slice_get packets i ≡ Some k → h ≡ get_or outbox i d → Has s h k
+pub listed_at : (s : Store) (room : ℕ) (registers : List (Option ℕ)) (numbers outbox : List ℕ) (calls : ℕ) (steps : Ran) (core : Core) (i h d : ℕ) (packets : List Packet) (k : Packet) → core_of s room registers numbers outbox calls steps ≡ core → StandOnce s.slots registers outbox → core.state.world.outboxes ≡ packets ∷ [] → slice_get packets i ≡ Some k → h ≡ get_or outbox i d → Has s h k
 listed_at s room registers numbers outbox calls steps core i h d packets k is stand box here at =
     let same : map (packet_at s.slots) outbox ≡ packets = same_first _ _ (ap (λ (c : Core). c.state.world.outboxes) is ∙ box) in
     let (x, there, becomes) = get_map (packet_at s.slots) outbox i k (ap (λ l. slice_get l i) same ∙ here) in

@@ -49,20 +49,31 @@ pub record Core : Type 0 where
   pub room : ℕ
   pub state : State
 
+-- what a machine counts beside its allocation calls: steps, cut node runs, and the backward jumps of the node run
+pub record Ran : Type 0 where
+  pub steps : ℕ
+  pub cuts : ℕ
+  pub jumps : ℕ
+
+abbrev pub ran : ℕ → ℕ → ℕ → Ran
+ran steps cuts jumps = record { steps = steps; cuts = cuts; jumps = jumps }
+
 -- a machine of these parts
-abbrev pub core_of : Store → ℕ → List (Option ℕ) → List ℕ → List ℕ → ℕ → ℕ → Core
+abbrev pub core_of : Store → ℕ → List (Option ℕ) → List ℕ → List ℕ → ℕ → Ran → Core
 core_of store room registers numbers outbox calls steps = record {
   pools = store.pools;
   room = room;
   state = record {
     packets = map (register_at store.slots) registers;
     numbers = numbers;
+    jumps = steps.jumps;
     world = record {
       buffers = store.buffers;
       rings = [];
       outboxes = map (packet_at store.slots) outbox ∷ [];
       calls = calls;
-      steps = steps;
+      steps = steps.steps;
+      cuts = steps.cuts;
     };
   };
 }

@@ -30,6 +30,7 @@ pub record IsReport (e : EngineState) (state : InputState) (r : Report) : Type 0
   pub pools : (p : PoolSpec) → e.setting.env.pools ≡ p ∷ [] → r.pools.items ≡ pool_report (available e.setting.env.pools (live (between e.world)) 0) p.count ∷ []
   pub calls : r.calls ≡ e.world.calls
   pub refused : r.refused ≡ refused_of e.setting.pattern e.world.calls
+  pub cut : r.cut ≡ e.world.cuts
 
 -- all buffers of the only pool are free
 abbrev pub IsWhole : Environment → Report → Type 0
@@ -42,3 +43,4 @@ pub record IsUnopened (env : Environment) (r : Report) : Type 0 where
   pub whole : IsWhole env r
   pub calls : r.calls ≡ 0
   pub refused : r.refused ≡ 0
+  pub cut : r.cut ≡ 0

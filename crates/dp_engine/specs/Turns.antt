@@ -61,8 +61,9 @@ pub record IsEngine (q : Question) (pattern : List ℕ) (core : Core) (turns : �
   pub least_room : core.room ≤ 65536
   pub limit : turns ≤ 134217728
   pub all_counted : tallies.received + tallies.nobuf + tallies.oversize ≡ turns
-  -- a turn makes at most one allocation call for each instruction of its node runs, and one for the record
-  pub calls : core.state.world.calls ≤ turns * 33793
+  -- a turn makes at most one allocation call for each step of its node run, and one for the record
+  pub calls : core.state.world.calls ≤ turns * 263169
+  pub cuts : core.state.world.cuts ≤ turns
   -- each packet comes from an allocation call
   pub sent : tallies.sent + packet_count core.state ≤ core.state.world.calls
   pub ready : Ready (setting_of q.env pattern) core.state.world

@@ -2,7 +2,7 @@
 ghost use Rattle.std.specs.Prelude.{◌≡◌, ℕ, ◌+◌, ◌^◌, ◌<◌, ◌≤◌, Bool, false, List, [], ◌∷◌, length, flat_map, take, MatchResult, IfOk, IfErr, IsOk, IsErr, IsTrue};
 ghost use Rattle.dp_model.specs.Environments.{room_at};
 ghost use Rattle.dp_model.specs.Packets.{Packet, needed as segments_needed};
-ghost use Rattle.dp_model.specs.Runs.{Turn as IsTurn, between};
+ghost use Rattle.dp_model.specs.Runs.{Turn as IsTurn, Took, between};
 ghost use Rattle.dp_model.specs.Machine.{live};
 ghost use Rattle.std.specs.Io.KnownBytes.{Appends};
 ghost use Rattle.dp_pcap.specs.Text.{record_text};
@@ -17,7 +17,7 @@ use crate::machine::Machine;
 use crate::parts::count_parts;
 use crate::plain::Plain;
 use crate::report::{InputState, Memory, PoolReport, PortReport, Report, Tallies};
-use crate::run::run;
+use crate::run::{NodeRun, run};
 use arrayvec::ArrayVec;
 use dp_check::Checked;
 use dp_model::{Entry, Env, PacketLayer, PoolSpec};
@@ -43,6 +43,10 @@ pub struct Turn {
     pub outcome: Outcome,
     /// How many node runs there were: without rings 1 for a record that was received, else 0.
     pub runs: u8,
+    /// How many of them were cut.
+    pub cuts: u8,
+    /// How many instructions they ran.
+    pub steps: u32,
 }
 
 /// The writer failed.
@@ -88,6 +92,7 @@ impl<P: PacketLayer> Engine<P> {
         requires limit { self.old.turns < 134217728 }
         requires size { length bytes.now ≤ 262144 }
         ensures turn { (told : List Bool) × IsTurn self.old.setting self.old.nodes port bytes.now self.old.world (outcome_of result.outcome) result.runs told self.new.world }
+        ensures took { Took self.old.world self.new.world result.steps result.cuts }
         ensures turns { self.new.turns ≡ self.old.turns + 1 }
         ensures tallies { self.new.tallies ≡ counted (outcome_of result.outcome) self.old.tallies }
         ensures setting { self.new.setting ≡ self.old.setting }
@@ -101,6 +106,8 @@ impl<P: PacketLayer> Engine<P> {
             return Turn {
                 outcome: Outcome::Oversize,
                 runs: 0,
+                cuts: 0,
+                steps: 0,
             };
         }
         if !self
@@ -111,10 +118,12 @@ impl<P: PacketLayer> Engine<P> {
             return Turn {
                 outcome: Outcome::NoBuffer,
                 runs: 0,
+                cuts: 0,
+                steps: 0,
             };
         }
         self.tallies.received += 1;
-        run(
+        let NodeRun { steps, cuts } = run(
             &mut self.machine,
             env,
             self.pattern.as_slice(),
@@ -123,6 +132,8 @@ impl<P: PacketLayer> Engine<P> {
         Turn {
             outcome: Outcome::Got,
             runs: 1,
+            cuts,
+            steps,
         }
     }
 
@@ -235,6 +246,7 @@ impl<P: PacketLayer> Engine<P> {
             pools,
             calls,
             refused: reached(self.pattern.as_slice(), calls),
+            cut: self.machine.cuts(),
         }
     }
 }

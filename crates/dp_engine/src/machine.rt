@@ -21,14 +21,16 @@ ghost use Rattle.std.specs.Prelude.{MatchResult, slice_get, replicate, take};
 ghost use Rattle.std.specs.Vec.{vec_capacity};
 ghost use Rattle.dp_model.specs.Packets.{available};
 ghost use Rattle.dp_model.specs.Machine.{live};
-ghost use Rattle.dp_engine.specs.Handles.{in_slot, core_of};
+ghost use Rattle.dp_engine.specs.Handles.{in_slot, core_of, ran};
+ghost use Rattle.dp_model.specs.Machine.{with_cut, without_packets};
+ghost use Rattle.dp_engine.specs.Steps.{with_jumps};
 
 mod calls;
 mod register;
 
 use crate::numbers::calculate;
 use crate::put::put_packet;
-use calls::handle_in;
+use calls::{handle_in, is_held_in};
 use dp_model::{Env, Instr, NumberRegister, Packet as Handle, PacketLayer, PacketRegister};
 use dp_pcap::{Calls, PcapError, Sink, Time, Unit};
 use register::{Register, no_packets, one_packet};
@@ -42,15 +44,17 @@ pub(crate) struct Machine<P: PacketLayer> {
     outbox: Vec<u32>,
     calls: u64,
     steps: Calls,
+    cuts: u64,
+    jumps: u16,
 }
 
 impl<P: PacketLayer> Model for Machine<P> {
     ghost use Rattle.std.specs.Vec.{vec_capacity};
-    ghost use Rattle.dp_engine.specs.Handles.{Core, core_of, StandOnce};
+    ghost use Rattle.dp_engine.specs.Handles.{Core, core_of, ran, StandOnce};
 
     ghost Value = { Core };
 
-    ghost view = { λ m. core_of (P.store m.layer) (vec_capacity m.outbox) m.registers m.numbers m.outbox.items m.calls m.steps.count };
+    ghost view = { λ m. core_of (P.store m.layer) (vec_capacity m.outbox) m.registers m.numbers m.outbox.items m.calls (ran m.steps.count m.cuts m.jumps) };
 
     ghost invariant = { λ m. StandOnce (P.store m.layer).slots m.registers m.outbox.items };
 }
@@ -67,7 +71,7 @@ impl<P: PacketLayer> Machine<P> {
     pub(crate) fn over(layer: P, outbox: Vec<u32>) -> Machine<P>
         requires none { (h : ℕ) → in_slot (slice_get (P.store layer).slots h) ≡ 0 }
         requires empty { outbox.items ≡ [] }
-        ensures { result ≡ core_of (P.store layer) (vec_capacity outbox) (replicate 8 None) (replicate 8 0) [] 0 0 }
+        ensures { result ≡ core_of (P.store layer) (vec_capacity outbox) (replicate 8 None) (replicate 8 0) [] 0 (ran 0 0 0) }
     {
         Machine {
             layer,
@@ -76,6 +80,8 @@ impl<P: PacketLayer> Machine<P> {
             outbox,
             calls: 0,
             steps: Calls::new(),
+            cuts: 0,
+            jumps: 0,
         }
     }
 
@@ -125,6 +131,7 @@ impl<P: PacketLayer> Machine<P> {
             Some(packet) => {
                 self.registers = one_packet(packet.number());
                 self.numbers = [port as u64, 0, 0, 0, 0, 0, 0, 0];
+                self.jumps = 0;
                 true
             }
             None => false,
@@ -204,6 +211,59 @@ impl<P: PacketLayer> Machine<P> {
         ensures { self.new ≡ moved (with_step self.old.state) self.old }
     {
         self.steps = self.steps.one_more();
+    }
+
+    // How many node runs were cut.
+    pub(crate) fn cuts(&self) -> u64
+        ensures { result ≡ self.now.state.world.cuts }
+    {
+        self.cuts
+    }
+
+    // Whether the node run may take a backward jump. Then it is counted.
+    pub(crate) fn jump(&mut self) -> bool
+        ensures taken { IsTrue result → (self.old.state.jumps < 256) × (self.new ≡ moved (with_jumps (self.old.state.jumps + 1) self.old.state) self.old) }
+        ensures over { IsFalse result → (256 ≤ self.old.state.jumps) × (self.new ≡ self.old) }
+    {
+        if self.jumps < 256 {
+            self.jumps += 1;
+            true
+        } else {
+            false
+        }
+    }
+
+    // Gives up what a register holds, if it holds a packet.
+    fn give_up(&mut self, p: PacketRegister)
+        ensures { self.new ≡ moved (without_packet p self.old.state) self.old }
+    {
+        if is_held_in(&self.registers, p) {
+            self.free(p);
+        }
+    }
+
+    fn count_cut(&mut self)
+        requires { self.old.state.world.cuts + 1 < 2 ^ 64 }
+        ensures { self.new ≡ moved (with_cut self.old.state) self.old }
+    {
+        self.cuts += 1;
+    }
+
+    // Cuts the node run: what its registers hold is given up, p0 first, and it is counted.
+    pub(crate) fn cut(&mut self)
+        requires few { self.old.state.world.cuts + 1 < 2 ^ 64 }
+        requires eight { length self.old.state.packets ≡ 8 }
+        ensures { self.new ≡ moved (without_packets (with_cut self.old.state)) self.old }
+    {
+        self.count_cut();
+        self.give_up(PacketRegister::new(0));
+        self.give_up(PacketRegister::new(1));
+        self.give_up(PacketRegister::new(2));
+        self.give_up(PacketRegister::new(3));
+        self.give_up(PacketRegister::new(4));
+        self.give_up(PacketRegister::new(5));
+        self.give_up(PacketRegister::new(6));
+        self.give_up(PacketRegister::new(7));
     }
 
     // Gives up the last packet of the transmit list.

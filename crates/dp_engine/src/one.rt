@@ -162,6 +162,7 @@ fn unopened(env: &Env) -> Report
         pools,
         calls: 0,
         refused: 0,
+        cut: 0,
     }
 }
 

@@ -54,6 +54,8 @@ pub struct Report {
     pub calls: u64,
     /// How many of them the pattern refused.
     pub refused: u64,
+    /// How many node runs were cut: they took a backward jump more than 256.
+    pub cut: u64,
 }
 
 /// What an engine counts of its port.

@@ -1,6 +1,6 @@
 -- The rows that are found pass where some rows do.
 use Rattle.std.proofs.Common.{◌≡◌, ℕ, zero, suc, ◌+◌, ◌<◌, ◌≤◌, Bool, true, false, not, ◌||◌, List, length, set, Option, Some, None, refl, sym, ap, ◌∙◌, subst, arith}
-use Rattle.std.specs.Prelude.{nat_lt, slice_get, replicate, IsTrue}
+use Rattle.std.specs.Prelude.{nat_lt, slice_get, replicate, IsTrue, Result, Ok, Err, IfOk, IfErr}
 use Rattle.std.specs.List.{list_all}
 use Rattle.std.specs.Option.{option_map_or}
 use Rattle.std.proofs.lemmas.Bool.{and_parts, eq-eqb}
@@ -11,11 +11,15 @@ use Rattle.dp_model.specs.declared.env.Entry.{Entry}
 use Rattle.dp_model.specs.declared.instr.Instr.{Instr}
 use Rattle.dp_model.specs.declared.rule.Rule.{Rule}
 use Rattle.dp_model.specs.Environments.{Environment}
+use Rattle.dp_model.specs.Jumps.{IsForward}
 use Rattle.dp_model.specs.Rows.{entails, leads, entry_row, is_well_formed_row}
 use Rattle.dp_model.specs.Rules.{Question, row_passes, holds, holds_at, uses, places_exist, later_rules, IsAccepted, IsRefused}
 use Rattle.dp_check.specs.Faults.{question}
+use Rattle.dp_cert.specs.Spelling.{Certificate}
 use Rattle.dp_infer.specs.Joins.{joined, dead_row, begun, found_rows}
-use Rattle.dp_infer.specs.Inference.{Certifies, SaysMost}
+use Rattle.dp_infer.specs.Inference.{Certifies, SaysMost, IsWithout}
+use Rattle.dp_infer.specs.declared.inferring.InferError.{InferError}
+use Rattle.dp_infer.specs.declared.inferring.InferError.TheVariants.{Memory, NoCert}
 use Rattle.dp_infer.proofs.Stronger.{both_are}
 use Rattle.dp_infer.proofs.Changes.{AreWellFormed}
 use Rattle.dp_infer.proofs.PacketTests.{all_held_keeps}
@@ -23,6 +27,7 @@ use Rattle.dp_infer.proofs.RulesKeep.{targets_keep, bytes_keep, share_keeps, seg
 use Rattle.dp_infer.proofs.JoinLaws.{rows_join, joined_well_formed}
 use Rattle.dp_infer.proofs.RowLists.{all_at, all_set, set_here, passes_at, passes, fits_from}
 use Rattle.dp_infer.proofs.Reach.{Fit, fit_set}
+use Rattle.dp_infer.proofs.Passing.{spread_long}
 use Rattle.dp_infer.proofs.Accepted.{second_rule, is_accepted, all_from}
 use Rattle.dp_infer.proofs.Spread.{Sound, live_rules, leads_well, spread_sound}
 
@@ -69,23 +74,23 @@ begun_go q (Some row) fits some is e =
 begun_sound : (q : Question) → IsAccepted q → list_all is_well_formed_row q.rows ≡ true → 0 < length q.program → Sound q (begun (entry_row q.env q.entry) (length q.program)) 0
 begun_sound q accepted fits some = begun_go q (entry_row q.env q.entry) fits some refl (second_rule q accepted)
 
-pub found_sound : (q : Question) → IsAccepted q → list_all is_well_formed_row q.rows ≡ true → 0 < length q.program → Sound q (found_rows q.program q.env q.entry) (length q.program)
-found_sound q accepted fits some =
-    let all = spread_sound q q.program 0 (begun (entry_row q.env q.entry) (length q.program)) accepted fits (λ k. let e : 0 + k ≡ k = omega arith in rw e refl) (begun_sound q accepted fits some) in
+pub found_sound : (q : Question) → IsForward q.program → IsAccepted q → list_all is_well_formed_row q.rows ≡ true → 0 < length q.program → Sound q (found_rows q.program q.env q.entry) (length q.program)
+found_sound q forward accepted fits some =
+    let all = spread_sound q q.program 0 (begun (entry_row q.env q.entry) (length q.program)) forward accepted fits (λ k. let e : 0 + k ≡ k = omega arith in rw e refl) (begun_sound q accepted fits some) in
     let e : 0 + length q.program ≡ length q.program = omega arith in
     subst (λ (n : ℕ). Sound q (found_rows q.program q.env q.entry) n) e all
 
 -- ---- the end
 
 -- the rules hold of a live row
-live_hold : (q : Question) (rows : List Row) (label : ℕ) (i : Instr) (row : Row) → IsAccepted q → Sound q rows (length q.program) → slice_get q.program label ≡ Some i → slice_get rows label ≡ Some row → row.live ≡ true
+live_hold : (q : Question) (rows : List Row) (label : ℕ) (i : Instr) (row : Row) → IsAccepted q → list_all is_well_formed_row q.rows ≡ true → Sound q rows (length q.program) → slice_get q.program label ≡ Some i → slice_get rows label ≡ Some row → row.live ≡ true
     → list_all (holds_at (question q.program rows q.env q.entry) label i row) later_rules ≡ true
-live_hold q rows label i row accepted so at_i at_row live =
+live_hold q rows label i row accepted cert_fits so at_i at_row live =
     let (u, at_u, s) = passes_at q.rows label row (so.fit.below label row at_row live) in
     let fits : AreWellFormed row = fits_from row (all_at is_well_formed_row rows label row so.well_formed at_row) in
     let all = live_rules q label i u accepted at_i at_u s.other_live in
     let each = all_from (holds_at q label i u) later_rules all in
-    let well = leads_well q label i row u s fits all in
+    let well = leads_well q label i row u s fits (fits_from u (all_at is_well_formed_row q.rows label u cert_fits at_u)) all in
     let places = (and_parts (places_exist q.env i) (list_all (λ to. nat_lt to.to (length q.program)) (leads q.env label u i)) each.0).0 in
     let entailed = so.done label (slice_get_within q.program label i at_i) i row at_i at_row live in
     both_are (both_are places well.within)
@@ -96,49 +101,66 @@ live_hold q rows label i row accepted so at_i at_row live =
     (both_are (segments_keep row u i s fits each.1.1.1.1.1.0)
     (both_are (leave_keeps q.env row u i s each.1.1.1.1.1.1.0)
     (both_are (end_keeps row u i s each.1.1.1.1.1.1.1.0)
-    (both_are entailed
-    (both_are well.later refl)))))))))
+    (both_are entailed refl))))))))
 
-later_hold : (q : Question) (rows : List Row) (label : ℕ) → IsAccepted q → Sound q rows (length q.program) → list_all (holds (question q.program rows q.env q.entry) label) later_rules ≡ true
-later_hold q rows label accepted so = go (slice_get q.program label) (slice_get rows label) refl refl
+later_hold : (q : Question) (rows : List Row) (label : ℕ) → IsAccepted q → list_all is_well_formed_row q.rows ≡ true → Sound q rows (length q.program) → list_all (holds (question q.program rows q.env q.entry) label) later_rules ≡ true
+later_hold q rows label accepted cert_fits so = go (slice_get q.program label) (slice_get rows label) refl refl
   where
     r : Question
     r = question q.program rows q.env q.entry
 
     at : (i : Instr) (row : Row) (b : Bool) → row.live ≡ b → slice_get q.program label ≡ Some i → slice_get rows label ≡ Some row → list_all (λ rule. not b || holds_at r label i row rule) later_rules ≡ true
     at i row false dead at_i at_row = refl
-    at i row true live at_i at_row = live_hold q rows label i row accepted so at_i at_row live
+    at i row true live at_i at_row = live_hold q rows label i row accepted cert_fits so at_i at_row live
 
     go : (o : Option Instr) (p : Option Row) → slice_get q.program label ≡ o → slice_get rows label ≡ p → list_all (holds r label) later_rules ≡ true
     go None p e f = rw e refl
     go (Some i) None e f = rw (e, f) refl
     go (Some i) (Some row) e f = rw (e, f) (at i row row.live refl e f)
 
-pub sound_accepted : (q : Question) (rows : List Row) → IsAccepted q → Sound q rows (length q.program) → IsAccepted (question q.program rows q.env q.entry)
-sound_accepted q rows accepted so =
-    is_accepted (question q.program rows q.env q.entry) (eq-eqb (length rows) (length q.program) so.long) so.begins (λ label. later_hold q rows label accepted so)
+pub sound_accepted : (q : Question) (rows : List Row) → IsAccepted q → list_all is_well_formed_row q.rows ≡ true → Sound q rows (length q.program) → IsAccepted (question q.program rows q.env q.entry)
+sound_accepted q rows accepted cert_fits so =
+    is_accepted (question q.program rows q.env q.entry) (eq-eqb (length rows) (length q.program) so.long) so.begins (λ label. later_hold q rows label accepted cert_fits so)
 
 -- ---- what is owed
 
 pub says_most : (program : List Instr) (env : Environment) (entry : Entry) → 0 < length program → SaysMost program env entry (found_rows program env entry)
-says_most program env entry some rows h label row at live =
-    (found_sound (question program rows env entry) h.1 h.0 some).fit.below label row at live
+says_most program env entry some forward rows h label row at live =
+    (found_sound (question program rows env entry) forward h.1 h.0 some).fit.below label row at live
 
-pub none_other : (program : List Instr) (env : Environment) (entry : Entry) (label : ℕ) (rule : Rule) → 0 < length program
+pub none_other : (program : List Instr) (env : Environment) (entry : Entry) (label : ℕ) (rule : Rule) → IsForward program → 0 < length program
     → IsRefused (question program (found_rows program env entry) env entry) label rule → (rows : List Row) → ¬ Certifies program env entry rows
-none_other program env entry label rule some refused rows h =
-    let so = found_sound (question program rows env entry) h.1 h.0 some in
-    let accepted = sound_accepted (question program rows env entry) (found_rows program env entry) h.1 so in
+none_other program env entry label rule forward some refused rows h =
+    let so = found_sound (question program rows env entry) forward h.1 h.0 some in
+    let accepted = sound_accepted (question program rows env entry) (found_rows program env entry) h.1 h.0 so in
     cc (refused.0, accepted label)
 
 pub most_of : (program : List Instr) (env : Environment) (entry : Entry) (found : List Row) → 1 ≤ length program → found ≡ found_rows program env entry → SaysMost program env entry found
 most_of program env entry found some e = subst (λ (rows : List Row). SaysMost program env entry rows) (sym e) (says_most program env entry (omega arith))
 
 pub none_of : (program : List Instr) (env : Environment) (entry : Entry) (found : List Row) (label : ℕ) (rule : Rule) → 1 ≤ length program → found ≡ found_rows program env entry
-    → IsRefused (question program found env entry) label rule → (rows : List Row) → ¬ Certifies program env entry rows
-none_of program env entry found label rule some e refused =
-    none_other program env entry label rule (omega arith) (subst (λ (rows : List Row). IsRefused (question program rows env entry) label rule) e refused)
+    → IsRefused (question program found env entry) label rule → IsForward program → (rows : List Row) → ¬ Certifies program env entry rows
+none_of program env entry found label rule some e refused forward =
+    none_other program env entry label rule forward (omega arith) (subst (λ (rows : List Row). IsRefused (question program rows env entry) label rule) e refused)
 
 pub begun_well_formed : (rows : List Row) (entry : Option Row) (n : ℕ) → rows ≡ begun entry n → IsTrue (list_all is_well_formed_row rows)
 begun_well_formed rows None n e = rw e (dead_well_formed n)
 begun_well_formed rows (Some row) n e = rw e (all_set is_well_formed_row (replicate n dead_row) 0 (joined row row) (dead_well_formed n) (joined_well_formed row row))
+
+-- where a forward program is accepted with no rows, none say more
+pub none_but : (program : List Instr) (env : Environment) (entry : Entry) (result : Result Certificate InferError) → (IsForward program → (rows : List Row) → ¬ Certifies program env entry rows) → IfErr result (λ e. IsWithout program env entry e)
+none_but program env entry (Ok cert) never = tt
+none_but program env entry (Err Memory) never = tt
+none_but program env entry (Err (NoCert label rule)) never = never
+
+pub most_anyway : (program : List Instr) (env : Environment) (entry : Entry) (result : Result Certificate InferError) → IfOk result (λ cert. Certifies program env entry cert.rows) → (IsForward program → (rows : List Row) → ¬ Certifies program env entry rows) → IfOk result (λ cert. SaysMost program env entry cert.rows)
+most_anyway program env entry (Ok cert) is never = λ forward. absurd (never forward cert.rows is)
+most_anyway program env entry (Err e) is never = tt
+
+begun_long : (entry : Option Row) (n : ℕ) → length (begun entry n) ≡ n
+begun_long None n = dead_long n
+begun_long (Some row) n = length-set (replicate n dead_row) 0 (joined row row) ∙ dead_long n
+
+pub found_long : (program : List Instr) (env : Environment) (entry : Entry) (rows : List Row) → rows ≡ found_rows program env entry → length rows ≡ length program
+found_long program env entry rows is =
+    ap length is ∙ (spread_long env program 0 (begun (entry_row env entry) (length program)) ∙ begun_long (entry_row env entry) (length program))

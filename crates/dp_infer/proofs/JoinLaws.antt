@@ -6,10 +6,23 @@ use Rattle.std.proofs.lemmas.Bool.{leb-true, le-leb, and_parts}
 use Rattle.dp_model.specs.declared.row.Fact.{Fact}
 use Rattle.dp_model.specs.declared.row.Fact.TheVariants.{Empty, Held}
 use Rattle.dp_model.specs.declared.row.Row.{Row}
-use Rattle.dp_model.specs.Rows.{is_well_formed_fact, is_well_formed_row}
-use Rattle.dp_infer.specs.Joins.{joined_fact, paired, joined, met}
-use Rattle.dp_infer.proofs.Stronger.{StrongerFact, AtMost, Stronger, both_are}
-use Rattle.dp_infer.proofs.Changes.{AreWellFormed}
+use Rattle.dp_model.specs.Rows.{entails_share, owns_head, is_fact_of_row, is_well_formed_row}
+use Rattle.dp_model.specs.Groups.{group_of, is_in, is_group, size, same_registers, belongs, share_of_group, are_groups}
+use Rattle.std.proofs.Common.{zero, suc, ◌+◌, ◌-◌, ◌≤◌, cond, ap, sym, ◌∙◌, subst, map, length, ⊎_elim}
+use Rattle.std.specs.Prelude.{◌==◌}
+use Rattle.std.specs.List.{AllByRecursion}
+use Rattle.std.specs.Option.{option_map_or}
+use Rattle.std.proofs.lemmas.Bool.{eq-eqb, ne_eqb, eqb-true, cases_eq}
+use Rattle.dp_model.proofs.RowLemmas.{all_at}
+use Rattle.dp_model.proofs.Entails.{same_at}
+use Rattle.std.proofs.lemmas.Bool.{leb-false}
+use Rattle.std.specs.Prelude.{slice_get, Option, Some, None}
+use Rattle.dp_model.proofs.Sharing.{by_cases, belongs_at, group_is, belongs_there, size_same, is_in_group}
+use Rattle.dp_model.proofs.SoundGroups.{groups_of_row}
+use Rattle.dp_infer.proofs.Sharing.{KeepsGroups, share_same, share_zero, share_is, share_cases, same_from, all_from_each, one_of, and_comm}
+use Rattle.dp_infer.specs.Joins.{is_share, joined_share, joined_fact, common_fact, joined_facts, paired, joined, met}
+use Rattle.dp_infer.proofs.Stronger.{StrongerFact, AtMost, Stronger, both_are, zip_length}
+use Rattle.dp_infer.proofs.Changes.{AreWellFormed, facts_fit, least_is}
 
 -- what two have in common follows from either, and gives all that follows from both
 record HaveLeast {A : Type 0} (R : A → A → Type 0) (x y j u : A) : Type 0 where
@@ -17,43 +30,281 @@ record HaveLeast {A : Type 0} (R : A → A → Type 0) (x y j u : A) : Type 0 wh
   pub right : R y j
   pub least : R j u
 
-fact_join : (f g u : Fact) → StrongerFact f u → StrongerFact g u → is_well_formed_fact u ≡ true → HaveLeast StrongerFact f g (joined_fact f g) u
-fact_join Empty Empty Empty h k fits = record { left = tt; right = tt; least = tt }
-fact_join (Held share head tail first last segs) (Held s h t f l n) (Held s' h' t' f' l' n') p q fits =
-    let (a, most) = and_parts (nat_le s' 2 && nat_le 1 n') (nat_le n' 64) fits in
-    let (b, some) = and_parts (nat_le s' 2) (nat_le 1 n') a in
-    let share_most = leb-true s' 2 b in
+-- ---- the share that two have in common
+
+joined_left : (a b : ℕ) → entails_share a (joined_share a b) ≡ true
+joined_left a b = by_cases ((a == b) && is_share a)
+    (λ e. subst (λ t. entails_share a (cond t a (cond (owns_head a && owns_head b) 1 0)) ≡ true) (sym e) (share_same a))
+    (λ e. subst (λ t. entails_share a (cond t a (cond (owns_head a && owns_head b) 1 0)) ≡ true) (sym e) (by_cases (owns_head a && owns_head b)
+    (λ o. subst (λ t. entails_share a (cond t 1 0) ≡ true) (sym o) (one_of a (and_parts (owns_head a) (owns_head b) o).0))
+    (λ o. subst (λ t. entails_share a (cond t 1 0) ≡ true) (sym o) (share_zero a 0 refl))))
+
+joined_swapped : (a b : ℕ) → joined_share a b ≡ joined_share b a
+joined_swapped a b = ⊎_elim
+    (λ e. subst (λ n. joined_share a n ≡ joined_share n a) e refl)
+    (λ ne. rw (ne_eqb a b ne, ne_eqb b a (λ e. ne (sym e)), and_comm (owns_head a) (owns_head b)) refl)
+    (cases_eq a b)
+
+joined_right : (a b : ℕ) → entails_share b (joined_share a b) ≡ true
+joined_right a b = subst (λ n. entails_share b n ≡ true) (joined_swapped b a) (joined_left b a)
+
+-- whether a group is one of the first, and has the same registers in the second
+abbrev IsCommon : List Fact → List Fact → ℕ → Bool
+IsCommon fs gs x = is_group fs x && same_registers fs gs x
+
+-- the share that is left of it, where its group may not be common
+abbrev kept : List Fact → List Fact → ℕ → ℕ
+kept fs gs n = cond (nat_le 8 n) (cond (IsCommon fs gs (n - 8)) n 0) n
+
+common_is : (fs gs : List Fact) (share head tail first last segs : ℕ) → common_fact fs gs (Held share head tail first last segs) ≡ Held (kept fs gs share) head tail first last segs
+common_is fs gs share head tail first last segs = by_cases (nat_le 8 share)
+    (λ above. by_cases (IsCommon fs gs (share - 8))
+    (λ e. rw (above, e) refl)
+    (λ e.
+    let same : (share == share_of_group (share - 8)) ≡ true = eq-eqb share (8 + (share - 8)) (omega (arith, leb-true 8 share above)) in
+    rw (above, e, same) refl))
+    (λ below. rw below refl)
+
+kept_less : (fs gs : List Fact) (a n : ℕ) → entails_share a n ≡ true → entails_share a (kept fs gs n) ≡ true
+kept_less fs gs a n e = by_cases (nat_le 8 n)
+    (λ above. subst (λ t. entails_share a (cond t (cond (IsCommon fs gs (n - 8)) n 0) n) ≡ true) (sym above) (by_cases (IsCommon fs gs (n - 8))
+    (λ c. subst (λ t. entails_share a (cond t n 0) ≡ true) (sym c) e)
+    (λ c. subst (λ t. entails_share a (cond t n 0) ≡ true) (sym c) (share_zero a 0 refl))))
+    (λ below. subst (λ t. entails_share a (cond t (cond (IsCommon fs gs (n - 8)) n 0) n) ≡ true) (sym below) e)
+
+kept_common : (fs gs : List Fact) (n : ℕ) → ((x : ℕ) → n ≡ share_of_group x → IsCommon fs gs x ≡ true) → kept fs gs n ≡ n
+kept_common fs gs n each = by_cases (nat_le 8 n)
+    (λ above. rw (above, each (n - 8) (omega (arith, leb-true 8 n above))) refl)
+    (λ below. rw below refl)
+
+kept_least : (fs gs : List Fact) (a b u : ℕ) → entails_share a u ≡ true → entails_share b u ≡ true → is_share u ≡ true → ((x : ℕ) → u ≡ share_of_group x → IsCommon fs gs x ≡ true) → entails_share (kept fs gs (joined_share a b)) u ≡ true
+kept_least fs gs a b u h k fits each = ⊎_elim
+    (λ z. share_zero (kept fs gs (joined_share a b)) u z)
+    (⊎_elim
+    (λ ea. ⊎_elim
+    (λ z. share_zero (kept fs gs (joined_share a b)) u z)
+    (⊎_elim
+    (λ eb.
+    let is : joined_share a b ≡ u = subst (λ n. joined_share n b ≡ u) (sym ea) (subst (λ n. joined_share u n ≡ u) (sym eb) (rw (eq-eqb u u refl, fits) refl)) in
+    share_is (kept fs gs (joined_share a b)) u (ap (kept fs gs) is ∙ kept_common fs gs u each))
+    (λ (two, one). subst (λ n. entails_share (kept fs gs (joined_share a b)) n ≡ true) (sym one) (subst (λ n. entails_share (kept fs gs (joined_share n b)) 1 ≡ true) (sym (ea ∙ one)) (subst (λ n. entails_share (kept fs gs (joined_share 1 n)) 1 ≡ true) (sym two) refl))))
+    (share_cases b u k))
+    (λ (two, one). subst (λ n. entails_share (kept fs gs (joined_share a b)) n ≡ true) (sym one) (subst (λ n. entails_share (kept fs gs (joined_share n b)) 1 ≡ true) (sym two) (⊎_elim
+    (λ z. absurd (omega (arith, z, one)))
+    (⊎_elim
+    (λ eb. subst (λ n. entails_share (kept fs gs (joined_share 2 n)) 1 ≡ true) (sym (eb ∙ one)) refl)
+    (λ (other, _). subst (λ n. entails_share (kept fs gs (joined_share 2 n)) 1 ≡ true) (sym other) refl))
+    (share_cases b u k)))))
+    (share_cases a u h)
+
+-- ---- facts
+
+-- the groups of a fact are common to both
+abbrev AreCommon : List Fact → List Fact → Fact → Type 0
+AreCommon fs gs u = (x : ℕ) → is_in x u ≡ true → IsCommon fs gs x ≡ true
+
+fact_join : (fs gs : List Fact) (f g u : Fact) → StrongerFact f u → StrongerFact g u → is_fact_of_row u ≡ true → AreCommon fs gs u → HaveLeast StrongerFact f g (common_fact fs gs (joined_fact f g)) u
+fact_join fs gs Empty Empty Empty h k fits common = record { left = tt; right = tt; least = tt }
+fact_join fs gs (Held share head tail first last segs) (Held s h t f l n) (Held s' h' t' f' l' n') p q fits common =
+    let (a, most) = and_parts (is_share s' && nat_le 1 n') (nat_le n' 64) fits in
+    let (b, some) = and_parts (is_share s') (nat_le 1 n') a in
     let segs_some = leb-true 1 n' some in
     let segs_most = leb-true n' 64 most in
-    record {
-      left = record { share = omega arith; head = omega arith; tail = omega arith; first = omega arith; last = omega arith; segs = omega (arith, p.segs, segs_most) };
-      right = record { share = omega arith; head = omega arith; tail = omega arith; first = omega arith; last = omega arith; segs = omega (arith, q.segs, segs_most) };
+    subst (λ y. HaveLeast StrongerFact (Held share head tail first last segs) (Held s h t f l n) y (Held s' h' t' f' l' n'))
+    (sym (common_is fs gs (joined_share share s) (min head h) (min tail t) (min first f) (min last l) (min 64 (max 1 (max segs n)))))
+    (record {
+      left = record { share = kept_less fs gs share (joined_share share s) (joined_left share s); head = omega arith; tail = omega arith; first = omega arith; last = omega arith; segs = omega (arith, p.segs, segs_most) };
+      right = record { share = kept_less fs gs s (joined_share share s) (joined_right share s); head = omega arith; tail = omega arith; first = omega arith; last = omega arith; segs = omega (arith, q.segs, segs_most) };
       least = record {
-        share = omega (arith, p.share, q.share, share_most);
+        share = kept_least fs gs share s s' p.share q.share b (λ x e. common x (eq-eqb s' (8 + x) e));
         head = omega (arith, p.head, q.head);
         tail = omega (arith, p.tail, q.tail);
         first = omega (arith, p.first, q.first);
         last = omega (arith, p.last, q.last);
         segs = omega (arith, p.segs, q.segs, segs_some);
       };
-    }
-fact_join Empty (Held s h t f l n) Empty p q fits = absurd q
-fact_join Empty g (Held s h t f l n) p q fits = absurd p
-fact_join (Held share head tail first last segs) g Empty p q fits = absurd p
-fact_join (Held share head tail first last segs) Empty (Held s h t f l n) p q fits = absurd q
+    })
+fact_join fs gs Empty (Held s h t f l n) Empty p q fits common = absurd q
+fact_join fs gs Empty g (Held s h t f l n) p q fits common = absurd p
+fact_join fs gs (Held share head tail first last segs) g Empty p q fits common = absurd p
+fact_join fs gs (Held share head tail first last segs) Empty (Held s h t f l n) p q fits common = absurd q
 
-facts_join : (fs gs us : List Fact) → AllZip StrongerFact fs us → AllZip StrongerFact gs us → list_all is_well_formed_fact us ≡ true
-    → HaveLeast (AllZip StrongerFact) fs gs (paired joined_fact fs gs) us
-facts_join [] [] [] p q fits = record { left = tt; right = tt; least = tt }
-facts_join (f ∷ fs) (g ∷ gs) (u ∷ us) p q fits =
-    let (here, rest) = and_parts (is_well_formed_fact u) (list_all is_well_formed_fact us) fits in
-    let one = fact_join f g u p.0 q.0 here in
-    let others = facts_join fs gs us p.1 q.1 rest in
+each_join : (fs gs xs ys us : List Fact) → AllZip StrongerFact xs us → AllZip StrongerFact ys us → list_all is_fact_of_row us ≡ true → AllByRecursion (AreCommon fs gs) us
+    → HaveLeast (AllZip StrongerFact) xs ys (map (common_fact fs gs) (paired joined_fact xs ys)) us
+each_join fs gs [] [] [] p q fits common = record { left = tt; right = tt; least = tt }
+each_join fs gs (f ∷ xs) (g ∷ ys) (u ∷ us) p q fits common =
+    let (here, rest) = and_parts (is_fact_of_row u) (list_all is_fact_of_row us) fits in
+    let one = fact_join fs gs f g u p.0 q.0 here common.0 in
+    let others = each_join fs gs xs ys us p.1 q.1 rest common.1 in
     record { left = (one.left, others.left); right = (one.right, others.right); least = (one.least, others.least) }
-facts_join [] gs (u ∷ us) p q fits = absurd p
-facts_join (f ∷ fs) gs [] p q fits = absurd p
-facts_join [] (g ∷ gs) [] p q fits = absurd q
-facts_join (f ∷ fs) [] (u ∷ us) p q fits = absurd q
+each_join fs gs [] ys (u ∷ us) p q fits common = absurd p
+each_join fs gs (f ∷ xs) ys [] p q fits common = absurd p
+each_join fs gs [] (g ∷ ys) [] p q fits common = absurd q
+each_join fs gs (f ∷ xs) [] (u ∷ us) p q fits common = absurd q
+
+-- the groups of a row that both entail are common to both
+common_at : (fs gs us : List Fact) → length fs ≡ length us → length gs ≡ length us → KeepsGroups fs us → KeepsGroups gs us → are_groups us ≡ true → (i x : ℕ) → belongs us x i ≡ true → IsCommon fs gs x ≡ true
+common_at fs gs us lf lg kf kg groups i x inside =
+    let (u, at, is) = belongs_there us x i inside in
+    let here = all_at (λ fact. option_map_or (is_group us) (group_of fact) true) us i u groups at in
+    let group : is_group us x ≡ true = sym (ap (λ o. option_map_or (is_group us) o true) (is_in_group x u is)) ∙ here in
+    let sf : (j : ℕ) → belongs fs x j ≡ belongs us x j = kf i x inside in
+    let sg : (j : ℕ) → belongs gs x j ≡ belongs us x j = kg i x inside in
+    let size_is : size fs x ≡ size us x = size_same fs us x x lf sf in
+    let first : is_group fs x ≡ true = rw (size_is, least_is fs us x lf sf) group in
+    both_are first (same_from fs gs x (lf ∙ sym lg) (λ j. sf j ∙ sym (sg j)))
+
+all_common : (fs gs us : List Fact) → ((i x : ℕ) → belongs us x i ≡ true → IsCommon fs gs x ≡ true) → AllByRecursion (AreCommon fs gs) us
+all_common fs gs [] each = tt
+all_common fs gs (u ∷ us) each = (each 0, all_common fs gs us (λ i. each (suc i)))
+
+-- the facts that two rows have in common
+facts_join : (fs gs us : List Fact) → AllZip StrongerFact fs us → AllZip StrongerFact gs us → KeepsGroups fs us → KeepsGroups gs us → list_all is_fact_of_row us ≡ true → are_groups us ≡ true
+    → HaveLeast (AllZip StrongerFact) fs gs (joined_facts fs gs) us
+facts_join fs gs us p q kp kq fits groups =
+    each_join fs gs fs gs us p q fits (all_common fs gs us (common_at fs gs us (zip_length StrongerFact fs us p) (zip_length StrongerFact gs us q) kp kq groups))
+
+-- ---- groups
+
+-- a register belongs to a group of what is common exactly where it does in both, and the group is common
+share_in : (fs gs : List Fact) (x a b : ℕ) → kept fs gs (joined_share a b) ≡ share_of_group x → (IsCommon fs gs x ≡ true) × ((a == share_of_group x) ≡ true) × ((b == share_of_group x) ≡ true) × (is_share (share_of_group x) ≡ true)
+share_in fs gs x a b e = by_cases (nat_le 8 (joined_share a b))
+    (λ above. by_cases (IsCommon fs gs (joined_share a b - 8))
+    (λ c.
+    let is : kept fs gs (joined_share a b) ≡ joined_share a b = rw (above, c) refl in
+    let name : joined_share a b ≡ 8 + x = sym is ∙ e in
+    let number : joined_share a b - 8 ≡ x = omega (arith, name) in
+    let common : IsCommon fs gs x ≡ true = subst (λ n. IsCommon fs gs n ≡ true) number c in
+    by_cases ((a == b) && is_share a)
+    (λ t.
+    let (same, fits) = and_parts (a == b) (is_share a) t in
+    let first : a ≡ 8 + x = sym (ap (λ t. cond t a (cond (owns_head a && owns_head b) 1 0)) t) ∙ name in
+    let second : b ≡ 8 + x = sym (eqb-true a b same) ∙ first in
+    (common, eq-eqb a (8 + x) first, eq-eqb b (8 + x) second, subst (λ n. is_share n ≡ true) first fits))
+    (λ t.
+    let low : cond (owns_head a && owns_head b) 1 0 ≡ 8 + x = sym (ap (λ t. cond t a (cond (owns_head a && owns_head b) 1 0)) t) ∙ name in
+    absurd (omega (arith, low, small (owns_head a && owns_head b)))))
+    (λ c. let zero_is : kept fs gs (joined_share a b) ≡ 0 = rw (above, c) refl in absurd (omega (arith, zero_is, e))))
+    (λ below.
+    let is : kept fs gs (joined_share a b) ≡ joined_share a b = rw below refl in
+    absurd (omega (arith, is, e, leb-false 8 (joined_share a b) below)))
+  where
+    small : (t : Bool) → cond t 1 0 ≤ 1
+    small true = omega arith
+    small false = omega arith
+
+elem_in : (fs gs : List Fact) (x : ℕ) (f g : Fact) → is_in x (common_fact fs gs (joined_fact f g)) ≡ true → (IsCommon fs gs x ≡ true) × (is_in x f ≡ true) × (is_in x g ≡ true) × (is_share (share_of_group x) ≡ true)
+elem_in fs gs x Empty g e = cc
+elem_in fs gs x (Held share head tail first last segs) Empty e = cc
+elem_in fs gs x (Held share head tail first last segs) (Held s h t f l n) e =
+    let is = subst (λ y. is_in x y ≡ true) (common_is fs gs (joined_share share s) (min head h) (min tail t) (min first f) (min last l) (min 64 (max 1 (max segs n)))) e in
+    share_in fs gs x share s (eqb-true (kept fs gs (joined_share share s)) (8 + x) is)
+
+elem_from : (fs gs : List Fact) (x : ℕ) (f g : Fact) → IsCommon fs gs x ≡ true → is_share (share_of_group x) ≡ true → is_in x f ≡ true → is_in x g ≡ true → is_in x (common_fact fs gs (joined_fact f g)) ≡ true
+elem_from fs gs x Empty g c fits e e' = cc
+elem_from fs gs x (Held share head tail first last segs) Empty c fits e e' = cc
+elem_from fs gs x (Held share head tail first last segs) (Held s h t f l n) c fits e e' =
+    let a = eqb-true share (8 + x) e in
+    let b = eqb-true s (8 + x) e' in
+    let is : joined_share share s ≡ 8 + x = subst (λ n. joined_share n s ≡ 8 + x) (sym a) (subst (λ n. joined_share (8 + x) n ≡ 8 + x) (sym b) (rw (eq-eqb (8 + x) (8 + x) refl, fits) refl)) in
+    let left : kept fs gs (joined_share share s) ≡ 8 + x = ap (kept fs gs) is ∙ kept_common fs gs (8 + x) (λ y same. let number : x ≡ y = omega (arith, same) in subst (λ n. IsCommon fs gs n ≡ true) number c) in
+    subst (λ y. is_in x y ≡ true) (sym (common_is fs gs (joined_share share s) (min head h) (min tail t) (min first f) (min last l) (min 64 (max 1 (max segs n))))) (eq-eqb (kept fs gs (joined_share share s)) (8 + x) left)
+
+all_in : (fs gs xs ys : List Fact) (x i : ℕ) → belongs (map (common_fact fs gs) (paired joined_fact xs ys)) x i ≡ true → (IsCommon fs gs x ≡ true) × (belongs xs x i ≡ true) × (belongs ys x i ≡ true) × (is_share (share_of_group x) ≡ true)
+all_in fs gs [] ys x i e = cc
+all_in fs gs (f ∷ xs) [] x i e = cc
+all_in fs gs (f ∷ xs) (g ∷ ys) x zero e = elem_in fs gs x f g e
+all_in fs gs (f ∷ xs) (g ∷ ys) x (suc i) e = all_in fs gs xs ys x i e
+
+all_out : (fs gs xs ys : List Fact) (x i : ℕ) → IsCommon fs gs x ≡ true → is_share (share_of_group x) ≡ true → belongs xs x i ≡ true → belongs ys x i ≡ true → belongs (map (common_fact fs gs) (paired joined_fact xs ys)) x i ≡ true
+all_out fs gs [] ys x i c fits e e' = cc
+all_out fs gs (f ∷ xs) [] x i c fits e e' = cc
+all_out fs gs (f ∷ xs) (g ∷ ys) x zero c fits e e' = elem_from fs gs x f g c fits e e'
+all_out fs gs (f ∷ xs) (g ∷ ys) x (suc i) c fits e e' = all_out fs gs xs ys x i c fits e e'
+
+-- a common group has the same registers there
+same_there : (fs gs : List Fact) (x : ℕ) → IsCommon fs gs x ≡ true → is_share (share_of_group x) ≡ true → (j : ℕ) → belongs (joined_facts fs gs) x j ≡ belongs fs x j
+same_there fs gs x c fits j =
+    let (long, each) = same_at fs gs x (and_parts (is_group fs x) (same_registers fs gs x) c).1 in
+    by_cases (belongs fs x j)
+    (λ here. all_out fs gs fs gs x j c fits here (each j ∙ here) ∙ sym here)
+    (λ away. by_cases (belongs (joined_facts fs gs) x j)
+    (λ inside. let wrong : true ≡ false = sym (all_in fs gs fs gs x j inside).1 ∙ away in cc)
+    (λ out. out ∙ sym away))
+
+-- the share of a register of a group
+group_share : (us : List Fact) (i x : ℕ) → list_all is_fact_of_row us ≡ true → belongs us x i ≡ true → is_share (share_of_group x) ≡ true
+group_share us i x fits inside =
+    let (u, at, is) = belongs_there us x i inside in
+    go u (all_at is_fact_of_row us i u fits at) is
+  where
+    go : (u : Fact) → is_fact_of_row u ≡ true → is_in x u ≡ true → is_share (share_of_group x) ≡ true
+    go Empty fits is = cc
+    go (Held share head tail first last segs) fits is =
+        let b = and_parts (is_share share) (nat_le 1 segs) (and_parts (is_share share && nat_le 1 segs) (nat_le segs 64) fits).0 in
+        subst (λ n. is_share n ≡ true) (eqb-true share (8 + x) is) b.0
+
+-- and their groups
+groups_join : (fs gs us : List Fact) → AllZip StrongerFact fs us → AllZip StrongerFact gs us → KeepsGroups fs us → KeepsGroups gs us → list_all is_fact_of_row us ≡ true → are_groups us ≡ true
+    → HaveLeast KeepsGroups fs gs (joined_facts fs gs) us
+groups_join fs gs us p q kp kq fits groups = record {
+  left = λ i x inside j. let (c, f, g, s) = all_in fs gs fs gs x i inside in sym (same_there fs gs x c s j);
+  right = λ i x inside j.
+      let (c, f, g, s) = all_in fs gs fs gs x i inside in
+      let (long, each) = same_at fs gs x (and_parts (is_group fs x) (same_registers fs gs x) c).1 in
+      each j ∙ sym (same_there fs gs x c s j);
+  least = λ i x inside j.
+      let c = common_at fs gs us (zip_length StrongerFact fs us p) (zip_length StrongerFact gs us q) kp kq groups i x inside in
+      same_there fs gs x c (group_share us i x fits inside) j ∙ kp i x inside j;
+}
+
+-- ---- in the ranges of facts
+
+joined_is_share : (a b : ℕ) → is_share (joined_share a b) ≡ true
+joined_is_share a b = by_cases ((a == b) && is_share a)
+    (λ t. subst (λ n. is_share n ≡ true) (sym (ap (λ t. cond t a (cond (owns_head a && owns_head b) 1 0)) t)) (and_parts (a == b) (is_share a) t).1)
+    (λ t. subst (λ n. is_share n ≡ true) (sym (ap (λ t. cond t a (cond (owns_head a && owns_head b) 1 0)) t)) (low (owns_head a && owns_head b)))
+  where
+    low : (t : Bool) → is_share (cond t 1 0) ≡ true
+    low true = refl
+    low false = refl
+
+kept_is_share : (fs gs : List Fact) (n : ℕ) → is_share n ≡ true → is_share (kept fs gs n) ≡ true
+kept_is_share fs gs n e = by_cases (nat_le 8 n)
+    (λ above. subst (λ t. is_share (cond t (cond (IsCommon fs gs (n - 8)) n 0) n) ≡ true) (sym above) (by_cases (IsCommon fs gs (n - 8))
+    (λ c. subst (λ t. is_share (cond t n 0) ≡ true) (sym c) e)
+    (λ c. subst (λ t. is_share (cond t n 0) ≡ true) (sym c) refl)))
+    (λ below. subst (λ t. is_share (cond t (cond (IsCommon fs gs (n - 8)) n 0) n) ≡ true) (sym below) e)
+
+elem_fits : (fs gs : List Fact) (f g : Fact) → is_fact_of_row (common_fact fs gs (joined_fact f g)) ≡ true
+elem_fits fs gs Empty g = refl
+elem_fits fs gs (Held share head tail first last segs) Empty = refl
+elem_fits fs gs (Held share head tail first last segs) (Held s h t f l n) =
+    subst (λ y. is_fact_of_row y ≡ true) (sym (common_is fs gs (joined_share share s) (min head h) (min tail t) (min first f) (min last l) (min 64 (max 1 (max segs n)))))
+    (both_are (both_are (kept_is_share fs gs (joined_share share s) (joined_is_share share s)) (le-leb 1 (min 64 (max 1 (max segs n))) (omega arith))) (le-leb (min 64 (max 1 (max segs n))) 64 (omega arith)))
+
+all_fit : (fs gs xs ys : List Fact) → list_all is_fact_of_row (map (common_fact fs gs) (paired joined_fact xs ys)) ≡ true
+all_fit fs gs [] ys = refl
+all_fit fs gs (f ∷ xs) [] = refl
+all_fit fs gs (f ∷ xs) (g ∷ ys) = both_are (elem_fits fs gs f g) (all_fit fs gs xs ys)
+
+length_joined : (fs gs xs ys : List Fact) → length ys ≡ length xs → length (map (common_fact fs gs) (paired joined_fact xs ys)) ≡ length xs
+length_joined fs gs [] ys e = refl
+length_joined fs gs (f ∷ xs) [] e = absurd (omega arith)
+length_joined fs gs (f ∷ xs) (g ∷ ys) e = ap suc (length_joined fs gs xs ys (omega arith))
+
+joined_groups : (fs gs : List Fact) → are_groups (joined_facts fs gs) ≡ true
+joined_groups fs gs = all_from_each (λ fact. option_map_or (is_group (joined_facts fs gs)) (group_of fact) true) (joined_facts fs gs) (λ i y at. go i y at (group_of y) refl)
+  where
+    go : (i : ℕ) (y : Fact) → slice_get (joined_facts fs gs) i ≡ Some y → (o : Option ℕ) → group_of y ≡ o → option_map_or (is_group (joined_facts fs gs)) (group_of y) true ≡ true
+    go i y at None e = ap (λ o. option_map_or (is_group (joined_facts fs gs)) o true) e
+    go i y at (Some x) e =
+        let (c, f, g, s) = all_in fs gs fs gs x i (belongs_at (joined_facts fs gs) x i y at ∙ group_is x y e) in
+        let (first, same) = and_parts (is_group fs x) (same_registers fs gs x) c in
+        let long : length (joined_facts fs gs) ≡ length fs = length_joined fs gs fs gs (same_at fs gs x same).0 in
+        let size_is : size (joined_facts fs gs) x ≡ size fs x = size_same (joined_facts fs gs) fs x x long (same_there fs gs x c s) in
+        let group : is_group (joined_facts fs gs) x ≡ true = rw (size_is, least_is (joined_facts fs gs) fs x long (same_there fs gs x c s)) first in
+        ap (λ o. option_map_or (is_group (joined_facts fs gs)) o true) e ∙ group
 
 bounds_join : (ms ns us : List ℕ) → AllZip AtMost ms us → AllZip AtMost ns us → HaveLeast (AllZip AtMost) ms ns (paired max ms ns) us
 bounds_join [] [] [] p q = record { left = tt; right = tt; least = tt }
@@ -73,29 +324,19 @@ pub record LeastRow (a b u : Row) : Type 0 where
 
 pub rows_join : (a b u : Row) → Stronger a u → Stronger b u → AreWellFormed u → LeastRow a b u
 rows_join a b u p q fits =
-    let facts = facts_join a.facts b.facts u.facts p.facts q.facts fits in
+    let facts = facts_join a.facts b.facts u.facts p.facts q.facts p.groups q.groups (facts_fit u fits) (groups_of_row u fits) in
+    let groups = groups_join a.facts b.facts u.facts p.facts q.facts p.groups q.groups (facts_fit u fits) (groups_of_row u fits) in
     let bounds = bounds_join a.bounds b.bounds u.bounds p.bounds q.bounds in
     record {
-      left = record { live = p.live; other_live = refl; facts = facts.left; bounds = bounds.left };
-      right = record { live = q.live; other_live = refl; facts = facts.right; bounds = bounds.right };
-      least = record { live = refl; other_live = p.other_live; facts = facts.least; bounds = bounds.least };
+      left = record { live = p.live; other_live = refl; facts = facts.left; groups = groups.left; bounds = bounds.left };
+      right = record { live = q.live; other_live = refl; facts = facts.right; groups = groups.right; bounds = bounds.right };
+      least = record { live = refl; other_live = p.other_live; facts = facts.least; groups = groups.least; bounds = bounds.least };
     }
 
 -- ---- in the ranges of facts
 
-joined_fits : (f g : Fact) → is_well_formed_fact (joined_fact f g) ≡ true
-joined_fits Empty g = refl
-joined_fits (Held share head tail first last segs) Empty = refl
-joined_fits (Held share head tail first last segs) (Held s h t f l n) =
-    both_are (both_are (le-leb (min 2 (min share s)) 2 (omega arith)) (le-leb 1 (min 64 (max 1 (max segs n))) (omega arith))) (le-leb (min 64 (max 1 (max segs n))) 64 (omega arith))
-
-all_joined_fit : (fs gs : List Fact) → list_all is_well_formed_fact (paired joined_fact fs gs) ≡ true
-all_joined_fit [] gs = refl
-all_joined_fit (f ∷ fs) [] = refl
-all_joined_fit (f ∷ fs) (g ∷ gs) = both_are (joined_fits f g) (all_joined_fit fs gs)
-
 pub joined_well_formed : (a b : Row) → is_well_formed_row (joined a b) ≡ true
-joined_well_formed a b = both_are (all_joined_fit a.facts b.facts) refl
+joined_well_formed a b = both_are (both_are (all_fit a.facts b.facts a.facts b.facts) (joined_groups a.facts b.facts)) refl
 
 pub met_well_formed : (there row : Row) → is_well_formed_row (met there row) ≡ true
 met_well_formed there row = go there.live refl

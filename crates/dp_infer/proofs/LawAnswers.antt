@@ -7,10 +7,10 @@ use Rattle.dp_model.specs.declared.row.Row.{Row}
 use Rattle.dp_model.specs.declared.after.Lead.{Lead}
 use Rattle.dp_model.specs.declared.instr.Instr.{Instr}
 use Rattle.dp_model.specs.declared.rule.Rule.{Rule}
-use Rattle.dp_model.specs.declared.rule.Rule.TheVariants.{J1, J2, J3, J4, J5, J6, J7, J8, J9, J10, J11, J12}
+use Rattle.dp_model.specs.declared.rule.Rule.TheVariants.{J1, J2, J3, J4, J5, J6, J7, J8, J9, J10, J11}
 use Rattle.dp_model.specs.Environments.{Environment}
 use Rattle.dp_model.specs.Rows.{entails, leads, is_well_formed_row}
-use Rattle.dp_model.specs.Rules.{Question, holds_at, places_exist, uses}
+use Rattle.dp_model.specs.Rules.{Question, targets_fit, holds_at, places_exist, uses}
 use Rattle.dp_infer.specs.Laws.{LeadsEntail, HaveLeastRow}
 use Rattle.dp_infer.proofs.Stronger.{stronger, row_test, both_are}
 use Rattle.dp_infer.proofs.RowsAfter.{StrongerLead, leads_keep}
@@ -31,21 +31,20 @@ leads_tests (x ∷ xs) (y ∷ ys) z = ((z.0.0, row_test x.row y.row z.0.1), lead
 leads_tests [] (y ∷ ys) z = absurd z
 leads_tests (x ∷ xs) [] z = absurd z
 
-pub rows_after : (env : Environment) (label : ℕ) (i : Instr) (a b : Row) → IsTrue (is_well_formed_row a) → IsTrue (entails a b) → LeadsEntail (leads env label a i) (leads env label b i)
-rows_after env label i a b fits e = leads_tests (leads env label a i) (leads env label b i) (leads_keep env label a b i (stronger a b e) (fits_from a fits))
+pub rows_after : (env : Environment) (label : ℕ) (i : Instr) (a b : Row) → IsTrue (is_well_formed_row a) → IsTrue (is_well_formed_row b) → IsTrue (entails a b) → IsTrue (targets_fit b i) → LeadsEntail (leads env label a i) (leads env label b i)
+rows_after env label i a b fits fits' e target = leads_tests (leads env label a i) (leads env label b i) (leads_keep env label a b i (stronger a b e) (fits_from a fits) (fits_from b fits') target)
 
-pub rules_hold : (q : Question) (label : ℕ) (i : Instr) (a b : Row) (rule : Rule) → IsTrue (is_well_formed_row a) → IsTrue (entails a b) → IsTrue (holds_at q label i b rule) → IsTrue (holds_at q label i a rule)
-rules_hold q label i a b J1 fits e h = refl
-rules_hold q label i a b J2 fits e h = refl
-rules_hold q label i a b J3 fits e h =
+pub rules_hold : (q : Question) (label : ℕ) (i : Instr) (a b : Row) (rule : Rule) → IsTrue (is_well_formed_row a) → IsTrue (is_well_formed_row b) → IsTrue (entails a b) → IsTrue (targets_fit b i) → IsTrue (holds_at q label i b rule) → IsTrue (holds_at q label i a rule)
+rules_hold q label i a b J1 fits fits' e target h = refl
+rules_hold q label i a b J2 fits fits' e target h = refl
+rules_hold q label i a b J3 fits fits' e target h =
     let (places, within) = and_parts (places_exist q.env i) (list_all (λ to. nat_lt to.to (length q.program)) (leads q.env label b i)) h in
-    both_are places (labels_keep (λ to. nat_lt to (length q.program)) (leads q.env label a i) (leads q.env label b i) (leads_keep q.env label a b i (stronger a b e) (fits_from a fits)) within)
-rules_hold q label i a b J4 fits e h = all_held_keeps a b (uses i) (stronger a b e) h
-rules_hold q label i a b J5 fits e h = targets_keep a b i (stronger a b e) h
-rules_hold q label i a b J6 fits e h = bytes_keep a b i (stronger a b e) (fits_from a fits) h
-rules_hold q label i a b J7 fits e h = share_keeps a b i (stronger a b e) (fits_from a fits) h
-rules_hold q label i a b J8 fits e h = segments_keep a b i (stronger a b e) (fits_from a fits) h
-rules_hold q label i a b J9 fits e h = leave_keeps q.env a b i (stronger a b e) h
-rules_hold q label i a b J10 fits e h = end_keeps a b i (stronger a b e) h
-rules_hold q label i a b J11 fits e h = entailed_keeps q.rows (leads q.env label a i) (leads q.env label b i) (leads_keep q.env label a b i (stronger a b e) (fits_from a fits)) h
-rules_hold q label i a b J12 fits e h = labels_keep (λ to. nat_lt label to) (leads q.env label a i) (leads q.env label b i) (leads_keep q.env label a b i (stronger a b e) (fits_from a fits)) h
+    both_are places (labels_keep (λ to. nat_lt to (length q.program)) (leads q.env label a i) (leads q.env label b i) (leads_keep q.env label a b i (stronger a b e) (fits_from a fits) (fits_from b fits') target) within)
+rules_hold q label i a b J4 fits fits' e target h = all_held_keeps a b (uses i) (stronger a b e) h
+rules_hold q label i a b J5 fits fits' e target h = targets_keep a b i (stronger a b e) h
+rules_hold q label i a b J6 fits fits' e target h = bytes_keep a b i (stronger a b e) (fits_from a fits) h
+rules_hold q label i a b J7 fits fits' e target h = share_keeps a b i (stronger a b e) (fits_from a fits) h
+rules_hold q label i a b J8 fits fits' e target h = segments_keep a b i (stronger a b e) (fits_from a fits) h
+rules_hold q label i a b J9 fits fits' e target h = leave_keeps q.env a b i (stronger a b e) h
+rules_hold q label i a b J10 fits fits' e target h = end_keeps a b i (stronger a b e) h
+rules_hold q label i a b J11 fits fits' e target h = entailed_keeps q.rows (leads q.env label a i) (leads q.env label b i) (leads_keep q.env label a b i (stronger a b e) (fits_from a fits) (fits_from b fits') target) h

@@ -3,6 +3,7 @@ pub mod Registers
 pub mod Pairs
 pub mod Numbers
 pub mod Changes
+pub mod Forward
 pub mod RowsAfter
 pub mod PacketTests
 pub mod RulesKeep
@@ -10,6 +11,7 @@ pub mod JoinLaws
 pub mod RowLists
 pub mod Reach
 pub mod Accepted
+pub mod Sharing
 pub mod Spread
 pub mod Infers
 pub mod Passing

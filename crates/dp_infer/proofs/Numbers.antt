@@ -3,7 +3,6 @@ use Rattle.std.proofs.Common.{ℕ, zero, suc, ◌*◌, ◌/◌, ◌^◌, ◌<◌
 use Rattle.std.proofs.Math.Nat.{mul-le-mul_right, div-mul-le_self, one-le-pow}
 use Rattle.std.proofs.lemmas.Nat.{le-div}
 use Rattle.dp_model.specs.Arithmetic.{ones_within, all_ones}
-use Rattle.dp_model.specs.Rows.{chained_share}
 
 ones_more : (limit limit' m n : ℕ) → m ≤ n → n ≤ limit' → ones_within limit m ≤ ones_within limit' n
 ones_more limit limit' zero n le fit = omega arith
@@ -25,20 +24,3 @@ shifted_more m n c le =
 
 pub times_more : (m n c : ℕ) → m ≤ n → m * 2 ^ c ≤ n * 2 ^ c
 times_more m n c le = mul-le-mul_right (2 ^ c) le
-
-pub share_more : (a b a' b' : ℕ) → a' ≤ a → b' ≤ b → chained_share a' b' ≤ chained_share a b
-share_more a b zero b' le le' = omega arith
-share_more zero b (suc a') b' le le' = absurd (omega arith)
-share_more (suc zero) b (suc zero) b' le le' = omega arith
-share_more (suc zero) b (suc (suc a')) b' le le' = absurd (omega arith)
-share_more (suc (suc a)) zero (suc zero) b' le le' = omega arith
-share_more (suc (suc a)) (suc zero) (suc zero) b' le le' = omega arith
-share_more (suc (suc a)) (suc (suc b)) (suc zero) b' le le' = omega arith
-share_more (suc (suc a)) zero (suc (suc a')) zero le le' = omega arith
-share_more (suc (suc a)) zero (suc (suc a')) (suc b') le le' = absurd (omega arith)
-share_more (suc (suc a)) (suc zero) (suc (suc a')) zero le le' = omega arith
-share_more (suc (suc a)) (suc zero) (suc (suc a')) (suc zero) le le' = omega arith
-share_more (suc (suc a)) (suc zero) (suc (suc a')) (suc (suc b')) le le' = absurd (omega arith)
-share_more (suc (suc a)) (suc (suc b)) (suc (suc a')) zero le le' = omega arith
-share_more (suc (suc a)) (suc (suc b)) (suc (suc a')) (suc zero) le le' = omega arith
-share_more (suc (suc a)) (suc (suc b)) (suc (suc a')) (suc (suc b')) le le' = omega arith

@@ -11,7 +11,7 @@ use Rattle.dp_model.specs.Rows.{Holding, held_at, is_empty}
 use Rattle.dp_model.specs.Rules.{holds_with, is_held, is_empty_at}
 use Rattle.dp_infer.proofs.Stronger.{StrongerHolding, StrongerOption, StrongerFact, Stronger, both_are}
 use Rattle.dp_infer.proofs.Registers.{held_both}
-use Rattle.dp_infer.proofs.Changes.{AreWellFormed, facts_segs}
+use Rattle.dp_infer.proofs.Changes.{AreWellFormed, facts_fit, facts_segs}
 
 -- ---- tests of a packet
 
@@ -27,7 +27,7 @@ pub holds_keeps : (a b : Row) (p : ℕ) (test test' : Holding → Bool) → Stro
     → ((h k : Holding) → 1 ≤ h.segs → StrongerHolding h k → test' k ≡ true → test h ≡ true)
     → holds_with b p test' ≡ true → holds_with a p test ≡ true
 holds_keeps a b p test test' s fits each e =
-    holds_go test test' (held_at a p) (held_at b p) (held_both a b p s) (λ h k is. each h k (facts_segs a.facts p h fits is)) e
+    holds_go test test' (held_at a p) (held_at b p) (held_both a b p s) (λ h k is. each h k (facts_segs a.facts p h (facts_fit a fits) is)) e
 
 -- at most a number that is at least as great
 pub le_keeps : (m n n' : ℕ) → n' ≤ n → nat_le m n' ≡ true → nat_le m n ≡ true

@@ -1,14 +1,15 @@
 -- One label after the other, in a loop.
-use Rattle.std.proofs.Common.{◌≡◌, ℕ, zero, suc, ◌+◌, ◌≤◌, false, List, [], ◌∷◌, length, drop, Some, refl, sym, ◌∙◌, add-one}
-use Rattle.std.specs.Prelude.{slice_get, IsTrue}
+use Rattle.std.proofs.Common.{◌≡◌, ℕ, zero, suc, ◌+◌, ◌≤◌, Bool, true, false, cond, List, [], ◌∷◌, length, drop, Option, Some, None, refl, sym, ◌∙◌, add-one}
+use Rattle.std.specs.Prelude.{slice_get, slice_set, nat_lt, IsTrue}
+use Rattle.std.specs.Option.{option_map_or}
 use Rattle.std.specs.List.{list_all}
-use Rattle.std.proofs.lemmas.List.{drop_all}
+use Rattle.std.proofs.lemmas.List.{drop_all, length-set}
 use Rattle.dp_model.specs.declared.row.Row.{Row}
 use Rattle.dp_model.specs.declared.after.Lead.{Lead}
 use Rattle.dp_model.specs.declared.instr.Instr.{Instr}
 use Rattle.dp_model.specs.Environments.{Environment}
-use Rattle.dp_model.specs.Rows.{is_well_formed_row}
-use Rattle.dp_infer.specs.Joins.{passed_on, passed_from, spread}
+use Rattle.dp_model.specs.Rows.{is_well_formed_row, leads}
+use Rattle.dp_infer.specs.Joins.{met, reached, passed_on, passed_from, spread}
 use Rattle.dp_infer.proofs.Reach.{passed_well_formed}
 
 -- control passes on from no dead row
@@ -36,3 +37,33 @@ unfolding spread
 spread_done env program label rows total past so_far =
     let one : spread env (drop label program) label rows ≡ rows = rw (drop_all label program past) refl in
     sym one ∙ so_far
+
+-- ---- as many rows as before
+
+reached_long : (label : ℕ) (rows : List Row) (lead : Lead) → length (reached label rows lead) ≡ length rows
+reached_long label rows lead = go (nat_lt label lead.to) (slice_get rows lead.to)
+  where
+    go : (b : Bool) (o : Option Row) → length (cond b (option_map_or (λ there. slice_set rows lead.to (met there lead.row)) o rows) rows) ≡ length rows
+    go true None = refl
+    go true (Some there) = length-set rows lead.to (met there lead.row)
+    go false o = refl
+
+passed_long : (label : ℕ) (rows : List Row) (leads : List Lead) → length (passed_on label rows leads) ≡ length rows
+passed_long label rows [] = refl
+passed_long label rows (lead ∷ leads) = passed_long label (reached label rows lead) leads ∙ reached_long label rows lead
+
+from_long : (env : Environment) (label : ℕ) (i : Instr) (rows : List Row) → length (passed_from env label i rows) ≡ length rows
+from_long env label i rows = go (slice_get rows label)
+  where
+    at : (b : Bool) (row : Row) → length (cond b (passed_on label rows (leads env label row i)) rows) ≡ length rows
+    at true row = passed_long label rows (leads env label row i)
+    at false row = refl
+
+    go : (o : Option Row) → length (option_map_or (λ row. cond row.live (passed_on label rows (leads env label row i)) rows) o rows) ≡ length rows
+    go None = refl
+    go (Some row) = at row.live row
+
+pub spread_long : (env : Environment) (program : List Instr) (label : ℕ) (rows : List Row) → length (spread env program label rows) ≡ length rows
+unfolding spread
+spread_long env [] label rows = refl
+spread_long env (i ∷ program) label rows = spread_long env program (label + 1) (passed_from env label i rows) ∙ from_long env label i rows

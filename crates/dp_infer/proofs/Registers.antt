@@ -7,6 +7,7 @@ use Rattle.dp_model.specs.declared.row.Row.{Row}
 use Rattle.dp_model.specs.declared.registers.Operand.{Operand}
 use Rattle.dp_model.specs.declared.registers.Operand.TheVariants.{Register, Constant}
 use Rattle.dp_model.specs.Rows.{holding, held_at, bound, with_bound, with_fact}
+use Rattle.dp_infer.proofs.Sharing.{KeepsGroups}
 use Rattle.dp_infer.proofs.Stronger.{StrongerOption, StrongerFact, AtMost, Stronger}
 
 pub zip_set : {A B : Type 0} (R : A → B → Type 0) (xs : List A) (ys : List B) (i : ℕ) (x : A) (y : B) → AllZip R xs ys → R x y → AllZip R (set xs i x) (set ys i y)
@@ -33,14 +34,16 @@ bound_set a b r m n h le = record {
   live = h.live;
   other_live = h.other_live;
   facts = h.facts;
+  groups = h.groups;
   bounds = zip_set AtMost a.bounds b.bounds r m n h.bounds le;
 }
 
-pub fact_set : (a b : Row) (p : ℕ) (f g : Fact) → Stronger a b → StrongerFact f g → Stronger (with_fact a p f) (with_fact b p g)
-fact_set a b p f g h s = record {
+pub fact_set : (a b : Row) (p : ℕ) (f g : Fact) → Stronger a b → StrongerFact f g → KeepsGroups (with_fact a p f).facts (with_fact b p g).facts → Stronger (with_fact a p f) (with_fact b p g)
+fact_set a b p f g h s groups = record {
   live = h.live;
   other_live = h.other_live;
   facts = zip_set StrongerFact a.facts b.facts p f g h.facts s;
+  groups = groups;
   bounds = h.bounds;
 }
 

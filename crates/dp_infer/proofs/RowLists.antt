@@ -4,7 +4,7 @@ use Rattle.std.specs.Prelude.{slice_get}
 use Rattle.std.specs.List.{list_all}
 use Rattle.std.proofs.lemmas.Bool.{and_parts}
 use Rattle.dp_model.specs.declared.row.Row.{Row}
-use Rattle.dp_model.specs.Rows.{entails, is_well_formed_fact, is_well_formed_row}
+use Rattle.dp_model.specs.Rows.{entails, is_well_formed_row}
 use Rattle.dp_model.specs.Rules.{row_passes}
 use Rattle.dp_infer.proofs.Stronger.{Stronger, stronger, row_test, both_are}
 use Rattle.dp_infer.proofs.Changes.{AreWellFormed}
@@ -59,4 +59,4 @@ pub passes : (rows : List Row) (k : ℕ) (row u : Row) → slice_get rows k ≡ 
 passes rows k row u e s = rw (e, row_test row u s) refl
 
 pub fits_from : (row : Row) → is_well_formed_row row ≡ true → AreWellFormed row
-fits_from row e = (and_parts (list_all is_well_formed_fact row.facts) _ e).0
+fits_from row e = e

@@ -5,7 +5,6 @@ use Rattle.std.specs.List.{AllZip, list_all}
 use Rattle.std.specs.Option.{option_map_or}
 use Rattle.std.proofs.Math.Bool.{or-true}
 use Rattle.std.proofs.lemmas.Bool.{leb-true, le-leb, and_parts, eq-eqb}
-use Rattle.std.proofs.lemmas.Bool.Decides.{Decides-eqb}
 use Rattle.dp_model.specs.declared.row.Fact.{Fact}
 use Rattle.dp_model.specs.declared.row.Row.{Row}
 use Rattle.dp_model.specs.declared.after.Lead.{Lead}
@@ -16,6 +15,10 @@ use Rattle.dp_model.specs.Arithmetic.{bytes_in}
 use Rattle.dp_model.specs.Environments.{Environment}
 use Rattle.dp_model.specs.Rows.{Holding, holding, held_at, bound, entails_option, fact_of_ring}
 use Rattle.dp_model.specs.Rules.{holds_with, targets_fit, bytes_fit, share_fits, segments_fit, may_leave, may_end}
+use Rattle.dp_infer.proofs.Sharing.{sole_more, owns_more}
+use Rattle.std.proofs.Common.{⊎_elim}
+use Rattle.std.proofs.lemmas.Bool.{or_cases, eqb-true}
+use Rattle.dp_model.specs.Rows.{owns_head}
 use Rattle.dp_infer.proofs.Stronger.{StrongerHolding, Stronger, both_are, stronger_option, option_test, option_further}
 use Rattle.dp_infer.proofs.Registers.{bound_at, held_both}
 use Rattle.dp_infer.proofs.Changes.{AreWellFormed}
@@ -48,23 +51,24 @@ bytes_keep a b (LoadX r p x off w) s fits e = from_keeps a b p x off (bytes_in w
 bytes_keep a b (StoreX p x off w r) s fits e = from_keeps a b p x off (bytes_in w) s fits e
 bytes_keep a b _ s fits e = refl
 
-append_test : (h k : Holding) → 1 ≤ h.segs → StrongerHolding h k → (nat_le 2 k.share || (nat_le 1 k.share && (k.segs == 1))) ≡ true → (nat_le 2 h.share || (nat_le 1 h.share && (h.segs == 1))) ≡ true
-append_test h k some m e = go (nat_le 2 k.share) refl e
-  where
-    go : (t : Bool) → nat_le 2 k.share ≡ t → (t || (nat_le 1 k.share && (k.segs == 1))) ≡ true → (nat_le 2 h.share || (nat_le 1 h.share && (h.segs == 1))) ≡ true
-    go true is e = rw (le_keeps 2 h.share k.share m.share is) refl
-    go false is e =
-        let (one, single) = and_parts (nat_le 1 k.share) (k.segs == 1) e in
-        let segs : k.segs ≡ 1 = (Decides-eqb k.segs 1).0 single in
-        let same : h.segs ≡ 1 = omega (arith, m.segs) in
-        rw (le_keeps 1 h.share k.share m.share one, eq-eqb h.segs 1 same) (or-true (nat_le 2 h.share))
+append_test : (h k : Holding) → 1 ≤ h.segs → StrongerHolding h k → ((k.share == 2) || ((k.share == 1) && (k.segs == 1))) ≡ true → ((h.share == 2) || ((h.share == 1) && (h.segs == 1))) ≡ true
+append_test h k some m e = ⊎_elim
+    (λ two. rw (eq-eqb h.share 2 (sole_more h.share k.share m.share (eqb-true k.share 2 two))) refl)
+    (λ one.
+    let (first, single) = and_parts (k.share == 1) (k.segs == 1) one in
+    let same : h.segs ≡ 1 = omega (arith, m.segs, some, eqb-true k.segs 1 single) in
+    ⊎_elim
+    (λ is. let here : (h.share == 1) ≡ true = is in rw (here, eq-eqb h.segs 1 same) (or-true (h.share == 2)))
+    (λ is. rw is refl)
+    (or_cases (h.share == 1) (h.share == 2) (owns_more h.share k.share m.share (rw first refl))))
+    (or_cases (k.share == 2) ((k.share == 1) && (k.segs == 1)) e)
 
 pub share_keeps : (a b : Row) (i : Instr) → Stronger a b → AreWellFormed a → share_fits b i ≡ true → share_fits a i ≡ true
-share_keeps a b (Prepend p n) s fits e = holds_keeps a b p (λ h. nat_le 1 h.share) (λ h. nat_le 1 h.share) s fits (λ h k some m t. le_keeps 1 h.share k.share m.share t) e
-share_keeps a b (Store p off w r) s fits e = holds_keeps a b p (λ h. nat_le 1 h.share) (λ h. nat_le 1 h.share) s fits (λ h k some m t. le_keeps 1 h.share k.share m.share t) e
-share_keeps a b (StoreX p x off w r) s fits e = holds_keeps a b p (λ h. nat_le 1 h.share) (λ h. nat_le 1 h.share) s fits (λ h k some m t. le_keeps 1 h.share k.share m.share t) e
+share_keeps a b (Prepend p n) s fits e = holds_keeps a b p (λ h. owns_head h.share) (λ h. owns_head h.share) s fits (λ h k some m t. owns_more h.share k.share m.share t) e
+share_keeps a b (Store p off w r) s fits e = holds_keeps a b p (λ h. owns_head h.share) (λ h. owns_head h.share) s fits (λ h k some m t. owns_more h.share k.share m.share t) e
+share_keeps a b (StoreX p x off w r) s fits e = holds_keeps a b p (λ h. owns_head h.share) (λ h. owns_head h.share) s fits (λ h k some m t. owns_more h.share k.share m.share t) e
 share_keeps a b (Append p n) s fits e =
-    holds_keeps a b p (λ h. nat_le 2 h.share || (nat_le 1 h.share && (h.segs == 1))) (λ h. nat_le 2 h.share || (nat_le 1 h.share && (h.segs == 1))) s fits append_test e
+    holds_keeps a b p (λ h. (h.share == 2) || ((h.share == 1) && (h.segs == 1))) (λ h. (h.share == 2) || ((h.share == 1) && (h.segs == 1))) s fits append_test e
 share_keeps a b _ s fits e = refl
 
 pub segments_keep : (a b : Row) (i : Instr) → Stronger a b → AreWellFormed a → segments_fit b i ≡ true → segments_fit a i ≡ true

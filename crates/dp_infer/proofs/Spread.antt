@@ -8,6 +8,7 @@ use Rattle.std.proofs.lemmas.Option.{slice_get_within}
 use Rattle.dp_model.specs.declared.row.Row.{Row}
 use Rattle.dp_model.specs.declared.after.Lead.{Lead}
 use Rattle.dp_model.specs.declared.instr.Instr.{Instr}
+use Rattle.dp_model.specs.Jumps.{IsForward}
 use Rattle.dp_model.specs.Rows.{entails, leads, entry_row, is_well_formed_row}
 use Rattle.dp_model.specs.Rules.{Question, row_passes, holds_at, holds_if_live, places_exist, later_rules, IsAccepted}
 use Rattle.std.specs.List.{AllZip}
@@ -19,6 +20,7 @@ use Rattle.dp_infer.proofs.RulesKeep.{labels_keep}
 use Rattle.dp_infer.proofs.RowLists.{all_at, there_is, passes_at, passes, fits_from}
 use Rattle.dp_infer.proofs.Reach.{Fit, Grows, Step, no_step, leads_grow, pass_step, passed_well_formed}
 use Rattle.dp_infer.proofs.Accepted.{each_rule, all_from}
+use Rattle.dp_infer.proofs.Forward.{forward_leads}
 
 -- what holds of the rows, where control passed on from all labels below one, if a certificate is accepted
 pub record Sound (q : Question) (rows : List Row) (label : ℕ) : Type 0 where
@@ -35,7 +37,6 @@ pub record Sound (q : Question) (rows : List Row) (label : ℕ) : Type 0 where
 pub record LeadsWell (q : Question) (label : ℕ) (i : Instr) (row : Row) : Type 0 where
   pub within : list_all (λ to. nat_lt to.to (length q.program)) (leads q.env label row i) ≡ true
   pub entailed : list_all (λ to. row_passes q.rows to.to (entails to.row)) (leads q.env label row i) ≡ true
-  pub later : list_all (λ to. nat_lt label to.to) (leads q.env label row i) ≡ true
 
 -- a live label of an accepted certificate passes each rule
 pub live_rules : (q : Question) (label : ℕ) (i : Instr) (u : Row) → IsAccepted q → slice_get q.program label ≡ Some i → slice_get q.rows label ≡ Some u → u.live ≡ true
@@ -52,7 +53,6 @@ own_leads q label i u all =
     record {
       within = (and_parts (places_exist q.env i) (list_all (λ to. nat_lt to.to (length q.program)) (leads q.env label u i)) each.0).1;
       entailed = each.1.1.1.1.1.1.1.1.0;
-      later = each.1.1.1.1.1.1.1.1.1.0;
     }
 
 -- what is entailed by the certificate's rows after is entailed by those that say more
@@ -67,14 +67,13 @@ entailed_keeps rows [] (y ∷ ys) z e = absurd z
 entailed_keeps rows (x ∷ xs) [] z e = absurd z
 
 -- the row that was found says more than the certificate's, and leads as well
-pub leads_well : (q : Question) (label : ℕ) (i : Instr) (row u : Row) → Stronger row u → AreWellFormed row → list_all (holds_at q label i u) later_rules ≡ true → LeadsWell q label i row
-leads_well q label i row u s fits all =
+pub leads_well : (q : Question) (label : ℕ) (i : Instr) (row u : Row) → Stronger row u → AreWellFormed row → AreWellFormed u → list_all (holds_at q label i u) later_rules ≡ true → LeadsWell q label i row
+leads_well q label i row u s fits fits' all =
     let own = own_leads q label i u all in
-    let z = leads_keep q.env label row u i s fits in
+    let z = leads_keep q.env label row u i s fits fits' (all_from (holds_at q label i u) later_rules all).1.1.0 in
     record {
       within = labels_keep (λ to. nat_lt to (length q.program)) (leads q.env label row i) (leads q.env label u i) z own.within;
       entailed = entailed_keeps q.rows (leads q.env label row i) (leads q.env label u i) z own.entailed;
-      later = labels_keep (λ to. nat_lt label to) (leads q.env label row i) (leads q.env label u i) z own.later;
     }
 
 -- ---- one label
@@ -103,8 +102,8 @@ after_step q label rows rows' so step fits here = record {
       ];
 }
 
-one_label : (q : Question) (label : ℕ) (i : Instr) (rows : List Row) → IsAccepted q → list_all is_well_formed_row q.rows ≡ true → slice_get q.program label ≡ Some i → Sound q rows label → Sound q (passed_from q.env label i rows) (label + 1)
-one_label q label i rows accepted cert_fits at_i so =
+one_label : (q : Question) (label : ℕ) (i : Instr) (rows : List Row) → IsForward q.program → IsAccepted q → list_all is_well_formed_row q.rows ≡ true → slice_get q.program label ≡ Some i → Sound q rows label → Sound q (passed_from q.env label i rows) (label + 1)
+one_label q label i rows forward accepted cert_fits at_i so =
     let within : label < length rows = omega (arith, so.long, slice_get_within q.program label i at_i) in
     let (row, at_row) = there_is rows label within in
     go row at_row row.live refl
@@ -119,10 +118,10 @@ one_label q label i rows accepted cert_fits at_i so =
         let is : passed_from q.env label i rows ≡ passed_on label rows (leads q.env label row i) = rw (at_row, live) refl in
         let (u, at_u, s) = passes_at q.rows label row (so.fit.below label row at_row live) in
         let fits : AreWellFormed row = fits_from row (all_at is_well_formed_row rows label row so.well_formed at_row) in
-        let well = leads_well q label i row u s fits (live_rules q label i u accepted at_i at_u s.other_live) in
+        let well = leads_well q label i row u s fits (fits_from u (all_at is_well_formed_row q.rows label u cert_fits at_u)) (live_rules q label i u accepted at_i at_u s.other_live) in
         let rows' = passed_on label rows (leads q.env label row i) in
         let within : list_all (λ to. nat_lt to.to (length rows)) (leads q.env label row i) ≡ true = rw so.long well.within in
-        let (step, entailed) = pass_step q label rows (leads q.env label row i) cert_fits so.fit well.later within well.entailed in
+        let (step, entailed) = pass_step q label rows (leads q.env label row i) cert_fits so.fit (forward_leads q.env label row i (λ to names. forward label to i at_i names)) within well.entailed in
         let P : List Row → Type 0 = λ r. Sound q r (label + 1) in
         subst P (sym is) (after_step q label rows rows' so step (passed_well_formed label rows (leads q.env label row i) so.well_formed)
         (λ j other at_j at_other live'.
@@ -133,15 +132,15 @@ one_label q label i rows accepted cert_fits at_i so =
 
 -- ---- all labels
 
-pub spread_sound : (q : Question) (program : List Instr) (label : ℕ) (rows : List Row) → IsAccepted q → list_all is_well_formed_row q.rows ≡ true
+pub spread_sound : (q : Question) (program : List Instr) (label : ℕ) (rows : List Row) → IsForward q.program → IsAccepted q → list_all is_well_formed_row q.rows ≡ true
     → ((k : ℕ) → slice_get program k ≡ slice_get q.program (label + k)) → Sound q rows label → Sound q (spread q.env program label rows) (label + length program)
 unfolding spread
-spread_sound q [] label rows accepted fits rest so = let e : label + 0 ≡ label = omega arith in subst (λ (n : ℕ). Sound q rows n) (sym e) so
-spread_sound q (i ∷ program) label rows accepted fits rest so =
+spread_sound q [] label rows forward accepted fits rest so = let e : label + 0 ≡ label = omega arith in subst (λ (n : ℕ). Sound q rows n) (sym e) so
+spread_sound q (i ∷ program) label rows forward accepted fits rest so =
     let here : label + 0 ≡ label = omega arith in
     let at_i : slice_get q.program label ≡ Some i = rw here at (sym (rest 0)) in
-    let one = one_label q label i rows accepted fits at_i so in
+    let one = one_label q label i rows forward accepted fits at_i so in
     let more : (k : ℕ) → slice_get program k ≡ slice_get q.program (label + 1 + k) = λ k. let e : label + suc k ≡ label + 1 + k = omega arith in rw (← e) (rest (suc k)) in
-    let all = spread_sound q program (label + 1) (passed_from q.env label i rows) accepted fits more one in
+    let all = spread_sound q program (label + 1) (passed_from q.env label i rows) forward accepted fits more one in
     let e : label + 1 + length program ≡ label + suc (length program) = omega arith in
     subst (λ (n : ℕ). Sound q (spread q.env program (label + 1) (passed_from q.env label i rows)) n) e all

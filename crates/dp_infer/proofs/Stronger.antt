@@ -1,15 +1,17 @@
 -- Entailment, as a relation: one row says all that another does.
-use Rattle.std.proofs.Common.{◌≡◌, ℕ, ◌≤◌, Bool, true, ◌&&◌, List, [], ◌∷◌, Option, Some, None, refl, arith}
+use Rattle.std.proofs.Common.{◌≡◌, ℕ, suc, ◌≤◌, Bool, true, ◌&&◌, List, [], ◌∷◌, Option, Some, None, refl, ap, length, arith}
 use Rattle.std.specs.Prelude.{nat_le}
 use Rattle.std.specs.List.{AllZip}
 use Rattle.std.proofs.lemmas.Bool.{leb-true, le-leb, and_parts}
 use Rattle.dp_model.specs.declared.row.Fact.{Fact}
 use Rattle.dp_model.specs.declared.row.Row.{Row}
-use Rattle.dp_model.specs.Rows.{Holding, holding, entails_holding, entails_option, entails_fact, at_each_place, entails}
+use Rattle.dp_model.specs.Groups.{keeps_groups}
+use Rattle.dp_infer.proofs.Sharing.{KeepsGroups, keeps_from, keeps_test, keeps_same, keeps_further, share_same, share_further}
+use Rattle.dp_model.specs.Rows.{Holding, holding, entails_share, entails_holding, entails_option, entails_fact, at_each_place, entails}
 
 -- the first promises at least what the second does
 pub record StrongerHolding (a b : Holding) : Type 0 where
-  pub share : b.share ≤ a.share
+  pub share : entails_share a.share b.share ≡ true
   pub head : b.head ≤ a.head
   pub tail : b.tail ≤ a.tail
   pub first : b.first ≤ a.first
@@ -32,6 +34,7 @@ pub record Stronger (a b : Row) : Type 0 where
   pub live : a.live ≡ true
   pub other_live : b.live ≡ true
   pub facts : AllZip StrongerFact a.facts b.facts
+  pub groups : KeepsGroups a.facts b.facts
   pub bounds : AllZip AtMost a.bounds b.bounds
 
 -- ---- from the tests and back
@@ -41,13 +44,13 @@ both_are p q = rw (p, q) refl
 
 pub stronger_holding : (a b : Holding) → entails_holding a b ≡ true → StrongerHolding a b
 stronger_holding a b e =
-    let (e1, segs) = and_parts (nat_le b.share a.share && nat_le b.head a.head && nat_le b.tail a.tail && nat_le b.first a.first && nat_le b.last a.last) (nat_le a.segs b.segs) e in
-    let (e2, last) = and_parts (nat_le b.share a.share && nat_le b.head a.head && nat_le b.tail a.tail && nat_le b.first a.first) (nat_le b.last a.last) e1 in
-    let (e3, first) = and_parts (nat_le b.share a.share && nat_le b.head a.head && nat_le b.tail a.tail) (nat_le b.first a.first) e2 in
-    let (e4, tail) = and_parts (nat_le b.share a.share && nat_le b.head a.head) (nat_le b.tail a.tail) e3 in
-    let (share, head) = and_parts (nat_le b.share a.share) (nat_le b.head a.head) e4 in
+    let (e1, segs) = and_parts (entails_share a.share b.share && nat_le b.head a.head && nat_le b.tail a.tail && nat_le b.first a.first && nat_le b.last a.last) (nat_le a.segs b.segs) e in
+    let (e2, last) = and_parts (entails_share a.share b.share && nat_le b.head a.head && nat_le b.tail a.tail && nat_le b.first a.first) (nat_le b.last a.last) e1 in
+    let (e3, first) = and_parts (entails_share a.share b.share && nat_le b.head a.head && nat_le b.tail a.tail) (nat_le b.first a.first) e2 in
+    let (e4, tail) = and_parts (entails_share a.share b.share && nat_le b.head a.head) (nat_le b.tail a.tail) e3 in
+    let (share, head) = and_parts (entails_share a.share b.share) (nat_le b.head a.head) e4 in
     record {
-      share = leb-true b.share a.share share;
+      share = share;
       head = leb-true b.head a.head head;
       tail = leb-true b.tail a.tail tail;
       first = leb-true b.first a.first first;
@@ -56,7 +59,7 @@ stronger_holding a b e =
     }
 
 pub holding_test : (a b : Holding) → StrongerHolding a b → entails_holding a b ≡ true
-holding_test a b h = rw (le-leb b.share a.share h.share, le-leb b.head a.head h.head, le-leb b.tail a.tail h.tail, le-leb b.first a.first h.first, le-leb b.last a.last h.last, le-leb a.segs b.segs h.segs) refl
+holding_test a b h = rw (h.share, le-leb b.head a.head h.head, le-leb b.tail a.tail h.tail, le-leb b.first a.first h.first, le-leb b.last a.last h.last, le-leb a.segs b.segs h.segs) refl
 
 pub stronger_option : (a b : Option Holding) → entails_option a b ≡ true → StrongerOption a b
 stronger_option None None e = tt
@@ -82,30 +85,38 @@ zip_test test R each (x ∷ xs) (y ∷ ys) h = both_are (each x y h.0) (zip_test
 zip_test test R each [] (y ∷ ys) h = absurd h
 zip_test test R each (x ∷ xs) [] h = absurd h
 
+pub zip_length : {A B : Type 0} (R : A → B → Type 0) (xs : List A) (ys : List B) → AllZip R xs ys → length xs ≡ length ys
+zip_length R [] [] h = refl
+zip_length R (x ∷ xs) (y ∷ ys) h = ap suc (zip_length R xs ys h.1)
+zip_length R [] (y ∷ ys) h = absurd h
+zip_length R (x ∷ xs) [] h = absurd h
+
 pub stronger : (a b : Row) → entails a b ≡ true → Stronger a b
 stronger a b e =
-    let (e1, bounds) = and_parts (a.live && b.live && at_each_place entails_fact a.facts b.facts) (at_each_place nat_le a.bounds b.bounds) e in
+    let (e0, bounds) = and_parts (a.live && b.live && at_each_place entails_fact a.facts b.facts && keeps_groups a.facts b.facts) (at_each_place nat_le a.bounds b.bounds) e in
+    let (e1, groups) = and_parts (a.live && b.live && at_each_place entails_fact a.facts b.facts) (keeps_groups a.facts b.facts) e0 in
     let (e2, facts) = and_parts (a.live && b.live) (at_each_place entails_fact a.facts b.facts) e1 in
     let (live, other_live) = and_parts a.live b.live e2 in
     record {
       live = live;
       other_live = other_live;
       facts = zip_from entails_fact StrongerFact (λ x y h. stronger_option (holding x) (holding y) h) a.facts b.facts facts;
+      groups = keeps_from a.facts b.facts groups;
       bounds = zip_from nat_le AtMost leb-true a.bounds b.bounds bounds;
     }
 
 pub row_test : (a b : Row) → Stronger a b → entails a b ≡ true
-row_test a b h = rw (h.live, h.other_live, zip_test entails_fact StrongerFact (λ x y k. option_test (holding x) (holding y) k) a.facts b.facts h.facts, zip_test nat_le AtMost le-leb a.bounds b.bounds h.bounds) refl
+row_test a b h = rw (h.live, h.other_live, zip_test entails_fact StrongerFact (λ x y k. option_test (holding x) (holding y) k) a.facts b.facts h.facts, keeps_test a.facts b.facts (zip_length StrongerFact a.facts b.facts h.facts) h.groups, zip_test nat_le AtMost le-leb a.bounds b.bounds h.bounds) refl
 
 -- ---- each says what it says, and what follows from what follows
 
 pub holding_same : (a : Option Holding) → StrongerOption a a
 holding_same None = tt
-holding_same (Some a) = record { share = omega arith; head = omega arith; tail = omega arith; first = omega arith; last = omega arith; segs = omega arith }
+holding_same (Some a) = record { share = share_same a.share; head = omega arith; tail = omega arith; first = omega arith; last = omega arith; segs = omega arith }
 
 pub option_further : (a b c : Option Holding) → StrongerOption a b → StrongerOption b c → StrongerOption a c
 option_further None None None h k = tt
-option_further (Some a) (Some b) (Some c) h k = record { share = omega arith; head = omega arith; tail = omega arith; first = omega arith; last = omega arith; segs = omega arith }
+option_further (Some a) (Some b) (Some c) h k = record { share = share_further a.share b.share c.share h.share k.share; head = omega arith; tail = omega arith; first = omega arith; last = omega arith; segs = omega arith }
 option_further None None (Some c) h k = absurd k
 option_further None (Some b) c h k = absurd h
 option_further (Some a) None c h k = absurd h
@@ -128,6 +139,7 @@ same_row a live = record {
   live = live;
   other_live = live;
   facts = zip_same StrongerFact (λ x. holding_same (holding x)) a.facts;
+  groups = keeps_same a.facts;
   bounds = zip_same AtMost (λ n. omega arith) a.bounds;
 }
 
@@ -136,5 +148,6 @@ further a b c h k = record {
   live = h.live;
   other_live = k.other_live;
   facts = zip_further StrongerFact (λ x y z. option_further (holding x) (holding y) (holding z)) a.facts b.facts c.facts h.facts k.facts;
+  groups = keeps_further a.facts b.facts c.facts h.groups k.groups;
   bounds = zip_further AtMost (λ m n o p q. omega arith) a.bounds b.bounds c.bounds h.bounds k.bounds;
 }

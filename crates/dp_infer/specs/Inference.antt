@@ -5,6 +5,7 @@ use Rattle.dp_model.specs.declared.row.Row.{Row}
 use Rattle.dp_model.specs.declared.env.Entry.{Entry}
 use Rattle.dp_model.specs.declared.instr.Instr.{Instr}
 use Rattle.dp_model.specs.Environments.{Environment}
+use Rattle.dp_model.specs.Jumps.{IsForward}
 use Rattle.dp_model.specs.Rows.{entails, is_well_formed_row}
 use Rattle.dp_model.specs.Rules.{IsAccepted, row_passes}
 use Rattle.dp_check.specs.Faults.{question}
@@ -15,12 +16,12 @@ use Rattle.dp_infer.specs.declared.inferring.InferError.TheVariants.{Memory, NoC
 abbrev pub Certifies : List Instr → Environment → Entry → List Row → Type 0
 Certifies program env entry rows = IsTrue (list_all is_well_formed_row rows) × IsAccepted (question program rows env entry)
 
--- each live row says all that the row of any such certificate does
+-- each live row says all that the row of any such certificate does, if the program is forward
 abbrev pub SaysMost : List Instr → Environment → Entry → List Row → Type 0
-SaysMost program env entry found = (rows : List Row) → Certifies program env entry rows
+SaysMost program env entry found = IsForward program → (rows : List Row) → Certifies program env entry rows
     → (label : ℕ) (row : Row) → slice_get found label ≡ Some row → row.live ≡ true → row_passes rows label (entails row) ≡ true
 
--- why there is no certificate: memory, or that the program is accepted with none
+-- why there is no certificate: memory, or that the program is accepted with none, if it is forward
 abbrev pub IsWithout : List Instr → Environment → Entry → InferError → Type 0
 IsWithout program env entry Memory = Unit {0}
-IsWithout program env entry (NoCert label rule) = (rows : List Row) → ¬ Certifies program env entry rows
+IsWithout program env entry (NoCert label rule) = IsForward program → (rows : List Row) → ¬ Certifies program env entry rows

@@ -1,5 +1,5 @@
 -- What is known at a label where control comes from several places.
-use Rattle.std.specs.Prelude.{ℕ, ◌+◌, min, max, true, false, nat_lt, if◌then◌else◌, List, [], ◌∷◌, length, replicate, Option, slice_get, slice_set}
+use Rattle.std.specs.Prelude.{ℕ, ◌+◌, min, max, Bool, true, false, ◌&&◌, ◌||◌, ◌==◌, nat_le, nat_lt, if◌then◌else◌, List, [], ◌∷◌, length, map, replicate, Option, slice_get, slice_set}
 use Rattle.std.specs.Option.{option_map_or}
 use Rattle.dp_model.specs.declared.row.Fact.{Fact}
 use Rattle.dp_model.specs.declared.row.Fact.TheVariants.{Empty, Held}
@@ -8,7 +8,16 @@ use Rattle.dp_model.specs.declared.after.Lead.{Lead}
 use Rattle.dp_model.specs.declared.instr.Instr.{Instr}
 use Rattle.dp_model.specs.Environments.{Environment}
 use Rattle.dp_model.specs.declared.env.Entry.{Entry}
-use Rattle.dp_model.specs.Rows.{entry_row, leads}
+use Rattle.dp_model.specs.Groups.{group_of, is_group, same_registers, reshared_fact}
+use Rattle.dp_model.specs.Rows.{owns_head, entry_row, leads}
+
+-- whether a fact of a row can have the share
+abbrev pub is_share : ℕ → Bool
+is_share share = nat_le share 2 || (nat_le 8 share && nat_le share 15)
+
+-- the share that two have in common
+abbrev pub joined_share : ℕ → ℕ → ℕ
+joined_share a b = if (a == b) && is_share a then a else if owns_head a && owns_head b then 1 else 0
 
 -- What two facts have in common: the lesser promise of each, the greater number of segments, in the ranges of facts. Where
 -- one is empty and the other is not, they have nothing in common, and the answer is of no use.
@@ -16,7 +25,7 @@ abbrev pub joined_fact : Fact → Fact → Fact
 joined_fact Empty other = Empty
 joined_fact (Held share head tail first last segs) Empty = Empty
 joined_fact (Held share head tail first last segs) (Held s h t f l n) =
-    Held (min 2 (min share s)) (min head h) (min tail t) (min first f) (min last l) (min 64 (max 1 (max segs n)))
+    Held (joined_share share s) (min head h) (min tail t) (min first f) (min last l) (min 64 (max 1 (max segs n)))
 
 -- the elements of two lists, place by place
 abbrev pub paired : {A : Type 0} → (A → A → A) → List A → List A → List A
@@ -24,9 +33,18 @@ paired f [] ys = []
 paired f (x ∷ xs) [] = []
 paired f (x ∷ xs) (y ∷ ys) = f x y ∷ paired f xs ys
 
+-- a fact of two rows, loose where its group has not the same registers in both
+abbrev pub common_fact : List Fact → List Fact → Fact → Fact
+common_fact facts others fact =
+    option_map_or (λ g. if is_group facts g && same_registers facts others g then fact else reshared_fact g 0 fact) (group_of fact) fact
+
+-- what the facts of two rows have in common
+abbrev pub joined_facts : List Fact → List Fact → List Fact
+joined_facts facts others = map (common_fact facts others) (paired joined_fact facts others)
+
 -- what two rows have in common
 abbrev pub joined : Row → Row → Row
-joined row other = record { live = true; facts = paired joined_fact row.facts other.facts; bounds = paired max row.bounds other.bounds }
+joined row other = record { live = true; facts = joined_facts row.facts other.facts; bounds = paired max row.bounds other.bounds }
 
 -- what is known where control comes with the second row, and may have come with the first
 abbrev pub met : Row → Row → Row

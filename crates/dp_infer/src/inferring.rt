@@ -3,10 +3,12 @@
 ghost use Rattle.std.specs.Prelude.{◌≡◌, ◌<◌, ◌≤◌, length, IsTrue, IfOk, IfErr};
 ghost use Rattle.std.specs.List.{list_all};
 ghost use Rattle.dp_model.specs.Rows.{is_well_formed_row};
+ghost use Rattle.dp_cert.specs.Spelling.{version_for};
 ghost use Rattle.dp_infer.specs.Joins as spec;
 ghost use Rattle.dp_infer.specs.Inference.{Certifies, SaysMost, IsWithout};
 
 use crate::join::{joined, pass_on};
+use crate::settling::settle;
 use dp_cert::Cert;
 use dp_check::fault_of;
 use dp_lang::Program;
@@ -105,27 +107,43 @@ fn found_rows(
     Ok(rows)
 }
 
-/// The certificate of a program for an environment and an entry. Each row is as strong as can be, and each instruction
-/// is looked at once; the rows are the one allocation.
-///
-/// # Errors
-/// `InferError::Memory` where the memory for the rows is refused, else `InferError::NoCert` where the program is
-/// accepted with no certificate. So it is, too, where the environment does not have the entry, and for every program
-/// that can come to a jump to its own or an earlier label.
-pub fn infer(alloc: Global, program: &Program, env: &Env, entry: Entry) -> Result<Cert, InferError>
-    // The program is accepted with it.
-    ensures accepted { IfOk result (λ cert. Certifies program.now env.now entry cert) }
-    // No certificate says more.
-    ensures most { IfOk result (λ cert. SaysMost program.now env.now entry cert) }
-    // There is none where none is answered, unless memory ran out.
-    ensures none { IfErr result (λ e. IsWithout program.now env.now entry e) }
+/// A certificate of a program that comes back to labels, if the rows that are found serve.
+fn settled(alloc: Global, program: &Program, env: &Env, entry: Entry) -> Result<Cert, InferError>
+    ensures accepted { IfOk result (λ cert. Certifies program.now env.now entry cert.rows) }
+    ensures version { IfOk result (λ cert. cert.version ≡ version_for cert.rows) }
 {
-    let cert = Cert::new(found_rows(alloc, program.instrs(), env, entry)?);
+    let mut rows = found_rows(alloc, program.instrs(), env, entry)?;
+    settle(&mut rows, program.instrs(), env);
+    let cert = Cert::new(rows);
     match fault_of(program, &cert, env, entry) {
         Some((label, rule)) => Err(InferError::NoCert {
             label,
             rule: rule.number(),
         }),
+        None => Ok(cert),
+    }
+}
+
+/// The certificate of a program for an environment and an entry. For a forward program, in which each label that is
+/// named is behind its instruction, each row is as strong as can be, and each instruction is looked at once. In other
+/// programs control may come back to a label; what is known there is weakened until it stays.
+///
+/// # Errors
+/// `InferError::Memory` where the memory for the rows is refused, else `InferError::NoCert` where no certificate was
+/// found. A forward program is accepted with none then; so it is where the environment does not have the entry.
+pub fn infer(alloc: Global, program: &Program, env: &Env, entry: Entry) -> Result<Cert, InferError>
+    // The program is accepted with it.
+    ensures accepted { IfOk result (λ cert. Certifies program.now env.now entry cert.rows) }
+    // No certificate of a forward program says more.
+    ensures most { IfOk result (λ cert. SaysMost program.now env.now entry cert.rows) }
+    // It has version 1 exactly where no row has a group.
+    ensures version { IfOk result (λ cert. cert.version ≡ version_for cert.rows) }
+    // There is none for a forward program where none is answered, unless memory ran out.
+    ensures none { IfErr result (λ e. IsWithout program.now env.now entry e) }
+{
+    let cert = Cert::new(found_rows(alloc, program.instrs(), env, entry)?);
+    match fault_of(program, &cert, env, entry) {
+        Some(_) => settled(alloc, program, env, entry),
         None => Ok(cert),
     }
 }

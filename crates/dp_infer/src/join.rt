@@ -1,10 +1,37 @@
 //! What is known at a label where control comes from several places.
 
 ghost use Rattle.std.specs.Prelude.{◌≡◌, max};
-ghost use Rattle.dp_model.specs.Rows.{listed};
+ghost use Rattle.dp_model.specs.Rows.{listed, owns_head};
 ghost use Rattle.dp_infer.specs.Joins as spec;
 
 use dp_model::{Fact, Lead, Leads, Row};
+
+/// Whether a fact of a row can have the share.
+fn is_share(share: u8) -> bool
+    ensures { result ≡ spec.is_share share }
+{
+    share <= 2 || (share >= 8 && share <= 15)
+}
+
+/// Whether the first segment's buffer has one reference.
+fn owns_head(share: u8) -> bool
+    ensures { result ≡ owns_head share }
+{
+    share == 1 || share == 2
+}
+
+/// The share that two have in common.
+fn joined_share(share: u8, other: u8) -> u8
+    ensures { result ≡ spec.joined_share share other }
+{
+    if share == other && is_share(share) {
+        share
+    } else if owns_head(share) && owns_head(other) {
+        1
+    } else {
+        0
+    }
+}
 
 /// What two facts have in common: the lesser promise of each, and the greater number of segments.
 fn joined_fact(fact: Fact, other: Fact) -> Fact
@@ -29,7 +56,7 @@ fn joined_fact(fact: Fact, other: Fact) -> Fact
                 last: l,
                 segs: n,
             } => Fact::Held {
-                share: share.min(s).min(2),
+                share: joined_share(share, s),
                 head: head.min(h),
                 tail: tail.min(t),
                 first: first.min(f),
@@ -41,12 +68,40 @@ fn joined_fact(fact: Fact, other: Fact) -> Fact
 }
 
 /// What facts have in common, register by register.
-fn joined_facts(facts: &[Fact; 8], others: &[Fact; 8]) -> [Fact; 8]
+fn paired_facts(facts: &[Fact; 8], others: &[Fact; 8]) -> [Fact; 8]
     ensures { result ≡ spec.paired spec.joined_fact facts.now others.now }
 {
     let mut joined = [Fact::Empty; 8];
     for i in 0..8 {
         joined[i] = joined_fact(facts[i], others[i]);
+    }
+    joined
+}
+
+/// A fact of two rows, loose where its group has not the same registers in both.
+fn common_fact(row: &Row, other: &Row, fact: Fact) -> Fact
+    ensures { result ≡ spec.common_fact row.now.facts other.now.facts fact }
+{
+    match fact.group() {
+        Some(group) => {
+            if row.shares_group(other, group) {
+                fact
+            } else {
+                fact.reshared(group, 0)
+            }
+        }
+        None => fact,
+    }
+}
+
+/// What the facts of two rows have in common.
+fn joined_facts(row: &Row, other: &Row) -> [Fact; 8]
+    ensures { result ≡ spec.joined_facts row.now.facts other.now.facts }
+{
+    let facts = paired_facts(&row.facts, &other.facts);
+    let mut joined = [Fact::Empty; 8];
+    for i in 0..8 {
+        joined[i] = common_fact(row, other, facts[i]);
     }
     joined
 }
@@ -68,13 +123,13 @@ pub(crate) fn joined(row: &Row, other: &Row) -> Row
 {
     Row {
         live: true,
-        facts: joined_facts(&row.facts, &other.facts),
+        facts: joined_facts(row, other),
         bounds: greater_bounds(&row.bounds, &other.bounds),
     }
 }
 
 /// What is known where control comes with the second row, and may have come with the first.
-fn met(there: &Row, row: &Row) -> Row
+pub(crate) fn met(there: &Row, row: &Row) -> Row
     ensures { result ≡ spec.met there.now row.now }
 {
     if there.live {

@@ -4,6 +4,7 @@
 mod inferring;
 mod join;
 mod laws;
+mod settling;
 
 pub use inferring::{InferError, infer};
 pub use laws::{

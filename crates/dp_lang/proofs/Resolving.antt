@@ -7,7 +7,8 @@ use Rattle.dp_model.specs.declared.instr.Instr.{Instr}
 use Rattle.dp_model.specs.declared.instr.Instr.TheVariants as instr
 use Rattle.dp_model.specs.declared.registers.Operand.{Operand}
 use Rattle.dp_model.specs.declared.registers.Operand.TheVariants as operand
-use Rattle.dp_lang.specs.Programs.{label_of, leads_below}
+use Rattle.dp_model.specs.Jumps.{label_of}
+use Rattle.dp_lang.specs.Programs.{leads_below}
 use Rattle.dp_lang.specs.Printing.{names, is_named, label_name}
 use Rattle.dp_lang.specs.Reading.{resolved, all_resolved, all_statements}
 use Rattle.dp_lang.specs.Spelling.{Statement, spelled, either}

@@ -3,7 +3,8 @@
 ghost use Rattle.std.specs.Prelude.{◌≡◌, ℕ, ◌<◌, [], ◌∷◌, ◌++◌, if◌then◌else◌, Some, length, map, slice_get, string_bytes, IfOk, IsTrue, OnOk};
 ghost use Rattle.std.specs.List.{list_all};
 ghost use Rattle.dp_lang.specs.Printing as spec;
-ghost use Rattle.dp_lang.specs.Programs.{label_of, leads_below};
+ghost use Rattle.dp_model.specs.Jumps.{label_of};
+ghost use Rattle.dp_lang.specs.Programs.{leads_below};
 ghost use Rattle.dp_lang.specs.Spelling as spelling;
 ghost use Rattle.dp_lang.specs.Views.{numbered};
 

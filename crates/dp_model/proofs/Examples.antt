@@ -1,13 +1,16 @@
 -- Programs that are refused at a label by a rule, and runs on short records, computed by the definitions.
 use Rattle.std.proofs.Common.{◌≡◌, ◌<◌, ℕ, zero, suc, true, false, List, [], ◌∷◌, ◌++◌, length, map, replicate, Option, Some, None, refl, arith}
+use Rattle.std.specs.Prelude.{option_map}
+use Rattle.dp_model.specs.declared.row.Fact.{Fact}
 use Rattle.dp_model.specs.declared.row.Fact.TheVariants.{Empty, Held}
+use Rattle.dp_model.specs.declared.registers.Operand.TheVariants.{Constant}
 use Rattle.dp_model.specs.declared.row.Row.{Row}
 use Rattle.dp_model.specs.declared.registers.Width.TheVariants.{One}
 use Rattle.dp_model.specs.declared.env.Entry.TheVariants.{Port, Ring}
 use Rattle.dp_model.specs.declared.instr.Instr.{Instr}
-use Rattle.dp_model.specs.declared.instr.Instr.TheVariants.{Free, Clone, Store, Jmp, Tx, Enq, Exit}
+use Rattle.dp_model.specs.declared.instr.Instr.TheVariants.{Free, Clone, Store, Set, Add, Jmp, Jlt, Tx, Enq, Exit}
 use Rattle.dp_model.specs.Environments.{Environment}
-use Rattle.dp_model.specs.Rules.{Rule, J3, J5, J10, J11, J12, Question, fault_at, IsAccepted, IsRefused}
+use Rattle.dp_model.specs.Rules.{Rule, J3, J5, J10, J11, Question, fault_at, IsAccepted, IsRefused}
 use Rattle.dp_model.specs.CopyMachine.{copy_run, copy_start, CopyState}
 use Rattle.dp_model.proofs.Sanity.{one_port, two_ports, row_of, dead, strip, multicast, captures_of}
 
@@ -49,14 +52,6 @@ no_exit_question = record { program = Free 0 ∷ []; rows = row_of (Held 2 128 0
 no_exit_refused : IsRefused no_exit_question 0 J3
 unfolding no_exit_question row_of one_port
 no_exit_refused = at_once no_exit_question J3 refl
-
--- no jump goes to its own label
-own_label_question : Question
-own_label_question = record { program = Jmp 0 ∷ []; rows = row_of (Held 2 128 0 0 0 1 ∷ []) 7 ∷ []; env = one_port; entry = Port 0 }
-
-own_label_refused : IsRefused own_label_question 0 J12
-unfolding own_label_question row_of one_port
-own_label_refused = at_once own_label_question J12 refl
 
 -- ---- refusals at a later label, where those before pass
 
@@ -162,3 +157,72 @@ loop_accepted_at_ring (suc zero) = refl
 loop_accepted_at_ring (suc (suc zero)) = refl
 loop_accepted_at_ring (suc (suc (suc zero))) = refl
 loop_accepted_at_ring (suc (suc (suc (suc label)))) = refl
+
+-- ---- loops
+
+-- jumps to itself for ever
+spin : List Instr
+spin = Jmp 0 ∷ []
+
+-- counts to n, and then sends its packet
+count_to : ℕ → List Instr
+count_to n = Set 1 0 ∷ Add 1 (Constant 1) ∷ Jlt 1 n 1 ∷ Tx 0 0 5 ∷ Exit ∷ Free 0 ∷ Exit ∷ []
+
+-- the packet, and r1 at most so much
+counting : ℕ → List Fact → ℕ → Row
+counting r1 facts n = record { live = true; facts = facts ++ replicate n Empty; bounds = 0 ∷ r1 ∷ replicate 6 0 }
+
+count_rows : List Row
+count_rows =
+    counting 0 (Held 2 128 0 0 0 1 ∷ []) 7
+    ∷ counting 256 (Held 2 128 0 0 0 1 ∷ []) 7
+    ∷ counting 257 (Held 2 128 0 0 0 1 ∷ []) 7
+    ∷ counting 257 (Held 2 128 0 0 0 1 ∷ []) 7
+    ∷ counting 257 [] 8
+    ∷ counting 257 (Held 2 128 0 0 0 1 ∷ []) 7
+    ∷ counting 257 [] 8
+    ∷ []
+
+count_accepted : IsAccepted (record { program = count_to 257; rows = count_rows; env = one_port; entry = Port 0 })
+unfolding count_to count_rows counting one_port
+count_accepted zero = refl
+count_accepted (suc zero) = refl
+count_accepted (suc (suc zero)) = refl
+count_accepted (suc (suc (suc zero))) = refl
+count_accepted (suc (suc (suc (suc zero)))) = refl
+count_accepted (suc (suc (suc (suc (suc zero))))) = refl
+count_accepted (suc (suc (suc (suc (suc (suc zero)))))) = refl
+count_accepted (suc (suc (suc (suc (suc (suc (suc label))))))) = refl
+
+-- what the port sends on one record in at most so many steps, and how many node runs are cut
+sent_in : ℕ → List Instr → Option (List (List (ℕ × List ℕ)) × ℕ)
+sent_in steps program =
+    option_map (λ r. (r.0, r.1.cuts))
+    (copy_run one_port [] steps (record { ports = program ∷ []; rings = [] }) (record { port = 0; time = 5; bytes = 1 ∷ 2 ∷ [] } ∷ []) (copy_start one_port (true ∷ [])))
+
+-- it is cut in its step 257
+spin_is_cut : sent_in 257 spin ≡ Some ([] ∷ [], 1)
+unfolding sent_in spin one_port
+spin_is_cut = refl
+
+spin_is_not_cut_before : sent_in 256 spin ≡ None
+unfolding sent_in spin one_port
+spin_is_not_cut_before = refl
+
+-- 256 backward jumps are taken, in 517 steps
+count_is_sent : sent_in 517 (count_to 257) ≡ Some (((5, 1 ∷ 2 ∷ []) ∷ []) ∷ [], 0)
+unfolding sent_in count_to one_port
+count_is_sent = refl
+
+count_takes_its_steps : sent_in 516 (count_to 257) ≡ None
+unfolding sent_in count_to one_port
+count_takes_its_steps = refl
+
+-- one more is cut, in step 515
+count_is_cut : sent_in 515 (count_to 258) ≡ Some ([] ∷ [], 1)
+unfolding sent_in count_to one_port
+count_is_cut = refl
+
+count_is_not_cut_before : sent_in 514 (count_to 258) ≡ None
+unfolding sent_in count_to one_port
+count_is_not_cut_before = refl

@@ -1,6 +1,8 @@
 pub mod Agreement
 pub mod Available
 pub mod Begin
+pub mod Budget
+pub mod BudgetLaws
 pub mod Bytes
 pub mod CountSteps
 pub mod CountTurns
@@ -12,7 +14,6 @@ pub mod Few
 pub mod Filling
 pub mod Fresh
 pub mod Kept
-pub mod Later
 pub mod LongestPrefix
 pub mod NodeRuns
 pub mod Numbers
@@ -29,8 +30,10 @@ pub mod Sanity
 pub mod Sound
 pub mod SoundClone
 pub mod SoundEdits
+pub mod SoundGroups
 pub mod SoundMoves
 pub mod SoundNumbers
+pub mod Sharing
 pub mod Soundness
 pub mod StoreCalls
 pub mod WholeRuns

@@ -5,12 +5,13 @@ use Rattle.dp_model.specs.declared.instr.Instr.{Instr}
 use Rattle.dp_model.specs.declared.instr.Instr.TheVariants.{Alloc, Free, Clone, Prepend, Adj, Append, Trim, Chain, IfHead, IfTail, IfLen, IfLast, Load, Store, LoadX, StoreX, Set, Mov, Add, Sub, And, Or, Xor, Shl, Shr, Jmp, Jeq, Jlt, Lookup, Tx, Enq, Exit}
 use Rattle.dp_model.specs.Buffers.{Number, same_number}
 use Rattle.dp_model.specs.Packets.{Segment, Packet, headroom, tailroom, first_len, last_len, AreFresh, AreOwned, allocated, cloned, at_front, at_end, more_before, less_before, more_behind, less_behind}
-use Rattle.dp_model.specs.Machine.{Setting, State, live, Move, Acts, Holds, IsEmpty, goes_on, moves_to, is_denied, with_packet, without_packet, with_ring, with_outbox}
+use Rattle.dp_model.specs.Machine.{Setting, State, live, segments_held, Step, with_step, with_cut, without_packets, Move, Acts, Holds, IsEmpty, goes_on, moves_to, is_denied, with_packet, without_packet, with_ring, with_outbox}
 use Rattle.dp_model.proofs.Refs.{refs_held}
 use Rattle.dp_model.proofs.Kept.{live_parts}
 use Rattle.dp_model.proofs.Counts.{tally, tally_live, tally_live_set, tally_to_ring, tally_to_outbox, tally_chain, tally_front, tally_end}
 use Rattle.dp_model.proofs.Owned.{has_mbuf, is_indirect_at, AreFewer, fewer_owned, AreMore, more_owned, allocated_direct, direct_comes, clone_comes}
 use Rattle.dp_model.proofs.Sound.{matched}
+use Rattle.dp_model.proofs.Budget.{budget_keeps}
 use Rattle.dp_model.proofs.SoundClone.{refs_cloned}
 
 abbrev pub HasOwners : Setting → State → Type 0
@@ -149,3 +150,15 @@ acts_owned c label s (Jmp l) m owned (after, e, is) = by c m _ is owned
 acts_owned c label s (Jeq r x l) m owned (after, e, is) = by c m _ is owned
 acts_owned c label s (Jlt r n l) m owned (after, e, is) = by c m _ is owned
 acts_owned c label s (Lookup r table x l) m owned (after, e, is) = by c m _ is owned
+
+-- the packets that a cut run held are gone
+owned_cut : (c : Setting) (s : State) → HasOwners c s → HasOwners c (without_packets (with_cut s))
+owned_cut c s owned =
+    let t = without_packets (with_cut s) in
+    let none : (test : Segment → Bool) → tally test (segments_held t.packets) ≡ 0 = λ test. refl in
+    fewer_owned c.env.pools (live s) (live t) (fewer_by (live s) (live t) (λ test. omega (arith, none test, tally_live test s, tally_live test t))) owned
+
+pub step_owned : (c : Setting) (program : List Instr) (label : ℕ) (s : State) (m : Move) → HasOwners c s → Step c program label s m → HasOwners c m.state
+step_owned c program label s m owned st =
+    let here = acts_owned c label (with_step s) st.instr st.effect owned st.acts in
+    subst (λ m. HasOwners c m.state) (sym st.is) (budget_keeps (λ m. HasOwners c m.state) label st.effect here here (owned_cut c st.effect.state here))

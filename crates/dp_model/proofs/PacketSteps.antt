@@ -9,12 +9,13 @@ use Rattle.dp_model.specs.declared.instr.Instr.{Instr}
 use Rattle.dp_model.specs.declared.instr.Instr.TheVariants.{Alloc, Free, Clone, Prepend, Adj, Append, Trim, Chain, IfHead, IfTail, IfLen, IfLast, Load, Store, LoadX, StoreX, Set, Mov, Add, Sub, And, Or, Xor, Shl, Shr, Jmp, Jeq, Jlt, Lookup, Tx, Enq, Exit}
 use Rattle.dp_model.specs.Buffers.{Number}
 use Rattle.dp_model.specs.Packets.{Segment, Packet, headroom, tailroom, first_len, last_len, allocated, cloned, at_front, at_end, more_before, less_before, more_behind, less_behind}
-use Rattle.dp_model.specs.Machine.{Setting, State, Next, At, Ended, Move, Acts, Holds, goes_on, moves_to, is_denied, with_packet, without_packet, with_ring, with_outbox, with_step}
+use Rattle.dp_model.specs.Machine.{Setting, State, Next, At, Ended, Move, Acts, Holds, goes_on, moves_to, is_denied, with_packet, without_packet, with_ring, with_outbox, with_step, Step}
 use Rattle.dp_model.specs.Runs.{Then, Goes}
 use Rattle.dp_model.specs.Safety.{IsPacket, IsPacketOrNone, ArePackets}
 use Rattle.dp_model.proofs.Sound.{matched}
 use Rattle.dp_model.proofs.SoundClone.{length_cloned}
 use Rattle.dp_model.proofs.Within.{all_join}
+use Rattle.dp_model.proofs.Budget.{budget_keeps}
 
 -- ---- lists
 
@@ -138,12 +139,20 @@ acts_packets c label s (Jeq r x l) m are (after, e, is) = plain s _ m are (ap at
 acts_packets c label s (Jlt r n l) m are (after, e, is) = plain s _ m are (ap at_state is) refl refl refl
 acts_packets c label s (Lookup r table x l) m are (after, e, is) = plain s _ m are (ap at_state is) refl refl refl
 
+pub step_packets : (c : Setting) (program : List Instr) (label : ℕ) (s : State) (m : Move) → ArePackets s → Step c program label s m → ArePackets m.state
+step_packets c program label s m are st =
+    let here = acts_packets c label (with_step s) st.instr st.effect (same_packets s (with_step s) refl refl refl are) st.acts in
+    subst (λ m. ArePackets m.state) (sym st.is)
+    (budget_keeps (λ m. ArePackets m.state) label st.effect here
+    (record { held = here.held; rings = here.rings; outboxes = here.outboxes })
+    (record { held = (tt, (tt, (tt, (tt, (tt, (tt, (tt, (tt, tt)))))))); rings = here.rings; outboxes = here.outboxes }))
+
 -- ---- a run
 
 pub goes_packets : (c : Setting) (program : List Instr) (n label : ℕ) (s : State) (told : List Bool) (next : Next) (s' : State) → ArePackets s → Goes c program n label s told next s' → ArePackets s'
 goes_packets c program zero label s told next s' are (_, _, is) = subst ArePackets (sym is) are
 goes_packets c program (suc n) label s told next s' are (m, later, st, is_told, rest) =
-    go m.next rest (acts_packets c label (with_step s) st.instr m (same_packets s (with_step s) refl refl refl are) st.acts) (λ l. goes_packets c program n l m.state later next s')
+    go m.next rest (step_packets c program label s m are st) (λ l. goes_packets c program n l m.state later next s')
   where
     go : (x : Next) → Then x (λ l. Goes c program n l m.state later next s') ((next ≡ Ended) × (n ≡ 0) × (later ≡ []) × (s' ≡ m.state)) → ArePackets m.state → ((l : ℕ) → ArePackets m.state → Goes c program n l m.state later next s' → ArePackets s') → ArePackets s'
     go (At l) rest here on = on l here rest

@@ -1,58 +1,28 @@
--- Node runs of accepted programs: they keep the world well formed, take at most as many steps as the program has
--- instructions, and can end.
-use Rattle.std.proofs.Common.{◌≡◌, ℕ, zero, suc, ◌+◌, ◌≤◌, Bool, List, [], ◌++◌, length, refl, sym, ap, subst, arith}
+-- Node runs of accepted programs: they keep the world well formed, take few steps, and can end.
+use Rattle.std.proofs.Common.{◌≡◌, ℕ, zero, suc, ◌+◌, ◌*◌, ◌≤◌, Bool, List, [], ◌++◌, length, refl, sym, ap, subst, arith}
 use Rattle.dp_model.specs.declared.instr.Instr.{Instr}
 use Rattle.dp_model.specs.Packets.{Packet, AreOwned}
-use Rattle.dp_model.specs.Rules.{Question, IsAccepted}
-use Rattle.dp_model.specs.Machine.{Setting, World, State, live, segments_held, segments_listed, Next, At, Ended, Move, Step, with_step}
+use Rattle.dp_model.specs.Rules.{Question, IsCertified}
+use Rattle.dp_model.specs.Machine.{Setting, World, State, live, segments_held, segments_listed, Next, At, Ended, Move, Step}
 use Rattle.dp_model.specs.Runs.{Then, Goes, first_state, between}
 use Rattle.dp_model.specs.Safety.{ArePackets, BeginsWell, IsSafeRun}
 use Rattle.dp_model.proofs.Soundness.{step_safe}
-use Rattle.dp_model.proofs.Later.{IsLater, acts_lead}
+use Rattle.dp_model.proofs.Budget.{step_within, step_place}
+use Rattle.dp_model.proofs.CountSteps.{IsCloser, step_closer, room_left, goes_short}
 use Rattle.dp_model.proofs.NodeRuns.{Reached, goes_known, begins_known, accepted_is_sound}
-use Rattle.dp_model.proofs.OwnedSteps.{HasOwners, acts_owned}
+use Rattle.dp_model.proofs.OwnedSteps.{HasOwners, step_owned}
 use Rattle.dp_model.proofs.PacketSteps.{goes_packets}
-use Rattle.dp_model.proofs.Within.{acts_within}
 
 -- ---- ownership along a run, of any program
 
 pub goes_owned : (c : Setting) (program : List Instr) (n label : ℕ) (s : State) (told : List Bool) (next : Next) (s' : State) → HasOwners c s → Goes c program n label s told next s' → HasOwners c s'
 goes_owned c program zero label s told next s' owned (_, _, is) = subst (HasOwners c) (sym is) owned
 goes_owned c program (suc n) label s told next s' owned (m, later, st, is_told, rest) =
-    go m.next rest (acts_owned c label (with_step s) st.instr m owned st.acts) (λ l. goes_owned c program n l m.state later next s')
+    go m.next rest (step_owned c program label s m owned st) (λ l. goes_owned c program n l m.state later next s')
   where
     go : (x : Next) → Then x (λ l. Goes c program n l m.state later next s') ((next ≡ Ended) × (n ≡ 0) × (later ≡ []) × (s' ≡ m.state)) → HasOwners c m.state → ((l : ℕ) → HasOwners c m.state → Goes c program n l m.state later next s' → HasOwners c s') → HasOwners c s'
     go (At l) rest here on = on l here rest
     go Ended (_, _, _, is) here on = subst (HasOwners c) (sym is) here
-
--- ---- one step of an accepted program
-
--- there is a step, and each step leads to a later label where all is known again
-record Steps (c : Setting) (q : Question) (label : ℕ) (s : State) : Type 0 where
-  has_step : (m : Move) × Step c q.program label s m
-  later : (m : Move) → Step c q.program label s m → IsLater label m.next
-  reached : (m : Move) → Step c q.program label s m → Reached c q m.next m.state
-
-steps : (c : Setting) (q : Question) → c.env ≡ q.env → IsAccepted q → (label : ℕ) (s : State) → Reached c q (At label) s → Steps c q label s
-steps c q env accepted label s ((row, er, known), within, place) =
-    let safe = step_safe c q label row s env accepted place er known within in
-    record {
-      has_step = safe.has_step;
-      later = λ m st. (acts_lead c q label row s env accepted er known within st.instr m st.here st.acts).1;
-      reached = λ m st. (safe.stays m st, acts_within c label (with_step s) st.instr m within st.acts, st.place);
-    }
-
--- ---- as many steps as instructions at most
-
-pub goes_short : (c : Setting) (q : Question) → c.env ≡ q.env → IsAccepted q → (n label : ℕ) (s : State) (told : List Bool) (next : Next) (s' : State) → Reached c q (At label) s → Goes c q.program n label s told next s' → n + label ≤ length q.program
-goes_short c q env accepted zero label s told next s' reached goes = omega (arith, reached.2)
-goes_short c q env accepted (suc n) label s told next s' reached (m, later, st, is_told, rest) =
-    let step = steps c q env accepted label s reached in
-    go m.next (step.later m st) (step.reached m st) rest (λ l there. goes_short c q env accepted n l m.state later next s' there)
-  where
-    go : (x : Next) → IsLater label x → Reached c q x m.state → Then x (λ l. Goes c q.program n l m.state later next s') ((next ≡ Ended) × (n ≡ 0) × (later ≡ []) × (s' ≡ m.state)) → ((l : ℕ) → Reached c q (At l) m.state → Goes c q.program n l m.state later next s' → n + l ≤ length q.program) → suc n + label ≤ length q.program
-    go (At l) behind there rest on = omega (arith, behind, on l there rest)
-    go Ended behind there (_, none, _, _) on = omega (arith, none, reached.2)
 
 -- ---- a run can end
 
@@ -66,18 +36,19 @@ then_at x l go over e h = subst (λ y. Then y go over) (sym e) h
 then_over : (x : Next) (go : ℕ → Type 0) (over : Type 0) → x ≡ Ended → over → Then x go over
 then_over x go over e h = subst (λ y. Then y go over) (sym e) h
 
-pub run_ends : (c : Setting) (q : Question) → c.env ≡ q.env → IsAccepted q → (left label : ℕ) (s : State) → length q.program ≤ left + label → Reached c q (At label) s → CanEnd c q.program label s
-run_ends c q env accepted zero label s few reached = absurd (omega (arith, few, reached.2))
-run_ends c q env accepted (suc left) label s few reached =
-    let step = steps c q env accepted label s reached in
-    let (m, st) = step.has_step in
-    go m st m.next refl (step.later m st) (step.reached m st) (λ l more there. run_ends c q env accepted left l m.state more there)
+-- each step leads further, and there is only so far to go
+pub run_ends : (c : Setting) (q : Question) → c.env ≡ q.env → IsCertified q → (left label : ℕ) (s : State) → 257 * length q.program ≤ left + (label + s.jumps * length q.program) → s.jumps ≤ 256 → Reached c q (At label) s → CanEnd c q.program label s
+run_ends c q env accepted zero label s few within reached = absurd (omega (arith, few, room_left q.program label s.jumps reached.2 within))
+run_ends c q env accepted (suc left) label s few within ((row, er, known), inside, place) =
+    let safe = step_safe c q label row s env accepted place er known inside in
+    let (m, st) = safe.has_step in
+    go m st m.next refl (step_closer c q.program label s m place within st) (safe.stays m st, step_within c q.program label s m inside st, step_place c q.program label s m st) (λ l more room there. run_ends c q env accepted left l m.state more room there)
   where
-    go : (m : Move) → Step c q.program label s m → (x : Next) → m.next ≡ x → IsLater label x → Reached c q x m.state → ((l : ℕ) → length q.program ≤ left + l → Reached c q (At l) m.state → CanEnd c q.program l m.state) → CanEnd c q.program label s
-    go m st (At l) e behind there on =
-        let (n, told, s', goes) = on l (omega (arith, few, behind)) there in
+    go : (m : Move) → Step c q.program label s m → (x : Next) → m.next ≡ x → IsCloser q.program label s.jumps x m.state.jumps → Reached c q x m.state → ((l : ℕ) → 257 * length q.program ≤ left + (l + m.state.jumps * length q.program) → m.state.jumps ≤ 256 → Reached c q (At l) m.state → CanEnd c q.program l m.state) → CanEnd c q.program label s
+    go m st (At l) e (_, room, further) there on =
+        let (n, told, s', goes) = on l (omega (arith, few, further)) room there in
         (suc n, m.told ++ told, s', (m, told, st, refl, then_at m.next l _ _ e goes))
-    go m st Ended e behind there on = (1, m.told ++ [], m.state, (m, [], st, refl, then_over m.next _ _ e (refl, refl, refl, refl)))
+    go m st Ended e closer there on = (1, m.told ++ [], m.state, (m, [], st, refl, then_over m.next _ _ e (refl, refl, refl, refl)))
 
 -- ---- a node run
 
@@ -89,7 +60,7 @@ ended_owned c s none owned =
 ended_packets : (s : State) → ArePackets s → ArePackets (between s.world)
 ended_packets s are = record { held = tt; rings = are.rings; outboxes = are.outboxes }
 
-pub accepted_is_safe : (c : Setting) (q : Question) (k : Packet) (number : ℕ) (w : World) → IsAccepted q → BeginsWell c q k number w → IsSafeRun c q k number w
+pub accepted_is_safe : (c : Setting) (q : Question) (k : Packet) (number : ℕ) (w : World) → IsCertified q → BeginsWell c q k number w → IsSafeRun c q k number w
 accepted_is_safe c q k number w accepted well =
     let begins = well.begins in
     let start = begins_known c q k number w accepted begins in
@@ -106,8 +77,8 @@ accepted_is_safe c q k number w accepted well =
         packets = goes_packets c q.program n 0 (first_state k number w) told (At label) s well.packets goes;
         has_step = sound.never_stuck n label told s goes;
       };
-      short = λ n told next s goes. omega (arith, goes_short c q begins.env accepted n 0 (first_state k number w) told next s start goes);
-      ends = let (n, told, s, goes) = run_ends c q begins.env accepted (length q.program) 0 (first_state k number w) (omega arith) start in (told, s.world, (n, s, goes, refl));
+      short = λ n told next s goes. omega (arith, goes_short c q.program n 0 (first_state k number w) told next s start.2 (omega arith) goes);
+      ends = let (n, told, s, goes) = run_ends c q begins.env accepted (257 * length q.program) 0 (first_state k number w) (omega arith) (omega arith) start in (told, s.world, (n, s, goes, refl));
       rests = λ told w' (n, s, goes, is). record {
         ready = sound.ends told w' (n, s, goes, is);
         packets = subst (λ x. ArePackets (between x)) (sym is) (ended_packets s (goes_packets c q.program n 0 (first_state k number w) told Ended s well.packets goes));

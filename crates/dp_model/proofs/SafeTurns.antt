@@ -1,12 +1,14 @@
 -- Turns of a pipeline: every node run of a turn is safe, there is a turn for each record, and the next one can follow.
 use Rattle.std.proofs.Common.{◌≡◌, ℕ, zero, suc, ◌+◌, ◌<◌, ◌≤◌, Bool, true, false, List, [], ◌∷◌, ◌++◌, length, Option, Some, None, refl, sym, ◌∙◌, ap, subst, arith, inl, inr}
-use Rattle.std.specs.Prelude.{slice_get, slice_set, flat_map, option_map, nat_lt, if◌then◌else◌, MatchOption}
+use Rattle.std.specs.Prelude.{IsTrue, slice_get, slice_set, flat_map, option_map, nat_lt, if◌then◌else◌, MatchOption}
 use Rattle.std.specs.List.{AllByRecursion}
 use Rattle.std.proofs.lemmas.Bool.{ltb-true, ltb-false, lt-ltb, le-ltb}
 use Rattle.std.proofs.lemmas.Option.{same_Some, slice_get_within}
 use Rattle.dp_model.specs.declared.env.Entry.{Entry}
 use Rattle.dp_model.specs.declared.env.Entry.TheVariants.{Port, Ring}
 use Rattle.dp_model.specs.declared.env.PortSpec.{PortSpec}
+use Rattle.dp_model.specs.declared.env.RingSpec.{RingSpec}
+use Rattle.dp_model.specs.Rows.{is_well_formed_fact}
 use Rattle.dp_model.specs.declared.instr.Instr.{Instr}
 use Rattle.dp_model.specs.Environments.{room_at, fault_of}
 use Rattle.dp_model.specs.Buffers.{Number, Buffers}
@@ -68,9 +70,9 @@ record_begins c q port spec bytes w numbers buffers env entry is_spec room limit
     }
 
 -- on a packet of a ring
-pub waiting_begins : (c : Setting) (q : Question) (next : Waiting) (w : World) → c.env ≡ q.env → q.entry ≡ Ring next.ring → first_waiting w.rings ≡ Some next → IsAtRest c w → BeginsWell c q next.packet next.ring (record w { rings = next.rings })
-waiting_begins c q next w env entry e rest = record {
-  begins = ring_begins c q next w env entry e rest.ready;
+pub waiting_begins : (c : Setting) (q : Question) (next : Waiting) (w : World) → ((spec : RingSpec) → slice_get c.env.rings next.ring ≡ Some spec → IsTrue (is_well_formed_fact spec.fact)) → c.env ≡ q.env → q.entry ≡ Ring next.ring → first_waiting w.rings ≡ Some next → IsAtRest c w → BeginsWell c q next.packet next.ring (record w { rings = next.rings })
+waiting_begins c q next w facts env entry e rest = record {
+  begins = ring_begins c q next w facts env entry e rest.ready;
   packets = let (is, are) = popped_packets w next e rest.packets in first_packets next.packet next.ring (record w { rings = next.rings }) is are;
   owned = let (packets, there, are) = waits w.rings next e in
       fewer_owned c.env.pools (live (between w)) (live (first_state next.packet next.ring (record w { rings = next.rings })))
@@ -152,7 +154,7 @@ pub waiting_safe : (c : Setting) (nodes : Nodes) (next : Waiting) (program : Lis
 waiting_safe c nodes next program w checked rest e is_program =
     let node = checked.checked.rings next.ring program is_program in
     safe_beginning c (Ring next.ring) program next.packet next.ring (record w { rings = next.rings }) node
-    (waiting_begins c node.question next w (sym node.env_is) node.entry_is e rest)
+    (waiting_begins c node.question next w (checked.checked.facts next.ring) (sym node.env_is) node.entry_is e rest)
 
 pub served_rest : (c : Setting) (nodes : Nodes) (n : ℕ) (w w' : World) → IsPipeline c nodes → IsAtRest c w → HasServed c nodes.rings n w w' → IsAtRest c w'
 served_rest c nodes zero w w' checked rest is = subst (IsAtRest c) (sym is) rest

@@ -58,7 +58,7 @@ abbrev setting_of : List PoolSpec → Setting
 setting_of pools = record { env = record { pools = pools; tables = 0; rings = []; ports = [] }; tables = []; pattern = [] }
 
 abbrev state_of : Store → State
-state_of s = record { packets = s.slots; numbers = []; world = record { buffers = s.buffers; rings = []; outboxes = []; calls = 0; steps = 0 } }
+state_of s = record { packets = s.slots; numbers = []; jumps = 0; world = record { buffers = s.buffers; rings = []; outboxes = []; calls = 0; steps = 0; cuts = 0 } }
 
 live_of : (s : Store) → live (state_of s) ≡ segments_of s
 live_of s = append-nil (segments_held s.slots)

@@ -5,6 +5,8 @@ pub mod CopyMachine
 pub mod Environments
 pub mod Equality
 pub mod Facts
+pub mod Groups
+pub mod Jumps
 pub mod Laws
 pub mod Machine
 pub mod Meaning

@@ -10,10 +10,10 @@ use Rattle.dp_model.specs.Environments.{room_at, fault_of}
 use Rattle.dp_model.specs.Buffers.{Number, Buffers}
 use Rattle.dp_model.specs.Packets.{Packet, needed, received, Filled, AreFresh, AreOwned, IsWellFormed}
 use Rattle.dp_model.specs.Rows.{entry_row}
-use Rattle.dp_model.specs.Rules.{Question, IsAccepted}
+use Rattle.dp_model.specs.Rules.{Question, IsCertified}
 use Rattle.dp_model.specs.Machine.{Setting, World, State, live, Next, At, Move, Step, is_denied}
 use Rattle.dp_model.specs.Meaning.{RowHolds, RingHolds}
-use Rattle.dp_model.specs.Runs.{Goes, first_state, NodeRun, NeverStuck, between, Outcome, Got, NoBuffer, Oversize, Arrives, Waiting, first_waiting, Nodes, Turn, Arrival, Run}
+use Rattle.dp_model.specs.Runs.{Goes, first_state, NodeRun, most_steps, NeverStuck, between, Outcome, Got, NoBuffer, Oversize, Arrives, Waiting, first_waiting, Nodes, Turn, Arrival, Run}
 use Rattle.dp_model.specs.Laws.{RowHoldsAt, Ready, Begins, AreChecked}
 
 -- ---- packets
@@ -62,8 +62,8 @@ pub record IsSafeRun (c : Setting) (q : Question) (k : Packet) (number : ℕ) (w
   pub begins : (row : Row) × (entry_row q.env q.entry ≡ Some row) × RowHolds c.env row (first_state k number w)
   -- wherever it comes, all is safe, so it is never stuck
   pub stays : (n label : ℕ) (told : List Bool) (s : State) → Goes c q.program n 0 (first_state k number w) told (At label) s → IsSafeAt c q label s
-  -- it takes at most as many steps as the program has instructions
-  pub short : (n : ℕ) (told : List Bool) (next : Next) (s : State) → Goes c q.program n 0 (first_state k number w) told next s → n ≤ length q.program
+  -- it takes few steps
+  pub short : (n : ℕ) (told : List Bool) (next : Next) (s : State) → Goes c q.program n 0 (first_state k number w) told next s → n ≤ most_steps q.program
   -- it can end
   pub ends : (told : List Bool) × (w' : World) × NodeRun c q.program k number w told w'
   -- and where it ends the next one can begin
@@ -134,7 +134,7 @@ IsOfTurn c nodes port bytes w b = IsOfRecord c nodes port bytes w b ⊎ IsOfRing
 -- a certificate is accepted with the program and the entry, and the node run is safe
 pub record IsSafeBeginning (c : Setting) (b : Beginning) : Type 0 where
   pub question : Question
-  pub accepted : IsAccepted question
+  pub accepted : IsCertified question
   pub env_is : question.env ≡ c.env
   pub program_is : question.program ≡ b.program
   pub entry_is : question.entry ≡ b.entry

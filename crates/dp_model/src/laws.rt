@@ -6,7 +6,7 @@ ghost use Rattle.dp_model.specs.Laws.{Begins, IsSound, Ready, AreChecked};
 ghost use Rattle.dp_model.specs.Machine.{Setting, World};
 ghost use Rattle.dp_model.specs.Meaning.{TablesFit};
 ghost use Rattle.dp_model.specs.Packets.{Packet};
-ghost use Rattle.dp_model.specs.Rules.{Question, IsAccepted};
+ghost use Rattle.dp_model.specs.Rules.{Question, IsCertified};
 ghost use Rattle.dp_model.specs.Runs.{Nodes, Outcome, Turn, Arrival};
 ghost use Rattle.dp_model.specs.Safety.{BeginsWell, IsSafeRun, IsAtRest, IsPipeline, AreShort, IsSafeTurn, CanArrive, AreSafe};
 ghost use Rattle.dp_model.specs.Starts.{IsStart};
@@ -14,19 +14,19 @@ ghost use Rattle.dp_model.specs.declared.env.PortSpec.{PortSpec};
 
 /// Accepted programs are never stuck, for every environment, program, certificate, entry, set of tables and pattern
 /// of refused calls. A node run begins in the row of its entry; wherever it comes, the row of the label holds, each
-/// packet in a ring meets what the ring declares, the world is well formed, and there is a step; it takes at most as
-/// many steps as its program has instructions, and can end. No node run of a turn is ever stuck, there is a turn for
-/// each record, the pattern and the free buffers decide its outcome, and its allocation calls are counted and few.
-/// The same holds of whole runs from the start on. A `T` is the time of a record.
+/// packet in a ring meets what the ring declares, the world is well formed, and there is a step; it takes at most 257
+/// times as many steps as its program has instructions, and can end, by its program or by a cut. No node run of a turn
+/// is ever stuck, there is a turn for each record, the pattern and the free buffers decide its outcome, and its
+/// allocation calls are counted and few. The same holds of whole runs from the start on. A `T` is the time of a record.
 pub fn accepted_programs_are_safe<T>()
     ensures node_runs { (c : Setting) (q : Question) (k : Packet) (number : ℕ) (w : World) →
-        IsAccepted q → BeginsWell c q k number w → IsSafeRun c q k number w }
+        IsCertified q → BeginsWell c q k number w → IsSafeRun c q k number w }
     ensures turns { (c : Setting) (nodes : Nodes) (port : ℕ) (spec : PortSpec) (bytes : List ℕ) (w : World) →
         IsPipeline c nodes → slice_get c.env.ports port ≡ Some spec → IsAtRest c w → AllByRecursion (λ x. x < 256) bytes →
         IsSafeTurn c nodes port spec bytes w }
     ensures calls { (c : Setting) (nodes : Nodes) (most port : ℕ) (bytes : List ℕ) (w w' : World) (outcome : Outcome) (runs : ℕ) (told : List Bool) →
         IsPipeline c nodes → AreShort most nodes.ports → AreShort most nodes.rings → IsAtRest c w →
-        Turn c nodes port bytes w outcome runs told w' → (w'.calls ≡ w.calls + length told) × (length told ≤ 1 + 33 * most) }
+        Turn c nodes port bytes w outcome runs told w' → (w'.calls ≡ w.calls + length told) × (length told ≤ 1 + 33 * (257 * most)) }
     ensures runs { (c : Setting) (nodes : Nodes) (arrivals : List (Arrival T)) (w : World) →
         TablesFit c → IsPipeline c nodes → IsStart c.env w → AllByRecursion (CanArrive c) arrivals →
         AreSafe c nodes arrivals w }
@@ -36,7 +36,7 @@ pub fn accepted_programs_are_safe<T>()
 /// comes, and at the end each packet in a ring has what the ring declares.
 pub fn accepted_programs_are_sound()
     ensures { (c : Setting) (q : Question) (k : Packet) (number : ℕ) (w : World) →
-        IsAccepted q → Begins c q k number w → IsSound c q k number w }
+        IsCertified q → Begins c q k number w → IsSound c q k number w }
 {}
 
 /// A turn of checked nodes leaves the world ready for the next, whatever its outcome.

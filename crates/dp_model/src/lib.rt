@@ -21,6 +21,6 @@ pub use registers::{NumberRegister, Operand, PacketRegister, Width};
 pub use row::{Fact, Row};
 pub use rule::Rule;
 pub use words::{
-    layers_stay_well_formed, longest_prefixes_agree, numbers_are_as_called, runs_are_as_they_read,
-    worlds_stay_well_formed,
+    budgets_are_as_they_read, layers_stay_well_formed, longest_prefixes_agree,
+    numbers_are_as_called, runs_are_as_they_read, worlds_stay_well_formed,
 };

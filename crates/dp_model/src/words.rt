@@ -1,15 +1,16 @@
 // What is proved of the definitions themselves, as contracts of functions that do nothing.
 
-ghost use Rattle.std.specs.Prelude.{◌≡◌, ◌≢◌, ◌↔◌, ℕ, ◌+◌, ◌%◌, ◌^◌, ◌<◌, ◌≤◌, Bool, true, List, [], ◌∷◌, length, Option, Some, None, slice_index_or};
+ghost use Rattle.std.specs.Prelude.{◌≡◌, ◌≢◌, ◌↔◌, ◌⊎◌, ℕ, ◌+◌, ◌*◌, ◌%◌, ◌^◌, ◌<◌, ◌≤◌, Bool, true, List, [], ◌∷◌, length, Option, Some, None, slice_index_or};
 ghost use Rattle.dp_model.specs.Arithmetic.{all_ones, big_endian, spelled};
 ghost use Rattle.dp_model.specs.Buffers.{Number, Buffers, bytes_of};
 ghost use Rattle.dp_model.specs.Environments.{Environment, room_at, fault_of};
-ghost use Rattle.dp_model.specs.Machine.{Setting, State, World, Move, Step, live};
+ghost use Rattle.dp_model.specs.Machine.{Setting, State, World, At, Move, Acts, Step, live, without_packet, without_packets};
+ghost use Rattle.dp_model.specs.Jumps.{label_of};
 ghost use Rattle.dp_model.specs.Meaning.{TablesFit};
 ghost use Rattle.dp_model.specs.Packets.{Segment, Packet, refs, headroom, tailroom, first_len, last_len, IsHeadSole, IsTailSole, AreOwned, IsWellFormed, at_front, at_end, more_before, less_before, more_behind, less_behind, zeroed_before, zeroed_behind, stored, loaded};
 ghost use Rattle.dp_model.specs.Prefixes.{Route, IsTable, LooksUp, hop_for};
-ghost use Rattle.dp_model.specs.Runs.{NodeRun, Receives, Serves, Nodes, with_empty_outboxes, of_port, interleaved};
-ghost use Rattle.dp_model.specs.Safety.{ArePackets, IsAtRest, Beginning, IsOfRecord, IsServed};
+ghost use Rattle.dp_model.specs.Runs.{Goes, first_state, NodeRun, most_steps, TookAtMost, Receives, Serves, Nodes, Outcome, Turn, with_empty_outboxes, of_port, interleaved};
+ghost use Rattle.dp_model.specs.Safety.{ArePackets, IsAtRest, Beginning, IsOfRecord, IsServed, AreShort};
 ghost use Rattle.dp_model.specs.Starts.{IsStart};
 ghost use Rattle.dp_model.specs.Stores.{Store, segments_of, Has, with_slot, Becomes, unwritten, Allocates, ReceivesInto, Clones, Chains, IsWellFormedStore};
 ghost use Rattle.dp_model.specs.declared.instr.Instr.{Instr};
@@ -77,4 +78,22 @@ pub fn runs_are_as_they_read<T>()
     ensures receives { (c : Setting) (nodes : Nodes) (port : ℕ) (bytes : List ℕ) (w w' : World) (b : Beginning) (told : List Bool) →
         (r : IsOfRecord c nodes port bytes w b) → NodeRun c b.program b.packet b.number b.world told w' →
         Receives c r.program port r.spec bytes w (true ∷ told) w' }
+{}
+
+/// The budget of backward jumps is as it reads, for every program, accepted or not. What comes after an instruction is
+/// the next label, or the label that it names: so only a jump that is taken leads backward. What a cut frees is freed
+/// register by register, p0 first. A node run takes at most 256 backward jumps, and at most 257 times as many steps as
+/// its program has instructions; only its last step may cut it. A turn's node runs are at most 33.
+pub fn budgets_are_as_they_read()
+    ensures jumps { (c : Setting) (label to : ℕ) (s : State) (i : Instr) (m : Move) → Acts c label s i m → m.next ≡ At to →
+        (to ≡ label + 1) ⊎ (label_of i ≡ Some to) }
+    ensures order { (s : State) → length s.packets ≡ 8 →
+        without_packets s ≡ without_packet 7 (without_packet 6 (without_packet 5 (without_packet 4 (without_packet 3 (without_packet 2 (without_packet 1 (without_packet 0 s))))))) }
+    ensures taken { (c : Setting) (program : List Instr) (k : Packet) (number n label : ℕ) (w : World) (told : List Bool) (s : State) →
+        Goes c program n 0 (first_state k number w) told (At label) s → (s.jumps ≤ 256) × (s.world.steps ≡ w.steps + n) × (s.world.cuts ≡ w.cuts) }
+    ensures node_runs { (c : Setting) (program : List Instr) (k : Packet) (number : ℕ) (w w' : World) (told : List Bool) →
+        NodeRun c program k number w told w' → TookAtMost w w' (most_steps program) 1 }
+    ensures turns { (c : Setting) (nodes : Nodes) (port : ℕ) (bytes : List ℕ) (w w' : World) (outcome : Outcome) (runs : ℕ) (told : List Bool) (most : ℕ) →
+        AreShort most nodes.ports → AreShort most nodes.rings → Turn c nodes port bytes w outcome runs told w' →
+        (runs ≤ 33) × TookAtMost w w' (runs * (257 * most)) runs }
 {}

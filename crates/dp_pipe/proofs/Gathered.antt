@@ -1,6 +1,6 @@
 -- What is loaded, and why it is not, from the parts that were read.
 use Rattle.std.proofs.Common.{◌≡◌, ℕ, suc, ◌+◌, ◌≤◌, ◌⊎◌, inl, inr, List, [], ◌∷◌, ◌++◌, length, take, drop, Option, None, Some, sym, subst, arith, length-append}
-use Rattle.std.specs.Prelude.{slice_get}
+use Rattle.std.specs.Prelude.{slice_get, Result, Ok, Err, IfOk}
 use Rattle.std.proofs.lemmas.List.{take_all}
 use Rattle.dp_model.specs.declared.instr.Instr.{Instr}
 use Rattle.dp_model.specs.declared.env.Entry.{Entry}
@@ -69,6 +69,13 @@ inferred_loaded known env node program q reads is e n p checked most = record {
   program = subst (λ (x : List Instr). IsProgramOf known node.program x) (sym p) reads;
   cert = subst (λ (c : Option (List ℕ)). HasCert known c q) is (most_of program env node.entry q e n p most);
 }
+
+pub all_loaded : (known : Option FileMap) (env : Environment) (node : Node) (program : List Instr) (result : Result Question PipeError)
+    → IsProgramOf known node.program program → None ≡ node.cert
+    → IfOk result (λ q. q.env ≡ env) → IfOk result (λ q. q.entry ≡ node.entry) → IfOk result (λ q. q.program ≡ program) → IfOk result IsChecked → IfOk result (λ q. SaysMost program env node.entry q.rows)
+    → IfOk result (IsLoaded known env node)
+all_loaded known env node program (Ok q) reads is e n p checked most = inferred_loaded known env node program q reads is e n p checked most
+all_loaded known env node program (Err fault) reads is e n p checked most = tt
 
 pub inferred_fails : (known : Option FileMap) (env : Environment) (node : Node) (program : List Instr) (e : PipeError)
     → IsProgramOf known node.program program → None ≡ node.cert → (e ≡ Memory) ⊎ IsWithoutCert env node.entry program e → Fails known env node e

@@ -10,9 +10,11 @@ use Rattle.dp_model.specs.Rules.{Question}
 use Rattle.dp_lang.specs.declared.cause.Fault.{Fault as AsmFault}
 use Rattle.dp_lang.specs.Reading.{Reads, program_of}
 use Rattle.dp_cert.specs.declared.error.Fault.{Fault as CertFault}
+use Rattle.dp_cert.specs.declared.cert.Version.{Version}
 use Rattle.dp_cert.specs.Spelling.{CertText}
 use Rattle.dp_cert.specs.Reading.{cert_of}
 use Rattle.dp_check.specs.Faults.{question, IsChecked, IsRefusedWith}
+use Rattle.dp_model.specs.Jumps.{IsForward}
 use Rattle.dp_infer.specs.Inference.{Certifies, SaysMost}
 use Rattle.dp_pipe.specs.declared.nodes.How.{How}
 use Rattle.dp_pipe.specs.declared.nodes.How.TheVariants.{Given, Inferred}
@@ -54,13 +56,15 @@ pub record IsProgramOf (known : Option FileMap) (name : List ℕ) (program : Lis
   pub file : IsFile known name text
   pub reads : Reads text program
 
--- the file spells the rows, so many
+-- the file spells a certificate of some version with the rows, so many
 pub record IsCertOf (known : Option FileMap) (name : List ℕ) (n : ℕ) (rows : List Row) : Type 0 where
   pub text : List ℕ
+  pub version : Version
   pub file : IsFile known name text
-  pub spelled : CertText n text rows
+  pub spelled : CertText n text (record { version = version; rows = rows })
 
--- the certificate is the one that its file spells, where one is read, and else no other says more
+-- the certificate is the one that its file spells, where one is read, and else no other says more, if the program is
+-- forward
 abbrev pub HasCert : Option FileMap → Option (List ℕ) → Question → Type 0
 HasCert known None q = SaysMost q.program q.env q.entry q.rows
 HasCert known (Some name) q = IsCertOf known name (length q.program) q.rows
@@ -105,12 +109,12 @@ pub record IsRefusedBy (known : Option FileMap) (env : Environment) (entry : Ent
   pub cert : IsCertOf known name (length program) rows
   pub refused : IsRefusedWith (question program rows env entry) label rule
 
--- the program is accepted with no certificate
+-- no certificate is found; if the program is forward, it is accepted with none
 pub record IsWithoutCert (env : Environment) (entry : Entry) (program : List Instr) (e : PipeError) : Type 0 where
   pub label : ℕ
   pub rule : ℕ
   pub is : e ≡ errors.NotInferred entry label rule
-  pub none : (rows : List Row) → ¬ Certifies program env entry rows
+  pub none : IsForward program → (rows : List Row) → ¬ Certifies program env entry rows
 
 -- why there is no program: its file, or its text
 abbrev pub HasNoProgram : Option FileMap → Entry → List ℕ → PipeError → Type 0

@@ -82,7 +82,7 @@ fn cert_of<F: Files>(
     name: &str,
     n: usize,
 ) -> Result<Cert, PipeError>
-    ensures read { IfOk result (IsCertOf (F.known files.old) name.now n) }
+    ensures read { IfOk result (λ cert. IsCertOf (F.known files.old) name.now n cert.rows) }
     ensures fails { IfErr result (λ e. (e ≡ PipeError.Memory) ⊎ IsMissing (F.known files.old) node name.now e
         ⊎ IsBadCert (F.known files.old) node name.now n e) }
     ensures stays { F.known files.new ≡ F.known files.old }
@@ -166,8 +166,8 @@ fn cert_read(how: How, names: &NodeNames) -> Option<&str>
 ///
 /// In this order: [`PipeError::File`] where the program file cannot be fetched or is longer than 1,048,576 bytes, and
 /// [`PipeError::Asm`]; where a certificate is named, and not all are inferred, [`PipeError::File`] for its file,
-/// [`PipeError::BadCert`] and [`PipeError::Refused`]; else [`PipeError::NotInferred`], exactly where the program is accepted
-/// with no certificate. [`PipeError::Memory`] may come at any time.
+/// [`PipeError::BadCert`] and [`PipeError::Refused`]; else [`PipeError::NotInferred`], for a forward program exactly where it
+/// is accepted with no certificate. [`PipeError::Memory`] may come at any time.
 pub(crate) fn load_node<F: Files>(
     alloc: Global,
     files: &mut F,

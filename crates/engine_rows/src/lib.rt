@@ -6,6 +6,8 @@ mod forms;
 #[cfg(test)]
 mod given;
 #[cfg(test)]
+mod loops;
+#[cfg(test)]
 mod refusals;
 #[cfg(test)]
 mod runs;

@@ -106,7 +106,6 @@ fn small_words_have_numbers(rt: HostRuntime) {
     }
     assert_eq!(rt; Rule::J1.number(), 1);
     assert_eq!(rt; Rule::J7.number(), 7);
-    assert_eq!(rt; Rule::J12.number(), 12);
 }
 
 /// The row that is known at the next instruction after one in the first row of strip.

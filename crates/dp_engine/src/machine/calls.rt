@@ -1,5 +1,5 @@
 //! The calls on the packets of registers.
-ghost use Rattle.std.specs.Prelude.{◌≡◌, ◌≢◌, ℕ, ◌+◌, ◌^◌, ◌<◌, ◌≤◌, true, false, not, List, ◌++◌, length, slice_get, Some};
+ghost use Rattle.std.specs.Prelude.{◌≡◌, ◌≢◌, ℕ, ◌+◌, ◌^◌, ◌<◌, ◌≤◌, true, false, not, List, ◌++◌, length, slice_get, Some, option_map, is_some};
 ghost use Rattle.dp_model.specs.Arithmetic.{bytes_in};
 ghost use Rattle.dp_model.specs.Buffers.{Number, Buffers, ChangesOnly};
 ghost use Rattle.dp_model.specs.Packets.{Packet, AreFresh, allocated, cloned, headroom, tailroom, last_len, first_len, IsHeadSole, IsTailSole, at_front, at_end, more_before, more_behind, less_behind, zeroed_before, zeroed_behind, loaded, stored};
@@ -17,6 +17,13 @@ pub(super) fn handle_in(registers: &[Register; 8], p: PacketRegister) -> Handle
     ensures { slice_get registers.now p ≡ Some (Some result) }
 {
     Handle::of(registers[p.number() as usize].handle())
+}
+
+// Whether a register holds a packet.
+pub(super) fn is_held_in(registers: &[Register; 8], p: PacketRegister) -> bool
+    ensures { option_map is_some (slice_get registers.now p) ≡ Some result }
+{
+    registers[p.number() as usize].is_held()
 }
 
 impl<P: PacketLayer> Machine<P> {

@@ -1,5 +1,5 @@
 //! Packet registers.
-ghost use Rattle.std.specs.Prelude.{◌≡◌, ◌∷◌, Some, None, IsSome, replicate};
+ghost use Rattle.std.specs.Prelude.{◌≡◌, ◌∷◌, Some, None, IsSome, is_some, replicate};
 
 use std::marker::Model;
 
@@ -39,6 +39,13 @@ impl Register {
             handle,
             is_held: true,
         }
+    }
+
+    /// Whether it holds a packet.
+    pub(crate) fn is_held(&self) -> bool
+        ensures { result ≡ is_some self.now }
+    {
+        self.is_held
     }
 
     /// The handle of the packet that it holds.

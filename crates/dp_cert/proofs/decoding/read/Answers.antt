@@ -1,21 +1,20 @@
--- What is read, and why not.
-use Rattle.std.proofs.Common.{◌≡◌, Ok, subst}
-use Rattle.dp_cert.specs.Reading.{Gives, cert_of}
-use Rattle.dp_cert.proofs.Found.{is_found, are_well_formed}
-use Rattle.dp_cert.proofs.Again.{cert_again}
-use Rattle.dp_cert.proofs.Faulty.{is_fault}
+-- By the first line.
+use Rattle.std.proofs.Common.{◌≡◌, ◌-◌, ℕ, List, length, take, drop, arith, sym, ◌∙◌}
+use Rattle.std.proofs.lemmas.List.{take_all, length-drop}
+use Rattle.dp_cert.proofs.Heads.{no_version, all_of, error_of}
 use Rattle.dp_cert.proofs.decoding.read.Goals as goal
 
-pub returns-clause-well_formed : goal.returns-clause-well_formed
-returns-clause-well_formed c = are_well_formed c.args.n c.args.text.now c.cert_of.result c.cert_of.ensures
+pub returns-in_default : goal.returns-in_default
+returns-in_default c = no_version c.args.n c.args.text.now (sym c.version_in.ensures ∙ c.in_default.is)
 
-pub returns-clause-found : goal.returns-clause-found
-returns-clause-found c = is_found c.args.n c.args.text.now c.cert_of.result c.cert_of.ensures
+-- what stands behind the first line
+behind : (text : List ℕ) → take (length text - 11) (drop 11 text) ≡ drop 11 text
+behind text = take_all (length text - 11) (drop 11 text) (omega (arith, length-drop 11 text))
 
-pub returns-clause-only : goal.returns-clause-only
-returns-clause-only c = λ rows fits count text.
-    let e : cert_of c.args.n c.args.text.now ≡ Ok rows = rw (text, ← count) (cert_again rows fits) in
-    subst (λ f. Gives (λ v. v.items) c.cert_of.result f) e c.cert_of.ensures
+pub returns-in-Ok : goal.returns-in-Ok
+returns-in-Ok c =
+    all_of c.args.n c.args.text.now c.in-Some.version c.in-Ok.rows.items c.of_version.result (sym c.version_in.ensures ∙ c.in-Some.is)
+    (rw (behind c.args.text.now) at c.in-Ok.ensures.exact) c.of_version.ensures.rows c.of_version.ensures.version
 
-pub returns-clause-fault : goal.returns-clause-fault
-returns-clause-fault c = is_fault c.args.n c.args.text.now c.cert_of.result c.cert_of.ensures
+pub returns-in-Err : goal.returns-in-Err
+returns-in-Err c = error_of c.args.n c.args.text.now c.in-Some.version c.in-Err.error (sym c.version_in.ensures ∙ c.in-Some.is) (rw (behind c.args.text.now) at c.in-Err.ensures.exact)

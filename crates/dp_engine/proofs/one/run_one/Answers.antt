@@ -18,7 +18,7 @@ pub returns-clause-run : goal.returns-clause-run
 returns-clause-run g c =
     let s : IsPlainSetup c.args.checked.env = subst IsPlainSetup (sym c.requires.checked.0) c.requires.setup in
     let valid : fault_of c.args.checked.env ≡ None = subst (λ e. fault_of e ≡ None) (sym c.requires.checked.0) c.within_limits.ensures in
-    stopped c.args.env.now c.args.checked _ _ _ _ c.in-Err.cause _ (ran_is c.args.checked s c.in-Ok-open_plain.engine c.run_records-outcome.new.engine c.flush.new.self _ _ _ _ c.run_records-outcome.result (Err c.in-Err.cause) (Open) _ valid c.program-program.ensures.accepted c.requires.checked.1 c.in-Ok-open_plain.ensures c.run_records-outcome.ensures.run (c.in-Err.is) c.flush.ensures.empty c.report.ensures)
+    stopped c.args.env.now c.args.checked _ _ _ _ c.in-Err.cause _ (ran_is c.args.checked s c.in-Ok-open_plain.engine c.run_records-outcome.new.engine c.flush.new.self _ _ _ _ c.run_records-outcome.result (Err c.in-Err.cause) (Open) _ valid (record { accepted = c.program-program.ensures.accepted; well_formed = c.program-program.ensures.well_formed }) c.requires.checked.1 c.in-Ok-open_plain.ensures c.run_records-outcome.ensures.run (c.in-Err.is) c.flush.ensures.empty c.report.ensures)
 
 pub returns-clause-free : goal.returns-clause-free
 returns-clause-free g c =
@@ -30,7 +30,7 @@ returns-in-Ok-outcome-clause-run g c =
     let s : IsPlainSetup c.args.checked.env = subst IsPlainSetup (sym c.requires.checked.0) c.requires.setup in
     let valid : fault_of c.args.checked.env ≡ None = subst (λ e. fault_of e ≡ None) (sym c.requires.checked.0) c.within_limits.ensures in
     let reports = subst (λ state. IsReport c.flush.new.self state c.report_with.result) c.state_of.ensures c.report_with.ensures in
-    (c.in-Ok-outcome.cut, ran_is c.args.checked s c.in-Ok-open_plain.engine c.run_records-outcome.new.engine c.flush.new.self _ _ _ _ c.run_records-outcome.result (Ok c.in-Ok-outcome.cut) (state_of c.in-Ok-outcome.cut) _ valid c.program-program.ensures.accepted c.requires.checked.1 c.in-Ok-open_plain.ensures c.run_records-outcome.ensures.run c.in-Ok-outcome.is c.flush.ensures.empty reports)
+    (c.in-Ok-outcome.cut, ran_is c.args.checked s c.in-Ok-open_plain.engine c.run_records-outcome.new.engine c.flush.new.self _ _ _ _ c.run_records-outcome.result (Ok c.in-Ok-outcome.cut) (state_of c.in-Ok-outcome.cut) _ valid (record { accepted = c.program-program.ensures.accepted; well_formed = c.program-program.ensures.well_formed }) c.requires.checked.1 c.in-Ok-open_plain.ensures c.run_records-outcome.ensures.run c.in-Ok-outcome.is c.flush.ensures.empty reports)
 
 pub returns-in-Ok-outcome-clause-free : goal.returns-in-Ok-outcome-clause-free
 returns-in-Ok-outcome-clause-free g c =

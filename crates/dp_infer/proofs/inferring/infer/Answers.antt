@@ -2,19 +2,28 @@
 use Rattle.std.proofs.Common.{◌≡◌, ◌≤◌, List, length, ap, ◌∙◌}
 use Rattle.dp_model.specs.declared.instr.Instr.{Instr}
 use Rattle.dp_infer.specs.Joins.{found_rows}
-use Rattle.dp_infer.proofs.Infers.{most_of, none_of}
+use Rattle.dp_infer.proofs.Infers.{most_of, none_of, none_but, most_anyway}
 use Rattle.dp_infer.proofs.inferring.infer.Goals as goal
 
 pub returns-in-Some-clause-none : goal.returns-in-Some-clause-none
 returns-in-Some-clause-none c =
-    let found : c.new-cert.result ≡ found_rows c.args.program.now c.args.env.now c.args.entry =
-    c.new-cert.ensures ∙ c.in_ok-found_rows.ensures.told ∙ ap (λ (p : List Instr). found_rows p c.args.env.now c.args.entry) c.instrs.ensures.same in
+    let found : c.new-cert.result.rows ≡ found_rows c.args.program.now c.args.env.now c.args.entry =
+    c.new-cert.ensures.rows ∙ c.in_ok-found_rows.ensures.told ∙ ap (λ (p : List Instr). found_rows p c.args.env.now c.args.entry) c.instrs.ensures.same in
     let some : 1 ≤ length c.args.program.now = rw c.instrs.ensures.same at c.instrs.ensures.some in
-    none_of c.args.program.now c.args.env.now c.args.entry c.new-cert.result c.in-Some.label c.in-Some.rule some found c.in-Some.ensures.some
+    none_but c.args.program.now c.args.env.now c.args.entry c.settled.result
+    (none_of c.args.program.now c.args.env.now c.args.entry c.new-cert.result.rows _ _ some found c.in-Some.ensures.some)
+
+pub returns-in-Some-clause-most : goal.returns-in-Some-clause-most
+returns-in-Some-clause-most c =
+    let found : c.new-cert.result.rows ≡ found_rows c.args.program.now c.args.env.now c.args.entry =
+    c.new-cert.ensures.rows ∙ c.in_ok-found_rows.ensures.told ∙ ap (λ (p : List Instr). found_rows p c.args.env.now c.args.entry) c.instrs.ensures.same in
+    let some : 1 ≤ length c.args.program.now = rw c.instrs.ensures.same at c.instrs.ensures.some in
+    most_anyway c.args.program.now c.args.env.now c.args.entry c.settled.result c.settled.ensures.accepted
+    (none_of c.args.program.now c.args.env.now c.args.entry c.new-cert.result.rows _ _ some found c.in-Some.ensures.some)
 
 pub returns-in-None-clause-most : goal.returns-in-None-clause-most
 returns-in-None-clause-most c =
-    let found : c.new-cert.result ≡ found_rows c.args.program.now c.args.env.now c.args.entry =
-    c.new-cert.ensures ∙ c.in_ok-found_rows.ensures.told ∙ ap (λ (p : List Instr). found_rows p c.args.env.now c.args.entry) c.instrs.ensures.same in
+    let found : c.new-cert.result.rows ≡ found_rows c.args.program.now c.args.env.now c.args.entry =
+    c.new-cert.ensures.rows ∙ c.in_ok-found_rows.ensures.told ∙ ap (λ (p : List Instr). found_rows p c.args.env.now c.args.entry) c.instrs.ensures.same in
     let some : 1 ≤ length c.args.program.now = rw c.instrs.ensures.same at c.instrs.ensures.some in
-    most_of c.args.program.now c.args.env.now c.args.entry c.new-cert.result some found
+    most_of c.args.program.now c.args.env.now c.args.entry c.new-cert.result.rows some found

@@ -1,10 +1,11 @@
--- So far the places are paired.
-use Rattle.std.proofs.Common.{◌≡◌, ◌++◌, take, drop, length}
+-- So far the places are done.
+use Rattle.std.proofs.Common.{◌≡◌, ◌++◌, take, drop, length, map}
 use Rattle.dp_infer.specs.Joins as spec
 use Rattle.dp_infer.proofs.join.joined_facts.Given as goal
 
 abbrev pub invariant-loop-i : goal.invariant-loop-i
 invariant-loop-i l = record {
-  told : take l.i l.joined ++ spec.paired spec.joined_fact (drop l.i l.facts) (drop l.i l.others) ≡ spec.paired spec.joined_fact l.facts l.others;
+  told : take l.i l.joined ++ map (spec.common_fact l.row.facts l.other.facts) (drop l.i l.facts) ≡ map (spec.common_fact l.row.facts l.other.facts) l.facts;
   eight : length l.joined ≡ 8;
+  facts_eight : length l.facts ≡ 8;
 }

@@ -4,7 +4,7 @@ use Rattle.dp_model.specs.declared.env.PoolSpec.{PoolSpec}
 use Rattle.dp_model.specs.declared.env.PortSpec.{PortSpec}
 use Rattle.dp_model.specs.Environments.{fault_of}
 use Rattle.dp_model.specs.Stores.{Store}
-use Rattle.dp_engine.specs.Handles.{core_of}
+use Rattle.dp_engine.specs.Handles.{core_of, ran}
 use Rattle.dp_engine.specs.Plain.{store_of}
 use Rattle.dp_engine.specs.Turns.{IsPlainSetup}
 use Rattle.dp_engine.proofs.Opening.{engine_opened, is_opened, first_core}
@@ -17,7 +17,7 @@ invariant_of-result c =
     let pool_same = ap (λ l. get_or l 0 (record { count = 0; cache = 0; room = 0 })) (c.pools.ensures ∙ c.requires.setup.pool_is) in
     let queue : vec_capacity c.in-Ok-with_capacity.outbox ≡ s.port.queue = c.in-Ok-with_capacity.ensures.exact ∙ ap (λ (l : List PortSpec). (get_or l 0 (record { pool = 0; segs = 0; queue = 0 })).queue) (c.ports.ensures ∙ c.requires.setup.port_is) in
     let core : c.over.result ≡ first_core s.pool (vec_capacity c.in-Ok-with_capacity.outbox) =
-    c.over.ensures ∙ ap (λ (l : Store). core_of l (vec_capacity c.in-Ok-with_capacity.outbox) (replicate 8 None) (replicate 8 0) [] 0 0)
+    c.over.ensures ∙ ap (λ (l : Store). core_of l (vec_capacity c.in-Ok-with_capacity.outbox) (replicate 8 None) (replicate 8 0) [] 0 (ran 0 0 0))
     (c.in-Ok.ensures ∙ ap (λ (p : PoolSpec). store_of p (replicate p.count (replicate p.room 0)) (replicate p.count None)) pool_same) in
     rw (c.new.ensures.items, core) (engine_opened c.args.checked s (vec_capacity c.in-Ok-with_capacity.outbox) valid c.requires.checked.1 queue)
 
@@ -27,6 +27,6 @@ returns c =
     let pool_same = ap (λ l. get_or l 0 (record { count = 0; cache = 0; room = 0 })) (c.pools.ensures ∙ c.requires.setup.pool_is) in
     let queue : vec_capacity c.in-Ok-with_capacity.outbox ≡ s.port.queue = c.in-Ok-with_capacity.ensures.exact ∙ ap (λ (l : List PortSpec). (get_or l 0 (record { pool = 0; segs = 0; queue = 0 })).queue) (c.ports.ensures ∙ c.requires.setup.port_is) in
     let core : c.over.result ≡ first_core s.pool (vec_capacity c.in-Ok-with_capacity.outbox) =
-    c.over.ensures ∙ ap (λ (l : Store). core_of l (vec_capacity c.in-Ok-with_capacity.outbox) (replicate 8 None) (replicate 8 0) [] 0 0)
+    c.over.ensures ∙ ap (λ (l : Store). core_of l (vec_capacity c.in-Ok-with_capacity.outbox) (replicate 8 None) (replicate 8 0) [] 0 (ran 0 0 0))
     (c.in-Ok.ensures ∙ ap (λ (p : PoolSpec). store_of p (replicate p.count (replicate p.room 0)) (replicate p.count None)) pool_same) in
     rw (c.new.ensures.items, core) (is_opened c.args.checked s (vec_capacity c.in-Ok-with_capacity.outbox))

@@ -1,0 +1,233 @@
+//! Rows of programs that come back to labels. They are weakened until they stay; each step goes to a constant of the
+//! program, and after many passes at once to what says nothing. Whether they serve is for the checker to say.
+
+ghost use Rattle.std.specs.Prelude.{◌≡◌, ◌<◌, ◌≤◌, length, IsTrue};
+ghost use Rattle.std.specs.List.{list_all};
+ghost use Rattle.dp_model.specs.Rows.{is_well_formed_row};
+
+use crate::join::{joined, met};
+use dp_model::{Env, Fact, Instr, Lead, Leads, Operand, Row};
+
+/// So many passes go from constant to constant.
+const SLOW_PASSES: u32 = 64;
+
+/// So many passes are made at most.
+const MOST_PASSES: u32 = 4096;
+
+/// A bound with which an instruction goes on, or 0.
+fn bound_in(instr: &Instr) -> u64 {
+    match *instr {
+        Instr::Set { value, .. } => value,
+        Instr::Jlt { right, .. } => right.saturating_sub(1),
+        Instr::And {
+            by: Operand::Constant(value),
+            ..
+        } => value,
+        Instr::Jeq {
+            right: Operand::Constant(value),
+            ..
+        } => value,
+        _ => 0,
+    }
+}
+
+/// A number of bytes that an instruction asks for, or 0.
+fn count_in(instr: &Instr) -> u16 {
+    match *instr {
+        Instr::Prepend { count, .. } => count,
+        Instr::Adj { count, .. } => count,
+        Instr::Append { count, .. } => count,
+        Instr::Trim { count, .. } => count,
+        Instr::IfHead { least, .. } => least,
+        Instr::IfTail { least, .. } => least,
+        Instr::IfLen { least, .. } => least,
+        Instr::IfLast { least, .. } => least,
+        _ => 0,
+    }
+}
+
+/// The least bound of the program that is at least so much, or the greatest number.
+fn bound_above(program: &[Instr], least: u64) -> u64 {
+    let mut above = u64::MAX;
+    for instr in program {
+        let bound = bound_in(instr);
+        if least <= bound && bound < above {
+            above = bound;
+        }
+    }
+    above
+}
+
+/// The greatest count of the program that is at most so much, or 0.
+fn count_below(program: &[Instr], most: u16) -> u16 {
+    let mut below = 0u16;
+    for instr in program {
+        let count = count_in(instr);
+        if count <= most && below < count {
+            below = count;
+        }
+    }
+    below
+}
+
+/// A bound that may have grown, and what it goes to.
+fn raised(program: &[Instr], before: u64, now: u64, slow: bool) -> u64 {
+    if now <= before {
+        now
+    } else if slow {
+        bound_above(program, now)
+    } else {
+        u64::MAX
+    }
+}
+
+/// A least number that may have become less, and what it goes to.
+fn lowered(program: &[Instr], before: u16, now: u16, slow: bool) -> u16 {
+    if before <= now {
+        now
+    } else if slow {
+        count_below(program, now)
+    } else {
+        0
+    }
+}
+
+/// What is left of a fact that may say less than before.
+fn lowered_fact(program: &[Instr], before: Fact, now: Fact, slow: bool) -> Fact {
+    match before {
+        Fact::Empty => now,
+        Fact::Held {
+            share: _,
+            head: h,
+            tail: t,
+            first: f,
+            last: l,
+            segs: n,
+        } => match now {
+            Fact::Empty => now,
+            Fact::Held {
+                share,
+                head,
+                tail,
+                first,
+                last,
+                segs,
+            } => Fact::Held {
+                share,
+                head: lowered(program, h, head, slow),
+                tail: lowered(program, t, tail, slow),
+                first: lowered(program, f, first, slow),
+                last: lowered(program, l, last, slow),
+                segs: if segs <= n { segs } else { 64 },
+            },
+        },
+    }
+}
+
+/// What is left of a row that may say less than before.
+fn lowered_row(program: &[Instr], before: &Row, now: &Row, slow: bool) -> Row {
+    let mut row = *now;
+    for i in 0..8 {
+        row.facts[i] = lowered_fact(program, before.facts[i], now.facts[i], slow);
+        row.bounds[i] = raised(program, before.bounds[i], now.bounds[i], slow);
+    }
+    row
+}
+
+/// What is known where control comes back with the second row.
+#[tactic(auto, using(crate::proofs::JoinLaws::joined_well_formed, crate::proofs::JoinLaws::met_well_formed))]
+fn weakened(program: &[Instr], there: &Row, row: &Row, slow: bool) -> Row
+    ensures { IsTrue (is_well_formed_row result) }
+{
+    let common = met(there, row);
+    if there.live {
+        joined(&lowered_row(program, there, &common, slow), &common)
+    } else {
+        common
+    }
+}
+
+/// What is known where control comes with the second row, to the same label, an earlier or a later one.
+#[tactic(auto, using(crate::proofs::JoinLaws::met_well_formed))]
+fn known_after(program: &[Instr], there: &Row, row: &Row, back: bool, slow: bool) -> Row
+    ensures { IsTrue (is_well_formed_row result) }
+{
+    if back {
+        weakened(program, there, row, slow)
+    } else {
+        met(there, row)
+    }
+}
+
+/// Joins a row into that of the label where it leads; whether that changed.
+#[tactic(auto, using(crate::proofs::RowLists::all_set))]
+fn reach_again(rows: &mut [Row], program: &[Instr], label: u16, lead: &Lead, slow: bool) -> bool
+    requires well_formed { IsTrue (list_all is_well_formed_row rows.old) }
+    ensures well_formed { IsTrue (list_all is_well_formed_row rows.new) }
+    ensures long { length rows.new ≡ length rows.old }
+{
+    let to = lead.to as usize;
+    if to >= rows.len() {
+        return false;
+    }
+    let there = rows[to];
+    let row = known_after(program, &there, &lead.row, lead.to <= label, slow);
+    rows[to] = row;
+    row != there
+}
+
+/// Passes control on from a label; whether a row changed.
+fn pass_again(rows: &mut [Row], program: &[Instr], env: &Env, label: u16, slow: bool) -> bool
+    requires in_range { label < length rows.old }
+    requires same_length { length rows.old ≡ length program.now }
+    requires at_most { length program.now ≤ 1024 }
+    requires well_formed { IsTrue (list_all is_well_formed_row rows.old) }
+    ensures well_formed { IsTrue (list_all is_well_formed_row rows.new) }
+    ensures long { length rows.new ≡ length rows.old }
+{
+    let row = rows[label as usize];
+    if !row.live {
+        return false;
+    }
+    let instr = program[label as usize];
+    match instr.leads(env, label, &row) {
+        Leads::Ends => false,
+        Leads::One(lead) => reach_again(rows, program, label, &lead, slow),
+        Leads::Two(lead, other) => {
+            let one = reach_again(rows, program, label, &lead, slow);
+            let two = reach_again(rows, program, label, &other, slow);
+            one || two
+        }
+    }
+}
+
+/// Passes control on from each label in order; whether a row changed.
+fn spread_again(rows: &mut [Row], program: &[Instr], env: &Env, slow: bool) -> bool
+    requires same_length { length rows.old ≡ length program.now }
+    requires at_most { length program.now ≤ 1024 }
+    requires well_formed { IsTrue (list_all is_well_formed_row rows.old) }
+    ensures well_formed { IsTrue (list_all is_well_formed_row rows.new) }
+    ensures long { length rows.new ≡ length rows.old }
+{
+    let mut changed = false;
+    for label in 0..program.len() as u16 {
+        if pass_again(rows, program, env, label, slow) {
+            changed = true;
+        }
+    }
+    changed
+}
+
+/// Weakens rows until control that passes on changes none of them.
+pub(crate) fn settle(rows: &mut [Row], program: &[Instr], env: &Env)
+    requires same_length { length rows.old ≡ length program.now }
+    requires at_most { length program.now ≤ 1024 }
+    requires well_formed { IsTrue (list_all is_well_formed_row rows.old) }
+    ensures { IsTrue (list_all is_well_formed_row rows.new) }
+{
+    for pass in 0..MOST_PASSES {
+        if !spread_again(rows, program, env, pass < SLOW_PASSES) {
+            return;
+        }
+    }
+}

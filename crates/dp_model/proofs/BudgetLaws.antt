@@ -1,0 +1,231 @@
+-- The budget of backward jumps is as it reads.
+use Rattle.std.proofs.Common.{◌≡◌, ◌⊎◌, ℕ, zero, suc, ◌+◌, ◌*◌, ◌≤◌, Bool, true, false, cond, List, [], ◌∷◌, ◌++◌, length, replicate, Option, Some, None, refl, sym, ◌∙◌, ap, subst, arith, inl, inr}
+use Rattle.std.specs.Prelude.{slice_get, slice_set, nat_lt, MatchOption}
+use Rattle.std.proofs.lemmas.Bool.{ltb-true}
+use Rattle.std.proofs.lemmas.Option.{same_Some, slice_get_within}
+use Rattle.dp_model.specs.declared.env.PortSpec.{PortSpec}
+use Rattle.dp_model.specs.declared.instr.Instr.{Instr}
+use Rattle.dp_model.specs.declared.instr.Instr.TheVariants.{Alloc, Free, Clone, Prepend, Adj, Append, Trim, Chain, IfHead, IfTail, IfLen, IfLast, Load, Store, LoadX, StoreX, Set, Mov, Add, Sub, And, Or, Xor, Shl, Shr, Jmp, Jeq, Jlt, Lookup, Tx, Enq, Exit}
+use Rattle.dp_model.specs.Packets.{Packet, headroom, tailroom, first_len, last_len}
+use Rattle.dp_model.specs.Prefixes.{Route, hop_for}
+use Rattle.dp_model.specs.Jumps.{label_of}
+use Rattle.dp_model.specs.Machine.{Setting, World, State, Next, At, Ended, Move, Acts, Step, moves_to, goes_on, branches, is_denied, finds, without_packet, without_packets, with_jump, cut_off, budgeted, with_step}
+use Rattle.dp_model.specs.Runs.{Then, Goes, first_state, NodeRun, most_steps, TookAtMost, Outcome, Got, NoBuffer, Oversize, Arrives, Waiting, first_waiting, Serves, Nodes, runs_of, Turn}
+use Rattle.dp_model.specs.Safety.{AreShort}
+use Rattle.dp_model.proofs.Sound.{matched}
+use Rattle.dp_model.proofs.CountSteps.{acts_counts, goes_counts, goes_short}
+
+-- ---- what comes after an instruction
+
+-- the next label, or the one that the instruction names
+abbrev NextOrNamed : ℕ → Instr → ℕ → Type 0
+NextOrNamed label i to = (to ≡ label + 1) ⊎ (label_of i ≡ Some to)
+
+abbrev label_at : Next → ℕ
+label_at (At l) = l
+label_at Ended = 0
+
+same_at : (a b : ℕ) → At a ≡ At b → a ≡ b
+same_at a b e = ap label_at e
+
+-- a move that leads there
+there : (m : Move) (x to : ℕ) → m.next ≡ At x → m.next ≡ At to → to ≡ x
+there m x to is e = same_at to x (sym e ∙ is)
+
+abbrev next_of : Move → Next
+next_of m = m.next
+
+-- one of two moves
+either : {G : Type 0} (b : Bool) (x y m : Move) (to : ℕ) → m ≡ cond b x y → m.next ≡ At to → (x.next ≡ At to → G) → (y.next ≡ At to → G) → G
+either true x y m to is e f g = f (sym (ap next_of is) ∙ e)
+either false x y m to is e f g = g (sym (ap next_of is) ∙ e)
+
+module _ (label to : ℕ) (i : Instr) where
+  onward : (m : Move) → m.next ≡ At (label + 1) → m.next ≡ At to → NextOrNamed label i to
+  onward m is e = inl (there m (label + 1) to is e)
+
+  named : (l : ℕ) → label_of i ≡ Some l → At l ≡ At to → NextOrNamed label i to
+  named l names e = inr (names ∙ ap Some (same_at l to e))
+
+  branched : (b : Bool) (l : ℕ) (s : State) (m : Move) → label_of i ≡ Some l → m ≡ branches b label l s → m.next ≡ At to → NextOrNamed label i to
+  branched b l s m names is e = either b (moves_to l s) (goes_on label s) m to is e (named l names) (λ next. inl (same_at to (label + 1) (sym next)))
+
+  -- a calculation that goes on
+  counted : (after : ℕ × List ℕ) (m : Move) (s : State) (numbers : List ℕ) → Some (label + 1, numbers) ≡ Some after → m ≡ moves_to after.0 s → m.next ≡ At to → NextOrNamed label i to
+  counted after m s numbers is moves e =
+      let same : label + 1 ≡ after.0 = ap (λ (x : ℕ × List ℕ). x.0) (same_Some (label + 1, numbers) after is) in
+      onward m (ap next_of moves ∙ ap At (sym same)) e
+
+  -- a calculation that may jump
+  tested : (b : Bool) (l : ℕ) (after : ℕ × List ℕ) (m : Move) (s : State) (numbers : List ℕ) → label_of i ≡ Some l → Some (cond b l (label + 1), numbers) ≡ Some after → m ≡ moves_to after.0 s → m.next ≡ At to → NextOrNamed label i to
+  tested true l after m s numbers names is moves e =
+      let same : l ≡ after.0 = ap (λ (x : ℕ × List ℕ). x.0) (same_Some (l, numbers) after is) in
+      named l names (ap At same ∙ (sym (ap next_of moves) ∙ e))
+  tested false l after m s numbers names is moves e = counted after m s numbers is moves e
+
+  -- a look-up
+  looked : (o : Option (List Route)) (ip r l : ℕ) (after : ℕ × List ℕ) (m : Move) (s : State) (numbers : List ℕ) → label_of i ≡ Some l → finds o ip label r l numbers ≡ Some after → m ≡ moves_to after.0 s → m.next ≡ At to → NextOrNamed label i to
+  looked None ip r l after m s numbers names is moves e = cc is
+  looked (Some routes) ip r l after m s numbers names is moves e = go (hop_for routes ip) refl
+    where
+      go : (h : Option ℕ) → hop_for routes ip ≡ h → NextOrNamed label i to
+      go None h =
+          let it : Some (l, numbers) ≡ Some after = rw h at is in
+          let same : l ≡ after.0 = ap (λ (x : ℕ × List ℕ). x.0) (same_Some (l, numbers) after it) in
+          named l names (ap At same ∙ (sym (ap next_of moves) ∙ e))
+      go (Some hop) h =
+          let it : Some (label + 1, slice_set numbers r hop) ≡ Some after = rw h at is in
+          counted after m s (slice_set numbers r hop) it moves e
+
+pub acts_lead : (c : Setting) (label to : ℕ) (s : State) (i : Instr) (m : Move) → Acts c label s i m → m.next ≡ At to → NextOrNamed label i to
+acts_lead c label to s (Alloc p pool l) m (empty, exists, call) e = matched (is_denied c s pool 1) _ _ call
+    (λ is. named label to (Alloc p pool l) l refl (sym (ap next_of is) ∙ e))
+    (λ (ns, buffers, fresh, changes, is). onward label to (Alloc p pool l) m (ap next_of is) e)
+acts_lead c label to s (Clone p q pool l) m (k, holds, empty, exists, call) e = matched (is_denied c s pool (length k)) _ _ call
+    (λ is. named label to (Clone p q pool l) l refl (sym (ap next_of is) ∙ e))
+    (λ (ns, fresh, is). onward label to (Clone p q pool l) m (ap next_of is) e)
+acts_lead c label to s (Free p) m (k, holds, is) e = onward label to (Free p) m (ap next_of is) e
+acts_lead c label to s (Prepend p n) m (k, holds, le, sole, is) e = onward label to (Prepend p n) m (ap next_of is) e
+acts_lead c label to s (Append p n) m (k, holds, le, sole, is) e = onward label to (Append p n) m (ap next_of is) e
+acts_lead c label to s (Adj p n) m (k, holds, le, is) e = onward label to (Adj p n) m (ap next_of is) e
+acts_lead c label to s (Trim p n) m (k, holds, le, is) e = onward label to (Trim p n) m (ap next_of is) e
+acts_lead c label to s (Chain p q) m (k, t, hk, ht, apart, few, is) e = onward label to (Chain p q) m (ap next_of is) e
+acts_lead c label to s (IfHead p n l) m (k, holds, is) e = branched label to (IfHead p n l) (nat_lt (headroom k) n) l s m refl is e
+acts_lead c label to s (IfTail p n l) m (k, holds, is) e = branched label to (IfTail p n l) (nat_lt (tailroom c.env.pools k) n) l s m refl is e
+acts_lead c label to s (IfLen p n l) m (k, holds, is) e = branched label to (IfLen p n l) (nat_lt (first_len k) n) l s m refl is e
+acts_lead c label to s (IfLast p n l) m (k, holds, is) e = branched label to (IfLast p n l) (nat_lt (last_len k) n) l s m refl is e
+acts_lead c label to s (Load r p off w) m (k, holds, le, is) e = onward label to (Load r p off w) m (ap next_of is) e
+acts_lead c label to s (LoadX r p x off w) m (k, holds, le, is) e = onward label to (LoadX r p x off w) m (ap next_of is) e
+acts_lead c label to s (Store p off w r) m (k, holds, le, sole, is) e = onward label to (Store p off w r) m (ap next_of is) e
+acts_lead c label to s (StoreX p x off w r) m (k, holds, le, sole, is) e = onward label to (StoreX p x off w r) m (ap next_of is) e
+acts_lead c label to s (Tx p r l) m (k, port, packets, holds, is_port, is_there, is) e =
+    either (nat_lt (length packets + 1) port.queue) _ _ m to is e (λ next. inl (same_at to (label + 1) (sym next))) (named label to (Tx p r l) l refl)
+acts_lead c label to s (Enq p ring l) m (k, spec, packets, holds, is_ring, is_there, is) e =
+    either (nat_lt (length packets + 1) spec.count) _ _ m to is e (λ next. inl (same_at to (label + 1) (sym next))) (named label to (Enq p ring l) l refl)
+acts_lead c label to s Exit m (gone, is) e = let no : Ended ≡ At to = sym (ap next_of is) ∙ e in cc
+acts_lead c label to s (Set r n) m (after, a, is) e = counted label to (Set r n) after m _ _ a is e
+acts_lead c label to s (Mov r x) m (after, a, is) e = counted label to (Mov r x) after m _ _ a is e
+acts_lead c label to s (Add r x) m (after, a, is) e = counted label to (Add r x) after m _ _ a is e
+acts_lead c label to s (Sub r x) m (after, a, is) e = counted label to (Sub r x) after m _ _ a is e
+acts_lead c label to s (And r x) m (after, a, is) e = counted label to (And r x) after m _ _ a is e
+acts_lead c label to s (Or r x) m (after, a, is) e = counted label to (Or r x) after m _ _ a is e
+acts_lead c label to s (Xor r x) m (after, a, is) e = counted label to (Xor r x) after m _ _ a is e
+acts_lead c label to s (Shl r n) m (after, a, is) e = counted label to (Shl r n) after m _ _ a is e
+acts_lead c label to s (Shr r n) m (after, a, is) e = counted label to (Shr r n) after m _ _ a is e
+acts_lead c label to s (Jmp l) m (after, a, is) e = tested label to (Jmp l) true l after m _ _ refl a is e
+acts_lead c label to s (Jeq r x l) m (after, a, is) e = tested label to (Jeq r x l) _ l after m _ _ refl a is e
+acts_lead c label to s (Jlt r n l) m (after, a, is) e = tested label to (Jlt r n l) _ l after m _ _ refl a is e
+acts_lead c label to s (Lookup r table x l) m (after, a, is) e = looked label to (Lookup r table x l) (slice_get c.tables table) _ r l after m _ _ refl a is e
+
+-- ---- registers are freed one by one
+
+each_freed : {X : Type 0} (xs : List (Option X)) → length xs ≡ 8 → replicate 8 None ≡ slice_set (slice_set (slice_set (slice_set (slice_set (slice_set (slice_set (slice_set xs 0 None) 1 None) 2 None) 3 None) 4 None) 5 None) 6 None) 7 None
+each_freed [] e = absurd (omega (arith, e))
+each_freed (a ∷ []) e = absurd (omega (arith, e))
+each_freed (a ∷ b ∷ []) e = absurd (omega (arith, e))
+each_freed (a ∷ b ∷ c ∷ []) e = absurd (omega (arith, e))
+each_freed (a ∷ b ∷ c ∷ d ∷ []) e = absurd (omega (arith, e))
+each_freed (a ∷ b ∷ c ∷ d ∷ f ∷ []) e = absurd (omega (arith, e))
+each_freed (a ∷ b ∷ c ∷ d ∷ f ∷ g ∷ []) e = absurd (omega (arith, e))
+each_freed (a ∷ b ∷ c ∷ d ∷ f ∷ g ∷ h ∷ []) e = absurd (omega (arith, e))
+each_freed (a ∷ b ∷ c ∷ d ∷ f ∷ g ∷ h ∷ k ∷ []) e = refl
+each_freed (a ∷ b ∷ c ∷ d ∷ f ∷ g ∷ h ∷ k ∷ l ∷ xs) e = absurd (omega (arith, e))
+
+pub freed_in_order : (s : State) → length s.packets ≡ 8 → without_packets s ≡ without_packet 7 (without_packet 6 (without_packet 5 (without_packet 4 (without_packet 3 (without_packet 2 (without_packet 1 (without_packet 0 s)))))))
+freed_in_order s e = ap (λ packets. record s { packets = packets }) (each_freed s.packets e)
+
+-- ---- no run takes more backward jumps than its budget
+
+jumps_within : (label : ℕ) (m : Move) → m.state.jumps ≤ 256 → (budgeted label m).state.jumps ≤ 256
+jumps_within label m within = go _ (nat_lt m.state.jumps 256) refl
+  where
+    go : (b d : Bool) → nat_lt m.state.jumps 256 ≡ d → (cond b (cond d (with_jump m) (cut_off m)) m).state.jumps ≤ 256
+    go true true e = omega (arith, ltb-true m.state.jumps 256 e)
+    go true false e = within
+    go false d e = within
+
+step_jumps : (c : Setting) (program : List Instr) (label : ℕ) (s : State) (m : Move) → s.jumps ≤ 256 → Step c program label s m → m.state.jumps ≤ 256
+step_jumps c program label s m within st =
+    let same : st.effect.state.jumps ≡ s.jumps = (acts_counts c label (with_step s) st.instr st.effect st.acts).jumps in
+    subst (λ (m : Move). m.state.jumps ≤ 256) (sym st.is) (jumps_within label st.effect (omega (arith, same, within)))
+
+goes_jumps : (c : Setting) (program : List Instr) (n label : ℕ) (s : State) (told : List Bool) (next : Next) (s' : State) → s.jumps ≤ 256 → Goes c program n label s told next s' → s'.jumps ≤ 256
+goes_jumps c program zero label s told next s' within (_, _, is) = subst (λ (x : State). x.jumps ≤ 256) (sym is) within
+goes_jumps c program (suc n) label s told next s' within (m, later, st, is_told, rest) =
+    go m.next rest (step_jumps c program label s m within st) (λ l. goes_jumps c program n l m.state later next s')
+  where
+    go : (x : Next) → Then x (λ l. Goes c program n l m.state later next s') ((next ≡ Ended) × (n ≡ 0) × (later ≡ []) × (s' ≡ m.state)) → m.state.jumps ≤ 256 → ((l : ℕ) → m.state.jumps ≤ 256 → Goes c program n l m.state later next s' → s'.jumps ≤ 256) → s'.jumps ≤ 256
+    go (At l) rest here on = on l here rest
+    go Ended (_, _, _, is) here on = subst (λ (x : State). x.jumps ≤ 256) (sym is) here
+
+pub jumps_taken : (c : Setting) (program : List Instr) (k : Packet) (number n label : ℕ) (w : World) (told : List Bool) (s : State) → Goes c program n 0 (first_state k number w) told (At label) s → (s.jumps ≤ 256) × (s.world.steps ≡ w.steps + n) × (s.world.cuts ≡ w.cuts)
+jumps_taken c program k number n label w told s goes =
+    let counts = goes_counts c program n 0 (first_state k number w) told (At label) s goes in
+    (goes_jumps c program n 0 (first_state k number w) told (At label) s (omega arith) goes, counts.steps, omega (arith, counts.cuts, counts.at_end))
+
+-- ---- node runs and turns
+
+pub short_run : (c : Setting) (program : List Instr) (n : ℕ) (k : Packet) (number : ℕ) (w : World) (told : List Bool) (next : Next) (s : State) → Goes c program n 0 (first_state k number w) told next s → n ≤ most_steps program
+short_run c program zero k number w told next s goes = omega arith
+short_run c program (suc n) k number w told next s (m, later, st, is_told, rest) =
+    omega (arith, goes_short c program (suc n) 0 (first_state k number w) told next s (slice_get_within program 0 st.instr st.here) (omega arith) (m, later, st, is_told, rest))
+
+pub node_took : (c : Setting) (program : List Instr) (k : Packet) (number : ℕ) (w w' : World) (told : List Bool) → NodeRun c program k number w told w' → TookAtMost w w' (most_steps program) 1
+node_took c program k number w w' told (n, s, goes, is) =
+    let counts = goes_counts c program n 0 (first_state k number w) told Ended s goes in
+    let steps : w'.steps ≡ s.world.steps = ap (λ (w : World). w.steps) is in
+    let cuts : w'.cuts ≡ s.world.cuts = ap (λ (w : World). w.cuts) is in
+    (n, counts.more, record { steps_are = omega (arith, steps, counts.steps); cuts_are = omega (arith, cuts, counts.cuts) }, short_run c program n k number w told Ended s goes, counts.at_end)
+
+none_took : (w w' : World) (limit : ℕ) → w'.steps ≡ w.steps → w'.cuts ≡ w.cuts → TookAtMost w w' limit 0
+none_took w w' limit steps cuts = (0, 0, record { steps_are = omega (arith, steps); cuts_are = omega (arith, cuts) }, omega arith, omega arith)
+
+-- one after the other
+took_both : (w v w' : World) (a b x y : ℕ) → TookAtMost w v a b → TookAtMost v w' x y → TookAtMost w w' (a + x) (b + y)
+took_both w v w' a b x y (steps, cuts, took, le, few) (steps', cuts', took', le', few') =
+    (steps + steps', cuts + cuts', record { steps_are = omega (arith, took.steps_are, took'.steps_are); cuts_are = omega (arith, took.cuts_are, took'.cuts_are) }, omega (arith, le, le'), omega (arith, few, few'))
+
+took_more : (w w' : World) (a x b : ℕ) → a ≤ x → TookAtMost w w' a b → TookAtMost w w' x b
+took_more w w' a x b more (steps, cuts, took, le, few) = (steps, cuts, took, omega (arith, le, more), few)
+
+arrives_took : (c : Setting) (nodes : Nodes) (most port : ℕ) (program : List Instr) (spec : PortSpec) (bytes : List ℕ) (w w' : World) (outcome : Outcome) (told : List Bool) → AreShort most nodes.ports → slice_get nodes.ports port ≡ Some program → Arrives c program port spec bytes w outcome told w' → TookAtMost w w' (runs_of outcome * (257 * most)) (runs_of outcome)
+arrives_took c nodes most port program spec bytes w w' Oversize told short is_program (_, _, is) = none_took w w' (0 * (257 * most)) (ap (λ (w : World). w.steps) is) (ap (λ (w : World). w.cuts) is)
+arrives_took c nodes most port program spec bytes w w' NoBuffer told short is_program (_, _, _, is) = none_took w w' (0 * (257 * most)) (ap (λ (w : World). w.steps) is) (ap (λ (w : World). w.cuts) is)
+arrives_took c nodes most port program spec bytes w w' Got told short is_program r =
+    let (steps, cuts, took, le, few) = node_took c program r.packet port (record w { buffers = r.buffers; calls = w.calls + 1 }) w' r.later r.run in
+    (steps, cuts, record { steps_are = took.steps_are; cuts_are = took.cuts_are }, omega (arith, le, short port program is_program), few)
+
+serves_took : (c : Setting) (nodes : Nodes) (most n : ℕ) (w w' : World) (told : List Bool) (runs : ℕ) → AreShort most nodes.rings → Serves c nodes.rings n w told runs w' → (runs ≤ n) × TookAtMost w w' (runs * (257 * most)) runs
+serves_took c nodes most zero w w' told runs short (_, none, is) =
+    subst (λ r. (r ≤ 0) × TookAtMost w w' (r * (257 * most)) r) (sym none) (omega arith, none_took w w' (0 * (257 * most)) (ap (λ (w : World). w.steps) is) (ap (λ (w : World). w.cuts) is))
+serves_took c nodes most (suc n) w w' told runs short serves = go (first_waiting w.rings) refl serves (λ mid told more. serves_took c nodes most n mid w' told more short)
+  where
+    go : (o : Option Waiting) → first_waiting w.rings ≡ o → MatchOption o ((told ≡ []) × (runs ≡ 0) × (w' ≡ w)) (λ next. (program : List Instr) × (now later : List Bool) × (mid : World) × (more : ℕ) × (slice_get nodes.rings next.ring ≡ Some program) × NodeRun c program next.packet next.ring (record w { rings = next.rings }) now mid × Serves c nodes.rings n mid later more w' × (told ≡ now ++ later) × (runs ≡ more + 1)) → ((mid : World) (told : List Bool) (more : ℕ) → Serves c nodes.rings n mid told more w' → (more ≤ n) × TookAtMost mid w' (more * (257 * most)) more) → (runs ≤ suc n) × TookAtMost w w' (runs * (257 * most)) runs
+    go None e (_, none, is) on =
+        subst (λ r. (r ≤ suc n) × TookAtMost w w' (r * (257 * most)) r) (sym none) (omega arith, none_took w w' (0 * (257 * most)) (ap (λ (w : World). w.steps) is) (ap (λ (w : World). w.cuts) is))
+    go (Some next) e (program, now, later, mid, more, is_program, run, serves, _, count) on =
+        let one_more : runs ≡ 1 + more = omega (arith, count) in
+        let (within, others) = on mid later more serves in
+        let (steps, cuts, took, le, few) = node_took c program next.packet next.ring (record w { rings = next.rings }) mid now run in
+        let first : TookAtMost w mid (257 * most) 1 = (steps, cuts, record { steps_are = took.steps_are; cuts_are = took.cuts_are }, omega (arith, le, short next.ring program is_program), few) in
+        subst (λ r. (r ≤ suc n) × TookAtMost w w' (r * (257 * most)) r) (sym one_more)
+        (omega (arith, within), took_more w w' (257 * most + more * (257 * most)) ((1 + more) * (257 * most)) (1 + more) (omega arith) (took_both w mid w' (257 * most) 1 (more * (257 * most)) more first others))
+
+pub turn_took : (c : Setting) (nodes : Nodes) (port : ℕ) (bytes : List ℕ) (w w' : World) (outcome : Outcome) (runs : ℕ) (told : List Bool) (most : ℕ) → AreShort most nodes.ports → AreShort most nodes.rings → Turn c nodes port bytes w outcome runs told w' → (runs ≤ 33) × TookAtMost w w' (runs * (257 * most)) runs
+turn_took c nodes port bytes w w' outcome runs told most ports rings t =
+    let first = arrives_took c nodes most port t.program t.spec bytes w t.mid outcome t.now ports t.program_is t.arrives in
+    let (within, others) = serves_took c nodes most 32 t.mid w' t.later t.more rings t.serves in
+    subst (λ r. (r ≤ 33) × TookAtMost w w' (r * (257 * most)) r) (sym t.runs_is) (
+      few_runs outcome t.more within,
+      took_more w w' (runs_of outcome * (257 * most) + t.more * (257 * most)) ((runs_of outcome + t.more) * (257 * most)) (runs_of outcome + t.more) (joins outcome t.more) (took_both w t.mid w' (runs_of outcome * (257 * most)) (runs_of outcome) (t.more * (257 * most)) t.more first others),
+    )
+  where
+    few_runs : (o : Outcome) (more : ℕ) → more ≤ 32 → runs_of o + more ≤ 33
+    few_runs Got more le = omega (arith, le)
+    few_runs NoBuffer more le = omega (arith, le)
+    few_runs Oversize more le = omega (arith, le)
+
+    joins : (o : Outcome) (more : ℕ) → runs_of o * (257 * most) + more * (257 * most) ≤ (runs_of o + more) * (257 * most)
+    joins Got more = omega arith
+    joins NoBuffer more = omega arith
+    joins Oversize more = omega arith

@@ -1,0 +1,12 @@
+-- Each clause is a lemma.
+use Rattle.dp_model.proofs.BudgetLaws.{acts_lead, freed_in_order, jumps_taken, node_took, turn_took}
+use Rattle.dp_model.proofs.words.budgets_are_as_they_read.Goals as goal
+
+pub returns : goal.returns
+returns c = record {
+  jumps = acts_lead;
+  order = freed_in_order;
+  taken = jumps_taken;
+  node_runs = node_took;
+  turns = turn_took;
+}

@@ -1,0 +1,96 @@
+-- Sharing groups: registers whose packets have the same buffers, and between them all references to these. A group is
+-- named by its least register.
+use Rattle.std.specs.Prelude.{◌≡◌, ℕ, ◌+◌, ◌-◌, Bool, true, false, ◌&&◌, ◌==◌, nat_le, if◌then◌else◌, List, [], ◌∷◌, map, count_by, Option, Some, None, is_some, position, slice_get}
+use Rattle.std.specs.List.{AllByRecursion, list_all, list_any}
+use Rattle.std.specs.Option.{option_map_or}
+use Rattle.std.proofs.Math.Bool.{beq}
+use Rattle.dp_model.specs.declared.row.Fact.{Fact}
+use Rattle.dp_model.specs.declared.row.Fact.TheVariants.{Empty, Held}
+use Rattle.dp_model.specs.Buffers.{Number}
+use Rattle.dp_model.specs.Packets.{Segment, Packet, refs}
+
+-- ---- the words
+
+-- the share that says: the register belongs to the group whose least register is g
+abbrev pub share_of_group : ℕ → ℕ
+share_of_group g = 8 + g
+
+-- the group to which a register belongs, if it belongs to one
+abbrev pub group_of : Fact → Option ℕ
+group_of Empty = None
+group_of (Held share head tail first last segs) = if nat_le 8 share then Some (share - 8) else None
+
+-- whether a register belongs to the group
+abbrev pub is_in : ℕ → Fact → Bool
+is_in g Empty = false
+is_in g (Held share head tail first last segs) = share == share_of_group g
+
+-- how many registers belong to it, and which is the least of them
+abbrev pub size : List Fact → ℕ → ℕ
+size facts g = count_by (is_in g) facts
+
+abbrev pub least : List Fact → ℕ → Option ℕ
+least facts g = position (is_in g) facts
+
+-- ---- which groups there are
+
+-- the group has at least two registers, and the least gives the name
+abbrev pub is_group : List Fact → ℕ → Bool
+is_group facts g = nat_le 2 (size facts g) && option_map_or (λ p. p == g) (least facts g) false
+
+-- each group to which a register belongs is one
+abbrev pub are_groups : List Fact → Bool
+are_groups facts = list_all (λ fact. option_map_or (is_group facts) (group_of fact) true) facts
+
+-- whether any register belongs to a group
+abbrev pub have_groups : List Fact → Bool
+have_groups facts = list_any (λ fact. is_some (group_of fact)) facts
+
+-- ---- what follows from what
+
+-- whether the test passes at each place of two lists, which are as long
+abbrev pub at_each_place : {A B : Type 0} → (A → B → Bool) → List A → List B → Bool
+at_each_place test [] [] = true
+at_each_place test (x ∷ xs) (y ∷ ys) = test x y && at_each_place test xs ys
+at_each_place test [] (y ∷ ys) = false
+at_each_place test (x ∷ xs) [] = false
+
+-- the group has the same registers in both
+abbrev pub same_registers : List Fact → List Fact → ℕ → Bool
+same_registers facts others g = at_each_place (λ fact other. beq (is_in g fact) (is_in g other)) facts others
+
+-- each group of the second is a group of the same registers in the first
+abbrev pub keeps_groups : List Fact → List Fact → Bool
+keeps_groups facts others = list_all (λ other. option_map_or (same_registers facts others) (group_of other) true) others
+
+-- ---- registers that get another share
+
+abbrev pub reshared_fact : ℕ → ℕ → Fact → Fact
+reshared_fact g share Empty = Empty
+reshared_fact g share (Held old head tail first last segs) =
+    Held (if old == share_of_group g then share else old) head tail first last segs
+
+-- all registers of the group with another share
+abbrev pub reshared : ℕ → ℕ → List Fact → List Fact
+reshared g share facts = map (reshared_fact g share) facts
+
+-- the share of the registers that are left of a group: a last one is sole, else the least of them gives the name
+abbrev pub share_left : List Fact → ℕ → ℕ
+share_left facts g = if size facts g == 1 then 2 else option_map_or share_of_group (least facts g) 0
+
+-- ---- what a group promises
+
+-- whether the register with this number belongs to the group
+abbrev pub belongs : List Fact → ℕ → ℕ → Bool
+belongs facts g p = option_map_or (is_in g) (slice_get facts p) false
+
+-- the buffers of a packet, place by place
+abbrev pub buffers_of : Packet → List Number
+buffers_of k = map (λ s. s.buffer) k
+
+-- each register of the group holds a packet with just these buffers, and each of them has as many references as the group
+-- has registers
+pub record GroupHolds (live : List Segment) (facts : List Fact) (packets : List (Option Packet)) (g : ℕ) : Type 0 where
+  pub buffers : List Number
+  pub same : (p : ℕ) → belongs facts g p ≡ true → (k : Packet) × (slice_get packets p ≡ Some (Some k)) × (buffers_of k ≡ buffers)
+  pub counted : AllByRecursion (λ b. refs live b ≡ size facts g) buffers
