@@ -262,13 +262,16 @@ def try_crate(crate: Crate, edits: list[Edit], is_alone: bool) -> Tally:
         while waiting:
             now = together(waiting, most)
             refused = refused_of(crate, now, tally)
-            tally.refused += len(refused or ())
-            again += [it for it in now if it not in (refused or ())]
+            hidden = [it for it in now if it not in (refused or ())]
+            tally.refused += len(now) - len(hidden)
             waiting = [it for it in waiting if it not in now]
-            if len(now) == 1 and refused is not None and not refused:
+            if refused:
+                waiting += hidden
+            elif refused is None or len(now) > 1:
+                again += hidden
+            else:
                 say(f"{now[0].name}: NOT REFUSED")
                 tally.passed += 1
-                again.remove(now[0])
         left = again
     for it in left:
         say(f"{it.name}: NOT TRIED: its check judged nothing; the edited text has to compile")
