@@ -8,8 +8,23 @@ use Rattle.dp_model.specs.Environments.{Environment}
 use Rattle.dp_model.specs.declared.rule.Rule.{Rule}
 use Rattle.dp_model.specs.declared.rule.Rule.TheVariants.{J1, J2, J3, J4, J5, J6, J7, J8, J9, J10, J11}
 use Rattle.dp_model.specs.Rules.{Question, holds_if_live, holds, rules_of, fault_at, IsAccepted, IsRefused}
-use Rattle.dp_cert.specs.Spelling.{Certificate, raised}
-use Rattle.dp_check.specs.Faults.{question}
+use Rattle.dp_cert.specs.declared.cert.Version.{Version}
+use Rattle.dp_cert.specs.declared.cert.Version.TheVariants.{One, Two}
+use Rattle.dp_cert.specs.Spelling.{Certificate, number_of_version, raised}
+use Rattle.dp_check.specs.Faults.{question, IsWith}
+
+-- a question has one certificate
+same_version : (a b : Version) → number_of_version a ≡ number_of_version b → a ≡ b
+same_version One One e = refl
+same_version Two Two e = refl
+same_version One Two e = cc
+same_version Two One e = cc
+
+pub same_certificate : (program : List Instr) (env : Environment) (entry : Entry) (a b : Certificate) → IsWith (question program a env entry) b → a ≡ b
+same_certificate program env entry a b is =
+    let rows : a.rows ≡ b.rows = ap (λ (q : Question). q.rows) is in
+    let version = same_version a.version b.version (ap (λ (q : Question). q.version) is) in
+    ap (λ rs. record { version = a.version; rows = rs }) rows ∙ ap (λ v. record { version = v; rows = b.rows }) version
 
 abbrev of_version : Question → ℕ → Question
 of_version q version = record q { version = version }

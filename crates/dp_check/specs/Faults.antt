@@ -15,6 +15,10 @@ abbrev pub question : List Instr → Certificate → Environment → Entry → Q
 question program cert env entry =
     record { program = program; version = number_of_version cert.version; rows = cert.rows; env = env; entry = entry }
 
+-- the question is asked with this certificate
+abbrev pub IsWith : Question → Certificate → Type 0
+IsWith q cert = q ≡ question q.program cert q.env q.entry
+
 -- the first of the rules from J3 on that fails at a label
 abbrev pub later_fault : Question → ℕ → Option Rule
 later_fault q label = find (λ rule. not (holds q label rule)) later_rules

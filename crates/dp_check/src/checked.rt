@@ -5,9 +5,9 @@ ghost use Rattle.std.specs.List.{list_all};
 ghost use Rattle.dp_model.specs.Rows.{is_well_formed_row};
 ghost use Rattle.dp_model.specs.Rules.{begins_well, IsAccepted, IsRefused};
 ghost use Rattle.dp_lang.specs.Programs.{IsProgram};
-ghost use Rattle.dp_cert.specs.Spelling.{number_of_version};
+ghost use Rattle.dp_cert.specs.Spelling.{Certificate};
 ghost use Rattle.dp_cert.specs.declared.cert.Version.{Version};
-ghost use Rattle.dp_check.specs.Faults.{question, IsChecked, IsRefusedWith};
+ghost use Rattle.dp_check.specs.Faults.{question, IsWith, IsChecked, IsRefusedWith};
 
 use crate::rules::{fault_at, is_entailed};
 use dp_cert::Cert;
@@ -50,9 +50,10 @@ impl Checked {
     }
 
     /// Its certificate, of the version in which it was handed in.
+    #[tactic(auto, using(crate::proofs::Versions::same_certificate))]
     pub fn cert(&self) -> &Cert
-        ensures rows { result.now.rows ≡ self.now.rows }
-        ensures version { number_of_version result.now.version ≡ self.now.version }
+        ensures is { IsWith self.now result.now }
+        ensures only { (cert : Certificate) → IsWith self.now cert → result.now ≡ cert }
     {
         &self.cert
     }

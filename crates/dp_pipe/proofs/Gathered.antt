@@ -8,14 +8,14 @@ use Rattle.dp_model.specs.declared.env.Entry.TheVariants.{Port, Ring}
 use Rattle.dp_model.specs.Environments.{Environment}
 use Rattle.dp_model.specs.Rules.{Question}
 use Rattle.dp_cert.specs.Spelling.{Certificate, certificate_of}
-use Rattle.dp_check.specs.Faults.{question, IsChecked}
+use Rattle.dp_check.specs.Faults.{question, IsWith, IsChecked}
 use Rattle.dp_infer.specs.Inference.{SaysMost}
 use Rattle.dp_pipe.specs.declared.error.PipeError.{PipeError}
 use Rattle.dp_pipe.specs.declared.error.PipeError.TheVariants.{Memory}
 use Rattle.dp_pipe.specs.declared.nodes.How.{How}
 use Rattle.dp_pipe.specs.Setup.{NodeFiles}
 use Rattle.dp_pipe.specs.Files.{FileMap}
-use Rattle.dp_pipe.specs.Nodes.{Node, numbered, nodes_of, IsProgramOf, IsCertOf, IsWith, HasCert, IsLoaded, IsMissing, IsBadCert, IsRefusedBy, IsWithoutCert, HasNoProgram, HasNoCert, Fails, AreLoaded, FailsAtFirst}
+use Rattle.dp_pipe.specs.Nodes.{Node, numbered, nodes_of, IsProgramOf, IsCertOf, HasCert, IsLoaded, IsMissing, IsBadCert, IsRefusedBy, IsWithoutCert, HasNoProgram, HasNoCert, Fails, AreLoaded, FailsAtFirst}
 use Rattle.dp_pipe.proofs.Places.{taken_more, parted, zipped_more, length-numbered}
 
 -- ---- one node

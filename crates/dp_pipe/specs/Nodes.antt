@@ -12,7 +12,7 @@ use Rattle.dp_lang.specs.Reading.{Reads, program_of}
 use Rattle.dp_cert.specs.declared.error.Fault.{Fault as CertFault}
 use Rattle.dp_cert.specs.Spelling.{Certificate, certificate_of, CertText}
 use Rattle.dp_cert.specs.Reading.{cert_of}
-use Rattle.dp_check.specs.Faults.{question, IsChecked, IsRefusedWith}
+use Rattle.dp_check.specs.Faults.{question, IsWith, IsChecked, IsRefusedWith}
 use Rattle.dp_model.specs.Jumps.{IsForward}
 use Rattle.dp_infer.specs.Inference.{Certifies, SaysMost}
 use Rattle.dp_pipe.specs.declared.nodes.How.{How}
@@ -60,10 +60,6 @@ pub record IsCertOf (known : Option FileMap) (name : List ℕ) (n : ℕ) (cert :
   pub text : List ℕ
   pub file : IsFile known name text
   pub spelled : CertText n text cert
-
--- the certificate is this one
-abbrev pub IsWith : Question → Certificate → Type 0
-IsWith q cert = q ≡ question q.program cert q.env q.entry
 
 -- The certificate is the one that its file spells, where one is read. Else it has the version of its rows, and no other says
 -- more, if the program is forward

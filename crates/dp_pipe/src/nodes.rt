@@ -5,9 +5,9 @@ ghost use Rattle.std.specs.Option.{option_map};
 ghost use Rattle.dp_pipe.specs.Files.{IsFile};
 ghost use Rattle.dp_pipe.specs.declared.nodes.How.{How};
 ghost use Rattle.dp_pipe.specs.Views.{node_names};
-ghost use Rattle.dp_pipe.specs.Nodes.{cert_read, node_of, nodes_of, IsProgramOf, IsCertOf, IsWith, HasCert, IsLoaded, IsMissing, HasNoProgram, IsBadCert, IsRefusedBy, IsWithoutCert, HasNoCert, Fails, AreLoaded, FailsAtFirst};
+ghost use Rattle.dp_pipe.specs.Nodes.{cert_read, node_of, nodes_of, IsProgramOf, IsCertOf, HasCert, IsLoaded, IsMissing, HasNoProgram, IsBadCert, IsRefusedBy, IsWithoutCert, HasNoCert, Fails, AreLoaded, FailsAtFirst};
 ghost use Rattle.dp_cert.specs.Spelling.{certificate_of};
-ghost use Rattle.dp_check.specs.Faults.{question, IsChecked};
+ghost use Rattle.dp_check.specs.Faults.{question, IsWith, IsChecked};
 ghost use Rattle.dp_infer.specs.Inference.{SaysMost};
 
 use crate::error::{FetchFault, PipeError};
