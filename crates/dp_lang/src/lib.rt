@@ -3,6 +3,7 @@
 
 mod argument;
 mod assembler;
+mod building;
 mod cause;
 mod cut;
 mod form;
@@ -21,6 +22,3 @@ pub use cause::{AsmError, Cause, Fault};
 pub use laws::printed_texts_read_back;
 pub use printer::print;
 pub use program::Program;
-
-#[cfg(test)]
-mod tests;
