@@ -1,5 +1,5 @@
 -- A free element leaves its list.
-use Rattle.std.proofs.Common.{◌≡◌, ℕ, suc, ◌+◌, ◌%◌, ◌^◌, ◌<◌, ◌≤◌, Bool, true, false, cond, eqb, eqb-true, List, [], ◌∷◌, ◌++◌, length, set, get_or, refl, sym, ap, subst, ◌∙◌, arith, inl, inr, lit<}
+use Rattle.std.proofs.Common.{◌≡◌, ℕ, ◌+◌, ◌%◌, ◌<◌, ◌≤◌, Bool, true, cond, eqb, eqb-true, List, [], ◌∷◌, ◌++◌, length, set, refl, sym, ap, subst, ◌∙◌, arith, inl, inr}
 use Rattle.std.specs.Prelude.{◌⊎◌, slice_index}
 use mathlib.Core.Logic.{⊎_elim}
 use Rattle.std.proofs.lemmas.Bool.{eq-eqb, true≢false}
@@ -7,12 +7,12 @@ use Rattle.std.proofs.lemmas.List.{get_or-set_same, get_or-set_other, length-set
 use Rattle.dp_region.proofs.Spans.{by_test}
 use Rattle.dp_region.specs.Region.{RegionView, number_at}
 use Rattle.dp_heap.specs.declared.elements.Element.{Element}
-use Rattle.dp_heap.specs.Elements.{is_free, end_of}
+use Rattle.dp_heap.specs.Elements.{is_free}
 use Rattle.dp_heap.specs.Laid.{elements_in, IsLaid}
 use Rattle.dp_heap.specs.Lists.{none, class_of, with_link, Linked, times, belongs, belong, Listed}
 use Rattle.dp_heap.proofs.Belong.{bit, class_small, same_one, times-append, times_split, belongs_of, belongs_is}
 use Rattle.dp_heap.proofs.Links.{length-with_link, link-same, link-other, link-apart, linked_stay, head_in, last_of, last_in, last_among, beside, first_or, unlinked}
-use Rattle.dp_heap.proofs.Listing.{relinked, linking, Header, header_of, member_of, listed_header, few, other_list, head_of, link_header, link_listed, link_small}
+use Rattle.dp_heap.proofs.Listing.{relinked, linking, Header, header_of, listed_header, few, other_list, link_header, link_listed, link_small}
 
 module _ (r : RegionView) (laid : IsLaid r) (before : List Element) (e : Element) (after : List Element) (split : elements_in r.bytes ≡ before ++ e ∷ after) (free : is_free e ≡ true)
     (heads : List ℕ) (off : List Element) (w : Listed r.bytes heads (elements_in r.bytes) off) (among : belong (class_of e.size) e.place off ≡ 0) where

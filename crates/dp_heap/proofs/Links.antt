@@ -1,5 +1,5 @@
 -- Lists of places that are linked, after links were written.
-use Rattle.std.proofs.Common.{◌≡◌, ℕ, ◌+◌, ◌%◌, ◌^◌, ◌<◌, ◌≤◌, Bool, true, false, cond, eqb, eqb-true, ltb, List, [], ◌∷◌, ◌++◌, length, refl, sym, ap, subst, ◌∙◌, arith, inl, inr}
+use Rattle.std.proofs.Common.{◌≡◌, ℕ, ◌+◌, ◌%◌, ◌^◌, ◌<◌, ◌≤◌, Bool, cond, eqb, eqb-true, ltb, List, [], ◌∷◌, ◌++◌, length, refl, sym, ap, subst, ◌∙◌, arith, inl, inr}
 use Rattle.std.specs.Prelude.{◌⊎◌}
 use mathlib.Core.Logic.{⊎_elim}
 use Rattle.std.proofs.lemmas.Bool.{cond_both, ltb-true, ltb-false, lt-ltb, eq-eqb, true≢false}
@@ -7,7 +7,7 @@ use Rattle.dp_region.proofs.Spans.{by_test}
 use Rattle.dp_region.specs.Region.{number_at, with_number}
 use Rattle.dp_region.proofs.Numbers.{length-with_number, number_at-same, number_at-other}
 use Rattle.dp_heap.specs.Lists.{none, with_link, Linked, times}
-use Rattle.dp_heap.proofs.Belong.{bit, same_one, other_one, times-append}
+use Rattle.dp_heap.proofs.Belong.{bit, same_one, times-append}
 
 module _ (xs : List ℕ) (k p n : ℕ) (fits : p < length xs → p + 64 ≤ length xs) (small : k ≤ 60) where
   abbrev put : List ℕ

@@ -1,18 +1,18 @@
 -- The places in the lists are those of free elements, each once.
-use Rattle.std.proofs.Common.{◌≡◌, ℕ, suc, ◌+◌, ◌%◌, ◌^◌, ◌<◌, ◌≤◌, Bool, true, false, cond, eqb, eqb-true, ltb, List, [], ◌∷◌, ◌++◌, length, refl, sym, ap, subst, ◌∙◌, arith, inl, inr, lit<}
+use Rattle.std.proofs.Common.{◌≡◌, ℕ, ◌+◌, ◌%◌, ◌^◌, ◌<◌, ◌≤◌, ltb, List, [], ◌∷◌, ◌++◌, length, sym, subst, ◌∙◌, arith, inl, inr, lit<}
 use Rattle.std.specs.Prelude.{◌⊎◌, slice_index}
 use mathlib.Core.Logic.{⊎_elim}
-use Rattle.std.proofs.lemmas.Bool.{ltb-true, ltb-false, eq-eqb, true≢false}
+use Rattle.std.proofs.lemmas.Bool.{ltb-true, ltb-false}
 use Rattle.dp_region.proofs.Spans.{by_test}
 use Rattle.dp_region.specs.Spans.{IsUnlent}
 use Rattle.dp_region.specs.Region.{RegionView, number_at}
 use Rattle.dp_heap.specs.declared.elements.Element.{Element}
-use Rattle.dp_heap.specs.Elements.{is_free, end_of}
-use Rattle.dp_heap.specs.Laid.{element_at, elements_in, Laid, Lends, Kept, IsLaid}
-use Rattle.dp_heap.specs.Lists.{none, class_of, Linked, times, belong, Listed}
+use Rattle.dp_heap.specs.Elements.{end_of}
+use Rattle.dp_heap.specs.Laid.{elements_in, Laid, Lends, Kept, IsLaid}
+use Rattle.dp_heap.specs.Lists.{none, times, belong, Listed}
 use Rattle.dp_heap.proofs.Laid.{first_place, laid_bound, all_decoded}
 use Rattle.dp_heap.proofs.Headers.{element-number}
-use Rattle.dp_heap.proofs.Cut.{here, kept_here, e_bound}
+use Rattle.dp_heap.proofs.Cut.{kept_here, e_bound}
 use Rattle.dp_heap.proofs.Found.{e_header}
 use Rattle.dp_heap.proofs.Belong.{Member, member, single, once}
 use Rattle.dp_heap.proofs.Links.{head_in}

@@ -5,7 +5,8 @@
 use Rattle.std.specs.Prelude.{◌≡◌, ℕ, ◌+◌, ◌<◌, ◌≤◌, ◌⊎◌, List, [], ◌∷◌, ◌&&◌, length, slice_index, ◌==◌, nat_le, nat_lt, if◌then◌else◌}
 use Rattle.dp_region.specs.Region.{number_at, with_number}
 use Rattle.dp_heap.specs.declared.elements.Element.{Element}
-use Rattle.dp_heap.specs.Elements.{is_free, sum_of}
+use Rattle.dp_heap.specs.Elements.{is_free, sum_of, CanHold}
+use Rattle.dp_heap.specs.Edits.{IsIn}
 
 -- where a list ends
 abbrev pub none : ℕ
@@ -44,3 +45,7 @@ Listed xs heads es off =
 -- outside low up to high no word changes but the one at 12 of the header at high
 abbrev pub Outside : ℕ → ℕ → List ℕ → List ℕ → Type 0
 Outside low high xs ys = (q : ℕ) → q + 4 ≤ length xs → (q + 4 ≤ low) ⊎ (high ≤ q) → (q + 4 ≤ high + 12) ⊎ (high + 16 ≤ q) → number_at ys q 4 ≡ number_at xs q 4
+
+-- no element of the list c has a place for a block of n bytes, aligned to a
+abbrev pub NoneHolds : ℕ → ℕ → ℕ → List Element → Type 0
+NoneHolds c n a es = (e : Element) → IsIn e es → class_of e.size ≡ c → (d : ℕ) → ¬ CanHold e n a d

@@ -1,10 +1,10 @@
 //! The free elements in five lists, by size. They are linked through their headers: `specs/Lists.antt` says by which words.
-ghost use Rattle.std.specs.Prelude.{◌≡◌, ℕ, ◌+◌, ◌<◌, ◌≤◌, List, [], ◌∷◌, length, replicate, slice_index, MatchOption};
+ghost use Rattle.std.specs.Prelude.{◌≡◌, ℕ, ◌+◌, ◌^◌, ◌<◌, ◌≤◌, List, [], ◌∷◌, length, replicate, slice_index, MatchOption};
 ghost use Rattle.dp_region.specs.Region.{IsFree, number_at};
 ghost use Rattle.dp_heap.specs.Elements.{CanHold, NothingFits, IsHighest};
 ghost use Rattle.dp_heap.specs.Edits.{IsIn};
 ghost use Rattle.dp_heap.specs.Laid.{element_at, elements_in, IsLaid};
-ghost use Rattle.dp_heap.specs.Lists.{none, class_of, with_link, belong, Listed};
+ghost use Rattle.dp_heap.specs.Lists.{none, class_of, with_link, belong, Listed, NoneHolds};
 ghost use Rattle.dp_heap.specs.declared.elements.Element.{Element as Item};
 
 use crate::elements::{Element, State};
@@ -69,6 +69,63 @@ impl Lists {
             self.heads[class_of(e.size as u64)] = next;
         }
     }
+
+    // A free element that can hold a block, of the first list on that has one, and the highest place in it.
+    pub(crate) fn find(&self, region: &Region, len: u64, align: u64) -> Option<(Element, u32)>
+        requires laid { IsLaid region.now × Listed region.now.bytes self.now.heads (elements_in region.now.bytes) [] }
+        requires align { (64 ≤ align) × (align < 2 ^ 32) × (len < 2 ^ 33) }
+        ensures { MatchOption result (NothingFits len align (elements_in region.now.bytes)) (λ f. IsIn f.0 (elements_in region.now.bytes) × (f.0.state ≡ State.Free) × IsHighest f.0 len align f.1) }
+    {
+        let mut class = class_of(len + 64);
+        while class < 5 {
+            if let Some(found) = self.first_fit(region, class, len, align) {
+                return Some(found);
+            }
+            class += 1;
+        }
+        None
+    }
+
+    // The first element of a list that can hold a block, and the highest place in it.
+    fn first_fit(
+        &self,
+        region: &Region,
+        class: usize,
+        len: u64,
+        align: u64,
+    ) -> Option<(Element, u32)>
+        requires laid { IsLaid region.now × Listed region.now.bytes self.now.heads (elements_in region.now.bytes) [] }
+        requires align { (64 ≤ align) × (align < 2 ^ 32) × (len < 2 ^ 33) }
+        requires class { class < 5 }
+        ensures { MatchOption result (NoneHolds class len align (elements_in region.now.bytes)) (λ f. IsIn f.0 (elements_in region.now.bytes) × (f.0.state ≡ State.Free) × IsHighest f.0 len align f.1) }
+    {
+        let mut place = self.heads[class];
+        while place != NONE {
+            let e = read_header(region, place);
+            if let Some(at) = highest(&e, len, align) {
+                return Some((e, at));
+            }
+            place = region.load_u32(place + NEXT);
+        }
+        None
+    }
+}
+
+// The highest place for the data of a block, if there is one.
+fn highest(e: &Element, len: u64, align: u64) -> Option<u32>
+    requires align { (64 ≤ align) × (align < 2 ^ 32) }
+    requires bounds { (len < 2 ^ 33) × (e.now.place + e.now.size ≤ 1073741824) × (e.now.state ≡ State.Free) }
+    ensures { MatchOption result ((d : ℕ) → ¬ CanHold e.now len align d) (λ d. IsHighest e.now len align d) }
+{
+    let end = (e.place + e.size) as u64;
+    if end < len {
+        return None;
+    }
+    let at = (end - len) / align * align;
+    if at < e.place as u64 + 64 {
+        return None;
+    }
+    Some(at as u32)
 }
 
 // The list of the elements of this size.

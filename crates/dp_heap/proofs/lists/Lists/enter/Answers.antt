@@ -1,8 +1,4 @@
-use Rattle.std.proofs.Common.{◌∷◌, ◌<◌, List, length, subst, ap, sym, ◌∙◌, arith, inl}
-use Rattle.std.specs.Prelude.{slice_index, set}
-use Rattle.dp_heap.specs.declared.elements.Element.{Element as Item}
-use Rattle.dp_heap.specs.Laid.{elements_in}
-use Rattle.dp_heap.specs.Lists.{Listed}
+use Rattle.std.proofs.Common.{arith}
 use Rattle.dp_heap.proofs.Lent.{free_is}
 use Rattle.dp_heap.proofs.Enter.{own, first, long1, long2, entered_laid, entered}
 use Rattle.dp_heap.proofs.lists.Lists.enter.Goals as goal

@@ -1,6 +1,4 @@
-use Rattle.std.proofs.Common.{◌∷◌, ◌<◌, List, length, subst, ap, sym, ◌∙◌, arith, inl}
-use Rattle.std.specs.Prelude.{slice_index, set}
-use Rattle.dp_heap.proofs.Cut.{e_bound}
+use Rattle.std.proofs.Common.{sym, ◌∙◌, arith}
 use Rattle.dp_heap.proofs.Lent.{free_is}
 use Rattle.dp_heap.proofs.Leave.{own, u_header, v_header, long1, left_laid, left_first, left_later}
 use Rattle.dp_heap.proofs.lists.Lists.leave.Goals as goal
