@@ -1,7 +1,7 @@
 //! What a run counted, as it is printed.
 
 use arrayvec::ArrayVec;
-use dp_engine::{InputState, PoolReport, Report};
+use dp_plain::{InputState, PoolReport, Report};
 use std::fmt;
 
 /// How far an input was read: `whole`, `cut` with the place of the record that is cut, or `open`.

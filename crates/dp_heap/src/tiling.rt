@@ -3,19 +3,23 @@ ghost use Rattle.std.specs.Prelude.{◌≡◌, ◌+◌, ◌-◌, ◌%◌, ◌<�
 ghost use Rattle.dp_heap.specs.Elements.{joined, end_of, both, spare, pieces};
 ghost use Rattle.dp_heap.specs.Edits.{onto, Emptied, lower, upper, marked, below, above, IsIn, Replaces};
 ghost use Rattle.dp_heap.specs.Laid.{elements_in, IsLaid, IsHeap};
+ghost use Rattle.dp_heap.specs.Lists.{Listed, Outside};
 ghost use Rattle.dp_heap.specs.declared.elements.Element.{Element as Item};
 
 use crate::elements::{Element, State};
 use crate::header::{read_header, read_pad, write_back, write_header, write_pad};
+use crate::lists::Lists;
 use dp_region::{Block, Region};
 
 // The header of `e` becomes that of its bytes below `mid`, and those from there on are an element of their own.
-fn cut(region: &mut Region, e: &Element, mid: u32)
+fn cut(region: &mut Region, e: &Element, mid: u32) -> (Element, Element)
     requires laid { IsLaid region.old × IsIn e.now (elements_in region.old.bytes) }
     requires free { e.now.state ≡ State.Free }
     requires inside { (mid % 64 ≡ 0) × (e.now.place + 64 ≤ mid) × (mid + 64 ≤ end_of e.now) }
+    ensures parts { result ≡ (lower e.now mid, upper e.now mid) }
     ensures laid { IsLaid region.new }
     ensures home { region.new.home ≡ region.old.home }
+    ensures outside { Outside e.now.place (end_of e.now) region.old.bytes region.new.bytes }
     ensures pieces { Replaces e.now (lower e.now mid ∷ upper e.now mid ∷ []) (elements_in region.old.bytes) (elements_in region.new.bytes) }
 {
     let end = e.place + e.size;
@@ -23,9 +27,22 @@ fn cut(region: &mut Region, e: &Element, mid: u32)
     write_back(region, mid, mid - e.place);
     write_header(region, e.place, mid - e.place, State::Free, 0);
     write_back(region, end, end - mid);
+    (
+        Element {
+            size: mid - e.place,
+            pad: 0,
+            ..*e
+        },
+        Element {
+            place: mid,
+            size: end - mid,
+            pad: 0,
+            ..*e
+        },
+    )
 }
 
-// `e`, which is free, holds a block of `len` bytes at `at` from now on.
+// `e`, which is free and in no list, holds a block of `len` bytes at `at` from now on.
 fn mark(region: &mut Region, e: &Element, at: u32, len: u32) -> Block
     requires laid { IsLaid region.old × IsIn e.now (elements_in region.old.bytes) }
     requires free { e.now.state ≡ State.Free }
@@ -33,6 +50,7 @@ fn mark(region: &mut Region, e: &Element, at: u32, len: u32) -> Block
     ensures block { (result.home ≡ region.old.home) × (result.place ≡ at) × (length result.bytes ≡ len) }
     ensures laid { IsLaid region.new }
     ensures home { region.new.home ≡ region.old.home }
+    ensures outside { Outside e.now.place (end_of e.now) region.old.bytes region.new.bytes }
     ensures pieces { Replaces e.now (marked e.now at ∷ []) (elements_in region.old.bytes) (elements_in region.new.bytes) }
 {
     let pad = at - 64 - e.place;
@@ -41,71 +59,72 @@ fn mark(region: &mut Region, e: &Element, at: u32, len: u32) -> Block
     region.lend(at, len)
 }
 
-// `e`, which is free, loses what lies from `end` on, where that is more than 128 bytes.
-fn trim_end(region: &mut Region, e: Element, end: u32) -> Element
+// `e`, which is free and in no list, loses what lies from `end` on, where that is more than 128 bytes.
+fn trim_end(region: &mut Region, lists: &mut Lists, e: Element, end: u32) -> Element
     requires laid { IsLaid region.old × IsIn e (elements_in region.old.bytes) }
     requires free { e.state ≡ State.Free }
+    requires listed { Listed region.old.bytes lists.old.heads (elements_in region.old.bytes) (e ∷ []) }
     requires inside { (e.place + 64 ≤ end) × (end ≤ end_of e) × (end % 64 ≡ 0) }
     ensures left { result ≡ below e end }
     ensures laid { IsLaid region.new }
     ensures home { region.new.home ≡ region.old.home }
+    ensures listed { Listed region.new.bytes lists.new.heads (elements_in region.new.bytes) (result ∷ []) }
     ensures pieces { Replaces e (below e end ∷ spare end (end_of e - end)) (elements_in region.old.bytes) (elements_in region.new.bytes) }
 {
     if e.place + e.size - end <= 128 {
         return e;
     }
-    cut(region, &e, end);
-    Element {
-        size: end - e.place,
-        pad: 0,
-        ..e
-    }
+    let (rest, spare) = cut(region, &e, end);
+    lists.enter(region, &spare);
+    rest
 }
 
-// `e`, which is free, loses what lies before `start`, where that is more than 128 bytes.
-fn trim_start(region: &mut Region, e: Element, start: u32) -> Element
+// `e`, which is free and in no list, loses what lies before `start`, where that is more than 128 bytes.
+fn trim_start(region: &mut Region, lists: &mut Lists, e: Element, start: u32) -> Element
     requires laid { IsLaid region.old × IsIn e (elements_in region.old.bytes) }
     requires free { e.state ≡ State.Free }
+    requires listed { Listed region.old.bytes lists.old.heads (elements_in region.old.bytes) (e ∷ []) }
     requires inside { (e.place ≤ start) × (start + 64 ≤ end_of e) × (start % 64 ≡ 0) }
     ensures left { result ≡ above e start }
     ensures laid { IsLaid region.new }
     ensures home { region.new.home ≡ region.old.home }
+    ensures listed { Listed region.new.bytes lists.new.heads (elements_in region.new.bytes) (result ∷ []) }
     ensures pieces { Replaces e (spare e.place (start - e.place) ++ above e start ∷ []) (elements_in region.old.bytes) (elements_in region.new.bytes) }
 {
     if start - e.place <= 128 {
         return e;
     }
-    cut(region, &e, start);
-    Element {
-        place: start,
-        size: e.place + e.size - start,
-        pad: 0,
-        ..e
-    }
+    let (spare, rest) = cut(region, &e, start);
+    lists.enter(region, &spare);
+    rest
 }
 
 // A block of `len` bytes at `at` is taken from `e`, which is free.
-pub(crate) fn take(region: &mut Region, e: Element, at: u32, len: u32) -> Block
+pub(crate) fn take(region: &mut Region, lists: &mut Lists, e: Element, at: u32, len: u32) -> Block
     requires heap { IsHeap region.old × IsIn e (elements_in region.old.bytes) }
     requires free { e.state ≡ State.Free }
+    requires listed { Listed region.old.bytes lists.old.heads (elements_in region.old.bytes) [] }
     requires inside { (0 < len) × (e.place + 64 ≤ at) × (at + len ≤ end_of e) }
     requires steps { (at % 64 ≡ 0) × (len % 64 ≡ 0) }
     ensures block { (result.home ≡ region.old.home) × (result.place ≡ at) × (length result.bytes ≡ len) }
     ensures heap { IsHeap region.new }
     ensures home { region.new.home ≡ region.old.home }
+    ensures listed { Listed region.new.bytes lists.new.heads (elements_in region.new.bytes) [] }
     ensures pieces { Replaces e (pieces e len at) (elements_in region.old.bytes) (elements_in region.new.bytes) }
 {
-    let low = trim_end(region, e, at + len);
-    let mid = trim_start(region, low, at - 64);
+    lists.leave(region, &e);
+    let low = trim_end(region, lists, e, at + len);
+    let mid = trim_start(region, lists, low, at - 64);
     mark(region, &mid, at, len)
 }
 
-// The block goes back. Its element is found by the header before the data, and becomes free.
+// The block goes back. Its element is found by the header before the data, and becomes free. It is in no list yet.
 pub(crate) fn unmark(region: &mut Region, block: Block) -> Element
     requires laid { IsLaid region.old }
     requires block { block.home ≡ region.old.home }
     ensures laid { IsLaid region.new }
     ensures home { region.new.home ≡ region.old.home }
+    ensures outside { Outside result.place (end_of result) region.old.bytes region.new.bytes }
     ensures emptied { Emptied block.place result (elements_in region.old.bytes) (elements_in region.new.bytes) }
 {
     let at = block.place();
@@ -120,7 +139,7 @@ pub(crate) fn unmark(region: &mut Region, block: Block) -> Element
     }
 }
 
-// Two free neighbours become one element.
+// Two free neighbours, which are in no list, become one element.
 fn join(region: &mut Region, x: Element, y: Element) -> Element
     requires laid { IsLaid region.old }
     requires here { (before : List Item) × (after : List Item) × (elements_in region.old.bytes ≡ before ++ x ∷ y ∷ after) }
@@ -128,6 +147,7 @@ fn join(region: &mut Region, x: Element, y: Element) -> Element
     ensures whole { result ≡ both x y }
     ensures laid { IsLaid region.new }
     ensures home { region.new.home ≡ region.old.home }
+    ensures outside { Outside x.place (end_of result) region.old.bytes region.new.bytes }
     ensures pieces { (before after : List Item) → elements_in region.old.bytes ≡ before ++ x ∷ y ∷ after → elements_in region.new.bytes ≡ before ++ both x y ∷ after }
 {
     let size = x.size + y.size;
@@ -136,13 +156,15 @@ fn join(region: &mut Region, x: Element, y: Element) -> Element
     Element { size, pad: 0, ..x }
 }
 
-// `e`, which is free, is joined to the element above it where that is free.
-pub(crate) fn join_above(region: &mut Region, e: Element) -> Element
+// `e`, which is free and in no list, is joined to the element above it where that is free.
+pub(crate) fn join_above(region: &mut Region, lists: &mut Lists, e: Element) -> Element
     requires laid { IsLaid region.old × IsIn e (elements_in region.old.bytes) }
     requires free { e.state ≡ State.Free }
+    requires listed { Listed region.old.bytes lists.old.heads (elements_in region.old.bytes) (e ∷ []) }
     ensures laid { IsLaid region.new }
     ensures home { region.new.home ≡ region.old.home }
     ensures free { result.state ≡ State.Free }
+    ensures listed { Listed region.new.bytes lists.new.heads (elements_in region.new.bytes) (result ∷ []) }
     ensures pieces { (before after : List Item) → elements_in region.old.bytes ≡ before ++ e ∷ after → (rest : List Item) × (joined e after ≡ result ∷ rest) × (elements_in region.new.bytes ≡ before ++ result ∷ rest) }
 {
     let end = e.place + e.size;
@@ -151,25 +173,33 @@ pub(crate) fn join_above(region: &mut Region, e: Element) -> Element
     }
     let above = read_header(region, end);
     match above.state {
-        State::Free => join(region, e, above),
+        State::Free => {
+            lists.leave(region, &above);
+            join(region, e, above)
+        }
         State::Busy => e,
     }
 }
 
-// `e`, which is free, is joined to the element below it where that is free.
-pub(crate) fn join_below(region: &mut Region, e: Element)
+// `e`, which is free and in no list, is joined to the element below it where that is free.
+pub(crate) fn join_below(region: &mut Region, lists: &mut Lists, e: Element) -> Element
     requires laid { IsLaid region.old × IsIn e (elements_in region.old.bytes) }
     requires free { e.state ≡ State.Free }
-    ensures laid { IsLaid region.new }
+    requires listed { Listed region.old.bytes lists.old.heads (elements_in region.old.bytes) (e ∷ []) }
+    ensures laid { IsLaid region.new × IsIn result (elements_in region.new.bytes) }
     ensures home { region.new.home ≡ region.old.home }
+    ensures free { result.state ≡ State.Free }
+    ensures listed { Listed region.new.bytes lists.new.heads (elements_in region.new.bytes) (result ∷ []) }
     ensures pieces { (before after : List Item) → elements_in region.old.bytes ≡ before ++ e ∷ after → elements_in region.new.bytes ≡ onto before (e ∷ after) }
 {
     if e.place == 0 {
-        return;
+        return e;
     }
     let size = region.load_u32(e.place + 12);
     let below = read_header(region, e.place - size);
     if let State::Free = below.state {
-        join(region, below, e);
+        lists.leave(region, &below);
+        return join(region, below, e);
     }
+    e
 }

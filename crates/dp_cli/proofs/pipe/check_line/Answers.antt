@@ -1,6 +1,6 @@
 -- One line more.
 use Rattle.std.proofs.Common.{◌≡◌, ◌∷◌, ◌++◌, [], ap, codes}
-use Rattle.dp_engine.proofs.Writing.{appends_piece}
+use Rattle.dp_plain.proofs.Writing.{appends_piece}
 use Rattle.dp_pipe.specs.Causes.{node_text}
 use Rattle.dp_cli.specs.Pipe.{accepted_line}
 use Rattle.dp_cli.proofs.pipe.check_line.Goals as goal

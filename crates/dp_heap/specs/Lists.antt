@@ -1,0 +1,51 @@
+-- The free elements stand in five lists, by size. A list is linked by words of its elements' headers, each a number of 4 bytes: a place, or `none`.
+--
+--  16  the next element of the list
+--  20  the one before it
+use Rattle.std.specs.Prelude.{◌≡◌, ℕ, ◌+◌, ◌<◌, ◌≤◌, ◌⊎◌, List, [], ◌∷◌, ◌&&◌, length, slice_index, ◌==◌, nat_le, nat_lt, if◌then◌else◌}
+use Rattle.dp_region.specs.Region.{number_at, with_number}
+use Rattle.dp_heap.specs.declared.elements.Element.{Element}
+use Rattle.dp_heap.specs.Elements.{is_free, sum_of, CanHold}
+use Rattle.dp_heap.specs.Edits.{IsIn}
+
+-- where a list ends
+abbrev pub none : ℕ
+none = 4294967295
+
+-- the list of the elements of this size: up to 256 bytes, 1,024, 4,096, 16,384, and above
+abbrev pub class_of : ℕ → ℕ
+class_of n = if nat_le n 256 then 0 else if nat_le n 1024 then 1 else if nat_le n 4096 then 2 else if nat_le n 16384 then 3 else 4
+
+-- xs with a place in the word k of the header at p, where there is one
+abbrev pub with_link : List ℕ → ℕ → ℕ → ℕ → List ℕ
+with_link xs k p place = if nat_lt p (length xs) then with_number xs (p + k) 4 place else xs
+
+-- ps follow one another from `head` on, and `before` stands before them
+abbrev pub Linked : List ℕ → ℕ → ℕ → List ℕ → Type 0
+Linked xs before head [] = head ≡ none
+Linked xs before head (p ∷ ps) = (head ≡ p) × (number_at xs (p + 20) 4 ≡ before) × Linked xs p (number_at xs (p + 16) 4) ps
+
+-- how often p is among them
+abbrev pub times : ℕ → List ℕ → ℕ
+times p [] = 0
+times p (q ∷ ps) = (if q == p then 1 else 0) + times p ps
+
+-- how many of es stand at p and belong to the list c
+abbrev pub belongs : ℕ → ℕ → Element → ℕ
+belongs c p e = if is_free e && ((class_of e.size == c) && (e.place == p)) then 1 else 0
+
+abbrev pub belong : ℕ → ℕ → List Element → ℕ
+belong c p = sum_of (belongs c p)
+
+-- the lists that begin at `heads` have the free ones of es, each once and in the list of its size, but for those of `off`
+abbrev pub Listed : List ℕ → List ℕ → List Element → List Element → Type 0
+Listed xs heads es off =
+    (lists : ℕ → List ℕ) × (length heads ≡ 5) × ((c : ℕ) → c < 5 → Linked xs none (slice_index heads c) (lists c)) × ((c p : ℕ) → times p (lists c) + belong c p off ≡ belong c p es)
+
+-- outside low up to high no word changes but the one at 12 of the header at high
+abbrev pub Outside : ℕ → ℕ → List ℕ → List ℕ → Type 0
+Outside low high xs ys = (q : ℕ) → q + 4 ≤ length xs → (q + 4 ≤ low) ⊎ (high ≤ q) → (q + 4 ≤ high + 12) ⊎ (high + 16 ≤ q) → number_at ys q 4 ≡ number_at xs q 4
+
+-- no element of the list c has a place for a block of n bytes, aligned to a
+abbrev pub NoneHolds : ℕ → ℕ → ℕ → List Element → Type 0
+NoneHolds c n a es = (e : Element) → IsIn e es → class_of e.size ≡ c → (d : ℕ) → ¬ CanHold e n a d

@@ -1,0 +1,156 @@
+//! The free elements in five lists, by size. They are linked through their headers: `specs/Lists.antt` says by which words.
+ghost use Rattle.std.specs.Prelude.{◌≡◌, ℕ, ◌+◌, ◌^◌, ◌<◌, ◌≤◌, List, [], ◌∷◌, length, replicate, slice_index, MatchOption};
+ghost use Rattle.dp_region.specs.Region.{IsFree, number_at};
+ghost use Rattle.dp_heap.specs.Elements.{CanHold, NothingFits, IsHighest};
+ghost use Rattle.dp_heap.specs.Edits.{IsIn};
+ghost use Rattle.dp_heap.specs.Laid.{element_at, elements_in, IsLaid};
+ghost use Rattle.dp_heap.specs.Lists.{none, class_of, with_link, belong, Listed, NoneHolds};
+ghost use Rattle.dp_heap.specs.declared.elements.Element.{Element as Item};
+
+use crate::elements::{Element, State};
+use crate::header::read_header;
+use dp_region::Region;
+
+// Where a list ends.
+const NONE: u32 = u32::MAX;
+
+// The words of a header that link it.
+const NEXT: u32 = 16;
+
+const BEFORE: u32 = 20;
+
+// The places of the lists' first elements.
+#[derive(Clone, Copy, Drop)]
+pub(crate) struct Lists {
+    heads: [u32; 5],
+}
+
+impl Lists {
+    // Lists with nothing in them.
+    pub(crate) fn new() -> Lists
+        ensures { result.heads ≡ replicate 5 none }
+    {
+        Lists { heads: [NONE; 5] }
+    }
+
+    // `e`, which is free, comes to the front of its list.
+    pub(crate) fn enter(&mut self, region: &mut Region, e: &Element)
+        requires laid { IsLaid region.old × IsIn e.now (elements_in region.old.bytes) }
+        requires free { e.now.state ≡ State.Free }
+        requires off { (off : List Item) × Listed region.old.bytes self.old.heads (elements_in region.old.bytes) (e.now ∷ off) }
+        ensures laid { IsLaid region.new }
+        ensures home { region.new.home ≡ region.old.home }
+        ensures same { elements_in region.new.bytes ≡ elements_in region.old.bytes }
+        ensures listed { (off : List Item) → Listed region.old.bytes self.old.heads (elements_in region.old.bytes) (e.now ∷ off) → Listed region.new.bytes self.new.heads (elements_in region.new.bytes) off }
+    {
+        let class = class_of(e.size as u64);
+        let first = self.heads[class];
+        write_link(region, NEXT, e.place, first);
+        write_link(region, BEFORE, e.place, NONE);
+        write_link(region, BEFORE, first, e.place);
+        self.heads[class] = e.place;
+    }
+
+    // `e`, which is free and in its list, leaves that.
+    pub(crate) fn leave(&mut self, region: &mut Region, e: &Element)
+        requires laid { IsLaid region.old × IsIn e.now (elements_in region.old.bytes) }
+        requires free { e.now.state ≡ State.Free }
+        requires listed { (off : List Item) × Listed region.old.bytes self.old.heads (elements_in region.old.bytes) off × (belong (class_of e.now.size) e.now.place off ≡ 0) }
+        ensures laid { IsLaid region.new }
+        ensures home { region.new.home ≡ region.old.home }
+        ensures same { elements_in region.new.bytes ≡ elements_in region.old.bytes }
+        ensures off { (off : List Item) → Listed region.old.bytes self.old.heads (elements_in region.old.bytes) off → belong (class_of e.now.size) e.now.place off ≡ 0 → Listed region.new.bytes self.new.heads (elements_in region.new.bytes) (e.now ∷ off) }
+    {
+        let next = region.load_u32(e.place + NEXT);
+        let before = region.load_u32(e.place + BEFORE);
+        write_link(region, NEXT, before, next);
+        write_link(region, BEFORE, next, before);
+        if before == NONE {
+            self.heads[class_of(e.size as u64)] = next;
+        }
+    }
+
+    // A free element that can hold a block, of the first list on that has one, and the highest place in it.
+    pub(crate) fn find(&self, region: &Region, len: u64, align: u64) -> Option<(Element, u32)>
+        requires laid { IsLaid region.now × Listed region.now.bytes self.now.heads (elements_in region.now.bytes) [] }
+        requires align { (64 ≤ align) × (align < 2 ^ 32) × (len < 2 ^ 33) }
+        ensures { MatchOption result (NothingFits len align (elements_in region.now.bytes)) (λ f. IsIn f.0 (elements_in region.now.bytes) × (f.0.state ≡ State.Free) × IsHighest f.0 len align f.1) }
+    {
+        let mut class = class_of(len + 64);
+        while class < 5 {
+            if let Some(found) = self.first_fit(region, class, len, align) {
+                return Some(found);
+            }
+            class += 1;
+        }
+        None
+    }
+
+    // The first element of a list that can hold a block, and the highest place in it.
+    fn first_fit(
+        &self,
+        region: &Region,
+        class: usize,
+        len: u64,
+        align: u64,
+    ) -> Option<(Element, u32)>
+        requires laid { IsLaid region.now × Listed region.now.bytes self.now.heads (elements_in region.now.bytes) [] }
+        requires align { (64 ≤ align) × (align < 2 ^ 32) × (len < 2 ^ 33) }
+        requires class { class < 5 }
+        ensures { MatchOption result (NoneHolds class len align (elements_in region.now.bytes)) (λ f. IsIn f.0 (elements_in region.now.bytes) × (f.0.state ≡ State.Free) × IsHighest f.0 len align f.1) }
+    {
+        let mut place = self.heads[class];
+        while place != NONE {
+            let e = read_header(region, place);
+            if let Some(at) = highest(&e, len, align) {
+                return Some((e, at));
+            }
+            place = region.load_u32(place + NEXT);
+        }
+        None
+    }
+}
+
+// The highest place for the data of a block, if there is one.
+fn highest(e: &Element, len: u64, align: u64) -> Option<u32>
+    requires align { (64 ≤ align) × (align < 2 ^ 32) }
+    requires bounds { (len < 2 ^ 33) × (e.now.place + e.now.size ≤ 1073741824) × (e.now.state ≡ State.Free) }
+    ensures { MatchOption result ((d : ℕ) → ¬ CanHold e.now len align d) (λ d. IsHighest e.now len align d) }
+{
+    let end = (e.place + e.size) as u64;
+    if end < len {
+        return None;
+    }
+    let at = (end - len) / align * align;
+    if at < e.place as u64 + 64 {
+        return None;
+    }
+    Some(at as u32)
+}
+
+// The list of the elements of this size.
+fn class_of(size: u64) -> usize
+    ensures { result ≡ class_of size }
+{
+    if size <= 256 {
+        0
+    } else if size <= 1024 {
+        1
+    } else if size <= 4096 {
+        2
+    } else if size <= 16384 {
+        3
+    } else {
+        4
+    }
+}
+
+// A place in the word `word` of the header at `at`, where there is one.
+fn write_link(region: &mut Region, word: u32, at: u32, place: u32)
+    requires { (at < length region.old.bytes → IsFree region.old at 64) × (word ≤ 60) × (length region.old.bytes ≤ 1073741824) }
+    ensures { region.new ≡ record region.old { bytes = with_link region.old.bytes word at place } }
+{
+    if at < region.size() {
+        region.store_u32(at + word, place);
+    }
+}

@@ -1,0 +1,111 @@
+-- A record that comes to a machine that rests.
+use Rattle.std.proofs.Common.{◌≡◌, ℕ, ◌+◌, ◌<◌, ◌≤◌, Bool, true, false, ◌||◌, List, [], ◌∷◌, length, replicate, Option, Some, None, refl, sym, ◌∙◌, ap, subst, arith, nat_eq, nat_lt}
+use Rattle.std.specs.Prelude.{slice_get, slice_set}
+use Rattle.std.specs.List.{list_any, AllByRecursion}
+use Rattle.dp_model.specs.Environments.{room_at}
+use Rattle.dp_model.specs.Buffers.{Buffers}
+use Rattle.dp_model.specs.Packets.{Packet, available, needed, received}
+use Rattle.dp_model.specs.Machine.{Setting, State, live, is_denied}
+use Rattle.dp_model.specs.Runs.{first_state, between}
+use Rattle.dp_model.proofs.Refs.{get_set_same}
+use Rattle.dp_model.specs.Stores.{Store, segments_of, ReceivesInto}
+use Rattle.dp_plain.specs.Handles.{held_of, packet_at, handles_held, occurs, in_slot, StandOnce, Core, core_of, Ran, ran}
+use Rattle.dp_plain.specs.Turns.{IsReceived}
+use Rattle.dp_plain.proofs.Handles.{not_there, slot_filled}
+use Rattle.dp_plain.proofs.Counts.{CountSame, idle_handles, idle_counts, available_same, fresh_same}
+
+pub record Idle (slots : List (Option Packet)) (registers : List (Option ℕ)) (outbox : List ℕ) : Type 0 where
+  pub empty : handles_held registers ≡ []
+  pub each : (h : ℕ) → occurs h outbox ≡ in_slot (slice_get slots h)
+
+pub idle_of : (s : Store) (room : ℕ) (registers : List (Option ℕ)) (numbers outbox : List ℕ) (calls : ℕ) (steps : Ran) (core : Core) → core_of s room registers numbers outbox calls steps ≡ core → StandOnce s.slots registers outbox → AllByRecursion (λ o. o ≡ None) core.state.packets → Idle s.slots registers outbox
+idle_of s room registers numbers outbox calls steps core is stand idle =
+    let empty : handles_held registers ≡ [] = idle_handles s.slots registers (subst (λ (c : Core). AllByRecursion (λ o. o ≡ None) c.state.packets) (sym is) idle) in
+    record {
+      empty = empty;
+      each = λ h. (let none : occurs h (handles_held registers) ≡ 0 = ap (occurs h) empty in omega (arith, none, stand h));
+    }
+
+pub live_same : (s : Store) (room : ℕ) (registers : List (Option ℕ)) (numbers outbox : List ℕ) (calls : ℕ) (steps : Ran) (core : Core) → core_of s room registers numbers outbox calls steps ≡ core → Idle s.slots registers outbox → CountSame (live (between core.state.world)) (segments_of s)
+live_same s room registers numbers outbox calls steps core is idle =
+    subst (λ (c : Core). CountSame (live (between c.state.world)) (segments_of s)) is (idle_counts s.slots outbox idle.each)
+
+pub stand_received : (slots : List (Option Packet)) (registers : List (Option ℕ)) (outbox : List ℕ) (h : ℕ) (k : Packet) → Idle slots registers outbox → slice_get slots h ≡ Some None → StandOnce (slice_set slots h (Some k)) (Some h ∷ replicate 7 None) outbox
+stand_received slots registers outbox h k idle free x = omega (arith, idle.each x, slot_filled slots h x k free)
+
+pub state_received : (s : Store) (room : ℕ) (registers : List (Option ℕ)) (numbers outbox : List ℕ) (calls : ℕ) (steps : Ran) (core : Core) (port h : ℕ) (k : Packet) (buffers : Buffers) → core_of s room registers numbers outbox calls steps ≡ core → Idle s.slots registers outbox → slice_get s.slots h ≡ Some None
+    → (core_of (record s { buffers = buffers; slots = slice_set s.slots h (Some k) }) room (Some h ∷ replicate 7 None) (port ∷ replicate 7 0) outbox (calls + 1) (ran steps.steps steps.cuts 0)).state ≡ first_state k port (record core.state.world { buffers = buffers; calls = core.state.world.calls + 1 })
+state_received s room registers numbers outbox calls steps core port h k buffers is idle free =
+    let here : packet_at (slice_set s.slots h (Some k)) h ≡ k = ap held_of (get_set_same s.slots h (Some k) None free) in
+    let none : occurs h outbox ≡ 0 = idle.each h ∙ ap in_slot free in
+    let f = not_there s.slots h (Some k) outbox none in
+    subst (λ (c : Core). (core_of (record s { buffers = buffers; slots = slice_set s.slots h (Some k) }) room (Some h ∷ replicate 7 None) (port ∷ replicate 7 0) outbox (calls + 1) (ran steps.steps steps.cuts 0)).state ≡ first_state k port (record c.state.world { buffers = buffers; calls = c.state.world.calls + 1 })) is
+    (rw (f, here) refl)
+
+-- ---- what the layer answers, and what that is for a machine
+
+or_false : (a b : Bool) → a ≡ false → b ≡ false → (a || b) ≡ false
+or_false false b e f = f
+or_false true b e f = cc
+
+or_right : (a b : Bool) → a ≡ false → b ≡ true → (a || b) ≡ true
+or_right false b e f = f
+or_right true b e f = cc
+
+lt_false : (a b : ℕ) → b ≤ a → nat_lt a b ≡ false
+lt_false a b le = search (arith, le)
+
+lt_true : (a b : ℕ) → a < b → nat_lt a b ≡ true
+lt_true a b lt = search (arith, lt)
+
+pub not_denied : (c : Setting) (s : Store) (state : State) (pool need : ℕ) → s.pools ≡ c.env.pools → CountSame (live state) (segments_of s) → list_any (nat_eq (state.world.calls + 1)) c.pattern ≡ false → need ≤ available s.pools (segments_of s) pool → is_denied c state pool need ≡ false
+not_denied c s state pool need pools same listed le =
+    or_false _ _ listed (lt_false (available c.env.pools (live state) pool) need (rw (available_same c.env.pools (live state) (segments_of s) pool same, ← pools) le))
+
+pub denied : (c : Setting) (s : Store) (state : State) (pool need : ℕ) → s.pools ≡ c.env.pools → CountSame (live state) (segments_of s) → list_any (nat_eq (state.world.calls + 1)) c.pattern ≡ false → available s.pools (segments_of s) pool < need → is_denied c state pool need ≡ true
+denied c s state pool need pools same listed lt =
+    or_right _ _ listed (lt_true (available c.env.pools (live state) pool) need (rw (available_same c.env.pools (live state) (segments_of s) pool same, ← pools) lt))
+
+pub calls_of : (s : Store) (room : ℕ) (registers : List (Option ℕ)) (numbers outbox : List ℕ) (calls : ℕ) (steps : Ran) (core : Core) → core_of s room registers numbers outbox calls steps ≡ core → calls ≡ core.state.world.calls
+calls_of s room registers numbers outbox calls steps core is = ap (λ (c : Core). c.state.world.calls) is
+
+pub pools_of : (s : Store) (room : ℕ) (registers : List (Option ℕ)) (numbers outbox : List ℕ) (calls : ℕ) (steps : Ran) (core : Core) → core_of s room registers numbers outbox calls steps ≡ core → s.pools ≡ core.pools
+pools_of s room registers numbers outbox calls steps core is = ap (λ (c : Core). c.pools) is
+
+pub buffers_of : (s : Store) (room : ℕ) (registers : List (Option ℕ)) (numbers outbox : List ℕ) (calls : ℕ) (steps : Ran) (core : Core) → core_of s room registers numbers outbox calls steps ≡ core → s.buffers ≡ core.state.world.buffers
+buffers_of s room registers numbers outbox calls steps core is = ap (λ (c : Core). c.state.world.buffers) is
+
+-- a machine behind a call that was given
+pub record Given (c : Setting) (s' : Store) (room : ℕ) (registers : List (Option ℕ)) (outbox : List ℕ) (calls : ℕ) (steps : Ran) (core : Core) (pool port h : ℕ) (bytes : List ℕ) : Type 0 where
+  pub stand : StandOnce s'.slots (Some h ∷ replicate 7 None) outbox
+  pub state : IsReceived c pool port bytes core.state.world (core_of s' room (Some h ∷ replicate 7 None) (port ∷ replicate 7 0) outbox (calls + 1) (ran steps.steps steps.cuts 0)).state
+  pub pools : s'.pools ≡ core.pools
+  pub allowed : list_any (nat_eq (calls + 1)) c.pattern ≡ false → is_denied c (between core.state.world) pool (needed c.env.pools pool (length bytes)) ≡ false
+
+pub given : (c : Setting) (s s' : Store) (room : ℕ) (registers : List (Option ℕ)) (numbers outbox : List ℕ) (calls : ℕ) (steps : Ran) (core : Core) (pool port h : ℕ) (bytes : List ℕ) → core_of s room registers numbers outbox calls steps ≡ core → StandOnce s.slots registers outbox → AllByRecursion (λ o. o ≡ None) core.state.packets → core.pools ≡ c.env.pools → ReceivesInto s pool bytes s' (Some h) → Given c s' room registers outbox calls steps core pool port h bytes
+given c s s' room registers numbers outbox calls steps core pool port h bytes is stand rests pools (le, free, ns, buffers, fresh, filled, becomes) =
+    let idle = idle_of s room registers numbers outbox calls steps core is stand rests in
+    let same = live_same s room registers numbers outbox calls steps core is idle in
+    let of_env : s.pools ≡ c.env.pools = pools_of s room registers numbers outbox calls steps core is ∙ pools in
+    let k : Packet = received (room_at s.pools pool) ns (length bytes) in
+    let is_calls = calls_of s room registers numbers outbox calls steps core is in
+    record {
+      stand = rw becomes (stand_received s.slots registers outbox h k idle free);
+      state = record {
+        numbers = ns;
+        buffers = buffers;
+        fresh = rw (← of_env) (fresh_same s.pools (segments_of s) (live (between core.state.world)) pool (needed s.pools pool (length bytes)) ns (λ f. sym (same f)) fresh);
+        filled = rw (← of_env, ← buffers_of s room registers numbers outbox calls steps core is) filled;
+        state = rw (← of_env, becomes) (state_received s room registers numbers outbox calls steps core port h k buffers is idle free);
+      };
+      pools = ap (λ (x : Store). x.pools) becomes ∙ pools_of s room registers numbers outbox calls steps core is;
+      allowed = λ listed. not_denied c s (between core.state.world) pool (needed c.env.pools pool (length bytes)) of_env same (rw (← is_calls) listed) (rw (← of_env) le);
+    }
+
+pub refused : (c : Setting) (s s' : Store) (room : ℕ) (registers : List (Option ℕ)) (numbers outbox : List ℕ) (calls : ℕ) (steps : Ran) (core : Core) (pool : ℕ) (bytes : List ℕ) → core_of s room registers numbers outbox calls steps ≡ core → StandOnce s.slots registers outbox → AllByRecursion (λ o. o ≡ None) core.state.packets → core.pools ≡ c.env.pools → list_any (nat_eq (calls + 1)) c.pattern ≡ false → ReceivesInto s pool bytes s' None → is_denied c (between core.state.world) pool (needed c.env.pools pool (length bytes)) ≡ true
+refused c s s' room registers numbers outbox calls steps core pool bytes is stand rests pools listed (less, becomes) =
+    let idle = idle_of s room registers numbers outbox calls steps core is stand rests in
+    let same = live_same s room registers numbers outbox calls steps core is idle in
+    let of_env : s.pools ≡ c.env.pools = pools_of s room registers numbers outbox calls steps core is ∙ pools in
+    let is_calls = calls_of s room registers numbers outbox calls steps core is in
+    denied c s (between core.state.world) pool (needed c.env.pools pool (length bytes)) of_env same (rw (← is_calls) listed) (rw (← of_env) less)

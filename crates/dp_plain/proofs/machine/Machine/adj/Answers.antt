@@ -1,0 +1,26 @@
+use Rattle.dp_plain.proofs.Handles.{stand_changed}
+use Rattle.dp_plain.proofs.Machines.{resizes}
+use Rattle.dp_plain.proofs.Registers.{handle, held}
+use Rattle.dp_plain.proofs.machine.Machine.adj.Goals as goal
+
+pub adj-requires : goal.adj-requires
+adj-requires g c =
+    let (k, holds, le) = c.requires in
+    let there = held _ _ _ _ _ _ _ _ c.args.p c.handle_in-packet.result k c.self.view_is c.self.invariant c.handle_in-packet.ensures holds in
+    (k, there.has, le)
+
+pub invariant_of-self : goal.invariant_of-self
+invariant_of-self g c =
+    let (k, holds, le) = c.requires in
+    let there = held _ _ _ _ _ _ _ _ c.args.p c.handle_in-packet.result k c.self.view_is c.self.invariant c.handle_in-packet.ensures holds in
+    rw (c.adj.ensures k there.has) (stand_changed _ c.self.inside.registers c.self.inside.outbox.items c.handle_in-packet.result k _ there.has c.self.invariant)
+
+pub handle_in-packet-requires : goal.handle_in-packet-requires
+handle_in-packet-requires g c =
+    let (k, holds, le) = c.requires in
+    handle _ _ _ _ _ _ _ _ c.args.p k c.self.view_is holds
+
+pub returns : goal.returns
+returns g c k holds =
+    let there = held _ _ _ _ _ _ _ _ c.args.p c.handle_in-packet.result k c.self.view_is c.self.invariant c.handle_in-packet.ensures holds in
+    rw (c.adj.ensures k there.has) (resizes _ _ _ _ _ _ _ _ c.args.p c.handle_in-packet.result k _ c.self.view_is there)

@@ -1,0 +1,26 @@
+use Rattle.dp_model.specs.Packets.{at_end, less_behind}
+use Rattle.dp_model.specs.Stores.{unwritten}
+use Rattle.dp_plain.proofs.Registers.{handle, held, stand_becomes, becomes}
+use Rattle.dp_plain.proofs.machine.Machine.trim.Goals as goal
+
+pub handle_in-packet-requires : goal.handle_in-packet-requires
+handle_in-packet-requires g c =
+    let (k, holds, le) = c.requires in
+    handle _ _ _ _ _ _ _ _ c.args.p k c.self.view_is holds
+
+pub trim-requires : goal.trim-requires
+trim-requires g c =
+    let (k, holds, le) = c.requires in
+    let there = held _ _ _ _ _ _ _ _ c.args.p c.handle_in-packet.result k c.self.view_is c.self.invariant c.handle_in-packet.ensures holds in
+    (k, there.has, le)
+
+pub invariant_of-self : goal.invariant_of-self
+invariant_of-self g c =
+    let (k, holds, le) = c.requires in
+    let there = held _ _ _ _ _ _ _ _ c.args.p c.handle_in-packet.result k c.self.view_is c.self.invariant c.handle_in-packet.ensures holds in
+    stand_becomes _ _ _ _ c.args.p c.handle_in-packet.result k (at_end (less_behind c.args.n)) unwritten c.self.invariant there c.trim.ensures
+
+pub returns : goal.returns
+returns g c k holds =
+    let there = held _ _ _ _ _ _ _ _ c.args.p c.handle_in-packet.result k c.self.view_is c.self.invariant c.handle_in-packet.ensures holds in
+    becomes _ _ _ _ _ _ _ _ _ c.args.p c.handle_in-packet.result k (at_end (less_behind c.args.n)) unwritten c.self.view_is there c.trim.ensures

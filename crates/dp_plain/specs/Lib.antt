@@ -1,0 +1,11 @@
+pub mod Counts
+pub mod Devices
+pub mod Drains
+pub mod Handles
+pub mod Ones
+pub mod Outcomes
+pub mod Plain
+pub mod Reports
+pub mod Steps
+pub mod Tallies
+pub mod Turns

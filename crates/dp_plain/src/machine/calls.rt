@@ -1,0 +1,177 @@
+//! The calls on the packets of registers.
+ghost use Rattle.std.specs.Prelude.{◌≡◌, ◌≢◌, ℕ, ◌+◌, ◌^◌, ◌<◌, ◌≤◌, true, false, not, List, ◌++◌, length, slice_get, Some, option_map, is_some};
+ghost use Rattle.dp_model.specs.Arithmetic.{bytes_in};
+ghost use Rattle.dp_model.specs.Buffers.{Number, Buffers, ChangesOnly};
+ghost use Rattle.dp_model.specs.Packets.{Packet, AreFresh, allocated, cloned, headroom, tailroom, last_len, first_len, IsHeadSole, IsTailSole, at_front, at_end, more_before, more_behind, less_behind, zeroed_before, zeroed_behind, loaded, stored};
+ghost use Rattle.dp_model.specs.Machine.{Holds, IsEmpty, live, is_denied, with_call, with_packet, without_packet, with_buffers};
+ghost use Rattle.dp_plain.specs.Handles.{moved};
+ghost use Rattle.dp_plain.specs.Steps.{setting_of};
+
+use crate::machine::register::Register;
+use crate::machine::{Machine, is_listed};
+use dp_model::{Env, Packet as Handle, PacketLayer, PacketRegister, Width};
+
+// The handle in a register, which holds a packet.
+pub(super) fn handle_in(registers: &[Register; 8], p: PacketRegister) -> Handle
+    requires { (h : ℕ) × (slice_get registers.now p ≡ Some (Some h)) }
+    ensures { slice_get registers.now p ≡ Some (Some result) }
+{
+    Handle::of(registers[p.number() as usize].handle())
+}
+
+// Whether a register holds a packet.
+pub(super) fn is_held_in(registers: &[Register; 8], p: PacketRegister) -> bool
+    ensures { option_map is_some (slice_get registers.now p) ≡ Some result }
+{
+    registers[p.number() as usize].is_held()
+}
+
+impl<P: PacketLayer> Machine<P> {
+    // The room in front of the first segment's bytes.
+    pub(crate) fn headroom(&self, p: PacketRegister) -> u16
+        requires { (k : Packet) × Holds self.now.state p k }
+        ensures { (k : Packet) → Holds self.now.state p k → result ≡ headroom k }
+    {
+        let packet = handle_in(&self.registers, p);
+        self.layer.headroom(packet)
+    }
+
+    // The room behind the last segment's bytes.
+    pub(crate) fn tailroom(&self, p: PacketRegister) -> u16
+        requires { (k : Packet) × Holds self.now.state p k }
+        ensures { (k : Packet) → Holds self.now.state p k → result ≡ tailroom self.now.pools k }
+    {
+        let packet = handle_in(&self.registers, p);
+        self.layer.tailroom(packet)
+    }
+
+    // The length of the last segment.
+    pub(crate) fn last_len(&self, p: PacketRegister) -> u16
+        requires { (k : Packet) × Holds self.now.state p k }
+        ensures { (k : Packet) → Holds self.now.state p k → result ≡ last_len k }
+    {
+        let packet = handle_in(&self.registers, p);
+        self.layer.last_len(packet)
+    }
+
+    // That many bytes less behind.
+    pub(crate) fn trim(&mut self, p: PacketRegister, n: u16)
+        requires { (k : Packet) × Holds self.old.state p k × (n ≤ last_len k) }
+        ensures { (k : Packet) → Holds self.old.state p k → self.new ≡ moved (with_packet p (at_end (less_behind n) k) self.old.state) self.old }
+    {
+        let packet = handle_in(&self.registers, p);
+        self.layer.trim(packet, n)
+    }
+
+    // That many zero bytes in front.
+    pub(crate) fn prepend(&mut self, p: PacketRegister, n: u16)
+        requires { (k : Packet) × Holds self.old.state p k × (n ≤ headroom k) × IsHeadSole (live self.old.state) k }
+        ensures { (k : Packet) → Holds self.old.state p k → self.new ≡ moved (with_packet p (at_front (more_before n) k) (with_buffers (zeroed_before n k self.old.state.world.buffers) self.old.state)) self.old }
+    {
+        let packet = handle_in(&self.registers, p);
+        self.layer.prepend(packet, n)
+    }
+
+    // That many zero bytes behind.
+    pub(crate) fn append(&mut self, p: PacketRegister, n: u16)
+        requires { (k : Packet) × Holds self.old.state p k × (n ≤ tailroom self.old.pools k) × IsTailSole (live self.old.state) k }
+        ensures { (k : Packet) → Holds self.old.state p k → self.new ≡ moved (with_packet p (at_end (more_behind n) k) (with_buffers (zeroed_behind n k self.old.state.world.buffers) self.old.state)) self.old }
+    {
+        let packet = handle_in(&self.registers, p);
+        self.layer.append(packet, n)
+    }
+
+    // The number at a place of the first segment, the highest byte first.
+    pub(crate) fn load(&self, p: PacketRegister, place: u64, width: Width) -> u64
+        requires { (k : Packet) × Holds self.now.state p k × (place + bytes_in width ≤ first_len k) }
+        ensures { (k : Packet) → Holds self.now.state p k → result ≡ loaded place (bytes_in width) k self.now.state.world.buffers }
+    {
+        let packet = handle_in(&self.registers, p);
+        self.layer.load(packet, place, width)
+    }
+
+    // Writes the low bytes of a number at a place of the first segment.
+    pub(crate) fn store(&mut self, p: PacketRegister, place: u64, width: Width, n: u64)
+        requires { (k : Packet) × Holds self.old.state p k × (place + bytes_in width ≤ first_len k) × IsHeadSole (live self.old.state) k }
+        ensures { (k : Packet) → Holds self.old.state p k → self.new ≡ moved (with_buffers (stored place (bytes_in width) n k self.old.state.world.buffers) self.old.state) self.old }
+    {
+        let packet = handle_in(&self.registers, p);
+        self.layer.store_at(packet, place, width, n)
+    }
+
+    // The second packet behind the first. Its register is empty then.
+    pub(crate) fn chain(&mut self, front: PacketRegister, back: PacketRegister)
+        requires { (k : Packet) × (t : Packet) × Holds self.old.state front k × Holds self.old.state back t × (front ≢ back) × (length k + length t ≤ 64) }
+        ensures { (k : Packet) (t : Packet) → Holds self.old.state front k → Holds self.old.state back t → self.new ≡ moved (without_packet back (with_packet front (k ++ t) self.old.state)) self.old }
+    {
+        let head = handle_in(&self.registers, front);
+        let tail = handle_in(&self.registers, back);
+        self.layer.chain(head, tail);
+        self.registers[back.number() as usize] = Register::empty();
+    }
+
+    // A packet of one segment without bytes into an empty register; or the call is refused.
+    pub(crate) fn alloc(
+        &mut self,
+        env: &Env,
+        pattern: &[u64],
+        into: PacketRegister,
+        pool: u8,
+    ) -> bool
+        requires empty { IsEmpty self.old.state into }
+        requires exists { pool < length env.now.pools }
+        requires pools { self.old.pools ≡ env.now.pools }
+        requires few { self.old.state.world.calls + 1 < 2 ^ 64 }
+        ensures denied { not result ≡ is_denied (setting_of env.now pattern.now) self.old.state pool 1 }
+        ensures refused { result ≡ false → self.new ≡ moved (with_call self.old.state) self.old }
+        ensures given { result ≡ true → (ns : List Number) × (buffers : Buffers) × AreFresh env.now.pools (live self.old.state) pool 1 ns × ChangesOnly ns self.old.state.world.buffers buffers
+            × (self.new ≡ moved (with_call (with_packet into (allocated env.now.pools ns) (with_buffers buffers self.old.state))) self.old) }
+    {
+        let _env = env;
+        self.calls += 1;
+        if is_listed(pattern, self.calls) {
+            return false;
+        }
+        match self.layer.alloc(pool as u32) {
+            Some(packet) => {
+                self.registers[into.number() as usize] = Register::of(packet.number());
+                true
+            }
+            None => false,
+        }
+    }
+
+    // A packet that shares the buffers of another into an empty register; or the call is refused.
+    pub(crate) fn clone_of(
+        &mut self,
+        env: &Env,
+        pattern: &[u64],
+        into: PacketRegister,
+        from: PacketRegister,
+        pool: u8,
+    ) -> bool
+        requires holds { (k : Packet) × Holds self.old.state from k }
+        requires empty { IsEmpty self.old.state into }
+        requires exists { pool < length env.now.pools }
+        requires pools { self.old.pools ≡ env.now.pools }
+        requires few { self.old.state.world.calls + 1 < 2 ^ 64 }
+        ensures denied { (k : Packet) → Holds self.old.state from k → not result ≡ is_denied (setting_of env.now pattern.now) self.old.state pool (length k) }
+        ensures refused { result ≡ false → self.new ≡ moved (with_call self.old.state) self.old }
+        ensures given { result ≡ true → (k : Packet) → Holds self.old.state from k → (ns : List Number) × AreFresh env.now.pools (live self.old.state) pool (length k) ns
+            × (self.new ≡ moved (with_call (with_packet into (cloned ns k) self.old.state)) self.old) }
+    {
+        let _env = env;
+        self.calls += 1;
+        if is_listed(pattern, self.calls) {
+            return false;
+        }
+        let source = handle_in(&self.registers, from);
+        match self.layer.clone_of(source, pool as u32) {
+            Some(packet) => {
+                self.registers[into.number() as usize] = Register::of(packet.number());
+                true
+            }
+            None => false,
+        }
+    }
+}

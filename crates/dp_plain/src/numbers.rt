@@ -1,0 +1,62 @@
+//! Instructions that handle no packet.
+ghost use Rattle.std.specs.Prelude.{◌≡◌, ℕ, ◌+◌, ◌<◌, List, [], Some, slice_index, if◌then◌else◌};
+ghost use Rattle.dp_model.specs.Arithmetic.{value};
+ghost use Rattle.dp_model.specs.Machine.{calculated};
+ghost use Rattle.dp_plain.specs.Steps.{ShiftsWithin};
+
+use dp_model::{Instr, NumberRegister, Operand};
+
+// To that label where the test passes, and else on.
+pub(crate) fn branch(test: bool, to: u16, label: u16) -> u16
+    requires { label < 1024 }
+    ensures { result ≡ (if test then to else label + 1) }
+{
+    if test { to } else { label + 1 }
+}
+
+// The number of a register.
+fn number(numbers: &[u64; 8], register: NumberRegister) -> u64
+    ensures { result ≡ slice_index numbers.now register }
+{
+    numbers[register.number() as usize]
+}
+
+// The value of an operand.
+fn value(numbers: &[u64; 8], operand: Operand) -> u64
+    ensures { result ≡ value numbers.now operand }
+{
+    match operand {
+        Operand::Register(register) => number(numbers, register),
+        Operand::Constant(constant) => constant,
+    }
+}
+
+// An instruction that handles no packet. The label of the next.
+pub(crate) fn calculate(numbers: &mut [u64; 8], instr: Instr, label: u16) -> u16
+    requires some { (after : ℕ × List ℕ) × (calculated [] label numbers.old instr ≡ Some after) }
+    requires shifts { ShiftsWithin instr }
+    requires few { label < 1024 }
+    ensures { calculated [] label numbers.old instr ≡ Some (result, numbers.new) }
+{
+    let (into, n) = match instr {
+        Instr::Set { into, value } => (into, value),
+        Instr::Mov { into, from } => (into, number(numbers, from)),
+        Instr::Add { into, by } => (into, number(numbers, into).wrapping_add(value(numbers, by))),
+        Instr::Sub { into, by } => (into, number(numbers, into).wrapping_sub(value(numbers, by))),
+        Instr::And { into, by } => (into, number(numbers, into) & value(numbers, by)),
+        Instr::Or { into, by } => (into, number(numbers, into) | value(numbers, by)),
+        Instr::Xor { into, by } => (into, number(numbers, into) ^ value(numbers, by)),
+        Instr::Shl { into, by } => (into, number(numbers, into) << by),
+        Instr::Shr { into, by } => (into, number(numbers, into) >> by),
+        Instr::Jmp { to } => return to,
+        Instr::Jeq { left, right, equal } => {
+            return branch(number(numbers, left) == value(numbers, right), equal, label);
+        }
+        Instr::Jlt { left, right, below } => {
+            return branch(number(numbers, left) < right, below, label);
+        }
+        _ => unreachable!(),
+    };
+    numbers[into.number() as usize] = n;
+    label + 1
+}

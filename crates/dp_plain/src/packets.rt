@@ -1,0 +1,192 @@
+//! Instructions that handle packets.
+ghost use Rattle.std.specs.Prelude.{◌≡◌, ℕ, ◌+◌, ◌^◌, ◌<◌, ◌≤◌, Bool, List, slice_index};
+ghost use Rattle.dp_model.specs.Packets.{Packet, first_len};
+ghost use Rattle.dp_model.specs.Machine.{Move, Acts, Holds};
+ghost use Rattle.dp_plain.specs.Steps.{setting_of, move_to, Takes, Asks, Reads, Writes, Edits, MayAct, ActsTo};
+
+use crate::machine::Machine;
+use crate::numbers::branch;
+use dp_model::{Env, Instr, NumberRegister, PacketLayer, PacketRegister};
+
+// Takes buffers for a packet, or goes where the instruction says for a refused call.
+pub(crate) fn take<P: PacketLayer>(
+    m: &mut Machine<P>,
+    env: &Env,
+    pattern: &[u64],
+    instr: Instr,
+    label: u16,
+) -> u16
+    requires has { (move : Move) × Acts (setting_of env.now pattern.now) label m.old.state instr move }
+    requires takes { Takes instr }
+    requires label { label < 1024 }
+    requires few { m.old.state.world.calls + 1 < 2 ^ 64 }
+    requires pools { m.old.pools ≡ env.now.pools }
+    ensures acts { (told : List Bool) × Acts (setting_of env.now pattern.now) label m.old.state instr (move_to (Some result) told m.new.state) }
+    ensures pools { m.new.pools ≡ m.old.pools }
+    ensures room { m.new.room ≡ m.old.room }
+{
+    match instr {
+        Instr::Alloc {
+            into,
+            pool,
+            refused,
+        } => {
+            if m.alloc(env, pattern, into, pool) {
+                label + 1
+            } else {
+                refused
+            }
+        }
+        Instr::Clone {
+            into,
+            from,
+            pool,
+            refused,
+        } => {
+            if m.clone_of(env, pattern, into, from, pool) {
+                label + 1
+            } else {
+                refused
+            }
+        }
+        _ => unreachable!(),
+    }
+}
+
+// Asks for a room or a length.
+pub(crate) fn ask<P: PacketLayer>(m: &Machine<P>, instr: Instr, label: u16) -> u16
+    requires has { MayAct m.now label instr }
+    requires asks { Asks instr }
+    requires label { label < 1024 }
+    ensures { ActsTo m.now label instr result m.now.state }
+{
+    match instr {
+        Instr::IfHead {
+            packet,
+            least,
+            less,
+        } => branch(m.headroom(packet) < least, less, label),
+        Instr::IfTail {
+            packet,
+            least,
+            less,
+        } => branch(m.tailroom(packet) < least, less, label),
+        Instr::IfLen {
+            packet,
+            least,
+            less,
+        } => branch(m.first_len(packet) < least, less, label),
+        Instr::IfLast {
+            packet,
+            least,
+            less,
+        } => branch(m.last_len(packet) < least, less, label),
+        _ => unreachable!(),
+    }
+}
+
+// The place in a packet's first segment that a register and an offset make.
+fn place_of<P: PacketLayer>(
+    m: &Machine<P>,
+    packet: PacketRegister,
+    index: NumberRegister,
+    offset: u16,
+) -> u64
+    requires { (k : Packet) × Holds m.now.state packet k × (slice_index m.now.state.numbers index + offset ≤ first_len k) }
+    ensures { result ≡ slice_index m.now.state.numbers index + offset }
+{
+    // A place within the segment is no greater than its length, which fits.
+    let _len = m.first_len(packet);
+    m.number(index) + offset as u64
+}
+
+// Reads a number from a packet.
+pub(crate) fn read<P: PacketLayer>(m: &mut Machine<P>, instr: Instr, label: u16) -> u16
+    requires has { MayAct m.old label instr }
+    requires reads { Reads instr }
+    requires label { label < 1024 }
+    ensures acts { ActsTo m.old label instr result m.new.state }
+    ensures pools { m.new.pools ≡ m.old.pools }
+    ensures room { m.new.room ≡ m.old.room }
+{
+    match instr {
+        Instr::Load {
+            into,
+            packet,
+            offset,
+            width,
+        } => {
+            let n = m.load(packet, offset as u64, width);
+            m.set(into, n);
+        }
+        Instr::LoadX {
+            into,
+            packet,
+            index,
+            offset,
+            width,
+        } => {
+            let place = place_of(m, packet, index, offset);
+            let n = m.load(packet, place, width);
+            m.set(into, n);
+        }
+        _ => unreachable!(),
+    }
+    label + 1
+}
+
+// Writes a number into a packet.
+pub(crate) fn write<P: PacketLayer>(m: &mut Machine<P>, instr: Instr, label: u16) -> u16
+    requires has { MayAct m.old label instr }
+    requires writes { Writes instr }
+    requires label { label < 1024 }
+    ensures acts { ActsTo m.old label instr result m.new.state }
+    ensures pools { m.new.pools ≡ m.old.pools }
+    ensures room { m.new.room ≡ m.old.room }
+{
+    match instr {
+        Instr::Store {
+            packet,
+            offset,
+            width,
+            from,
+        } => {
+            let n = m.number(from);
+            m.store(packet, offset as u64, width, n);
+        }
+        Instr::StoreX {
+            packet,
+            index,
+            offset,
+            width,
+            from,
+        } => {
+            let place = place_of(m, packet, index, offset);
+            let n = m.number(from);
+            m.store(packet, place, width, n);
+        }
+        _ => unreachable!(),
+    }
+    label + 1
+}
+
+// Changes a packet's bounds, joins two or gives one up.
+pub(crate) fn edit<P: PacketLayer>(m: &mut Machine<P>, instr: Instr, label: u16) -> u16
+    requires has { MayAct m.old label instr }
+    requires edits { Edits instr }
+    requires label { label < 1024 }
+    ensures acts { ActsTo m.old label instr result m.new.state }
+    ensures pools { m.new.pools ≡ m.old.pools }
+    ensures room { m.new.room ≡ m.old.room }
+{
+    match instr {
+        Instr::Free { packet } => m.free(packet),
+        Instr::Prepend { packet, count } => m.prepend(packet, count),
+        Instr::Adj { packet, count } => m.adj(packet, count),
+        Instr::Append { packet, count } => m.append(packet, count),
+        Instr::Trim { packet, count } => m.trim(packet, count),
+        Instr::Chain { front, back } => m.chain(front, back),
+        _ => unreachable!(),
+    }
+    label + 1
+}

@@ -1,0 +1,68 @@
+//! What an engine tells of its run.
+use arrayvec::ArrayVec;
+
+/// No memory was left.
+#[derive(Clone, Copy, Debug, PartialEq, Eq)]
+pub struct Memory;
+
+/// How far an input was read.
+#[derive(Clone, Copy, Debug, Default, PartialEq, Eq)]
+pub enum InputState {
+    /// Not to its end.
+    #[default]
+    Open,
+    /// To its end.
+    Whole,
+    /// To a record that is cut, which begins at that byte.
+    Cut(u64),
+}
+
+/// The numbers of a port, in records.
+#[derive(Clone, Copy, Debug, Default, PartialEq, Eq)]
+pub struct PortReport {
+    /// How many were received.
+    pub received: u64,
+    /// How many were dropped for want of buffers.
+    pub nobuf: u64,
+    /// How many were dropped as they need more segments than the port takes.
+    pub oversize: u64,
+    /// How many were written whole.
+    pub sent: u64,
+    /// How far the port's input was read.
+    pub state: InputState,
+}
+
+/// The numbers of a pool, in buffers.
+#[derive(Clone, Copy, Debug, Default, PartialEq, Eq)]
+pub struct PoolReport {
+    /// How many are free.
+    pub free: u64,
+    /// How many there are.
+    pub count: u64,
+}
+
+/// The numbers of an engine.
+#[derive(Drop)]
+pub struct Report {
+    /// One for each port.
+    pub ports: ArrayVec<PortReport, 8>,
+    /// How many packets were left in each ring.
+    pub rings: ArrayVec<u64, 8>,
+    /// One for each pool.
+    pub pools: ArrayVec<PoolReport, 8>,
+    /// How many allocation calls there were: one for each record that is not oversize, each `alloc` and each `clone`.
+    pub calls: u64,
+    /// How many of them the pattern refused.
+    pub refused: u64,
+    /// How many node runs were cut: they took a backward jump more than 256.
+    pub cut: u64,
+}
+
+/// What an engine counts of its port.
+#[derive(Clone, Copy)]
+pub(crate) struct Tallies {
+    pub received: u64,
+    pub nobuf: u64,
+    pub oversize: u64,
+    pub sent: u64,
+}
