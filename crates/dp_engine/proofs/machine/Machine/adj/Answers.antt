@@ -1,6 +1,7 @@
 use Rattle.dp_engine.proofs.Handles.{stand_changed}
 use Rattle.dp_engine.proofs.Machines.{resizes}
 use Rattle.dp_engine.proofs.Registers.{handle, held}
+use Rattle.dp_engine.specs.Handles.{lists_of}
 use Rattle.dp_engine.proofs.machine.Machine.adj.Goals as goal
 
 pub adj-requires : goal.adj-requires
@@ -13,7 +14,7 @@ pub invariant_of-self : goal.invariant_of-self
 invariant_of-self g c =
     let (k, holds, le) = c.requires in
     let there = held _ _ _ _ _ _ _ _ c.args.p c.handle_in-packet.result k c.self.view_is c.self.invariant c.handle_in-packet.ensures holds in
-    rw (c.adj.ensures k there.has) (stand_changed _ c.self.inside.registers c.self.inside.outbox.items c.handle_in-packet.result k _ there.has c.self.invariant)
+    rw (c.adj.ensures k there.has) (stand_changed _ c.self.inside.registers (lists_of c.self.inside.rings c.self.inside.outboxes) c.handle_in-packet.result k _ there.has c.self.invariant)
 
 pub handle_in-packet-requires : goal.handle_in-packet-requires
 handle_in-packet-requires g c =

@@ -1,6 +1,7 @@
 use Rattle.dp_engine.proofs.Handles.{stand_freed}
 use Rattle.dp_engine.proofs.Machines.{frees}
 use Rattle.dp_engine.proofs.Registers.{handle, held}
+use Rattle.dp_engine.specs.Handles.{lists_of}
 use Rattle.dp_engine.proofs.machine.Machine.free.Goals as goal
 
 pub free-requires : goal.free-requires
@@ -13,7 +14,7 @@ pub invariant_of-self : goal.invariant_of-self
 invariant_of-self g c =
     let (k, holds) = c.requires in
     let there = held _ _ _ _ _ _ _ _ c.args.p c.handle_in-packet.result k c.self.view_is c.self.invariant c.handle_in-packet.ensures holds in
-    rw (c.free.ensures, c.number.ensures.same, c.empty.ensures) (stand_freed _ c.self.inside.registers c.self.inside.outbox.items c.args.p c.handle_in-packet.result k there.has there.here c.self.invariant)
+    rw (c.free.ensures, c.number.ensures.same, c.empty.ensures) (stand_freed _ c.self.inside.registers (lists_of c.self.inside.rings c.self.inside.outboxes) c.args.p c.handle_in-packet.result k there.has there.here c.self.invariant)
 
 pub handle_in-packet-requires : goal.handle_in-packet-requires
 handle_in-packet-requires g c =
