@@ -21,3 +21,6 @@ pub mod Steps
 pub mod Taking
 pub mod Waits
 mod Examples
+pub mod GivingUp
+pub mod Pushing
+pub mod Clearing
