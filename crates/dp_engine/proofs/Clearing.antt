@@ -20,22 +20,23 @@ use Rattle.dp_engine.proofs.Waits.{in_rings, IsFirst}
 pub stand_first : (slots : List (Option Packet)) (registers : List (Option ℕ)) (lists : Lists) (i h : ℕ) (xs : List ℕ) → Idle slots registers lists → slice_get lists.rings i ≡ Some (h ∷ xs) → StandOnce slots (Some h ∷ replicate 7 None) (record lists { rings = slice_set lists.rings i xs })
 stand_first slots registers lists i h xs idle there x = omega (arith, idle.each x, left_less lists i h x xs there)
 
--- this is what a machine does with it
-abbrev pub Starts : Option ℕ → Core → Core → Type 0
-Starts result old new =
-    MatchOption (first_waiting old.state.world.rings)
+-- this is what a machine does with the first that waits, if one does
+abbrev pub StartsWith : Option Waiting → Option ℕ → Core → Core → Type 0
+StartsWith first result old new =
+    MatchOption first
     ((result ≡ None) × (new ≡ old))
     (λ w. (result ≡ Some w.ring) × (new ≡ moved (first_state w.packet w.ring (record old.state.world { rings = w.rings })) old))
 
+abbrev pub Starts : Option ℕ → Core → Core → Type 0
+Starts result old new = StartsWith (first_waiting old.state.world.rings) result old new
+
 pub starts_none : (core : Core) (w : List (List Packet)) → w ≡ core.state.world.rings → first_waiting w ≡ None → Starts None core core
 starts_none core w is none =
-    subst (λ (o : Option Waiting). MatchOption o ((None ≡ None) × (core ≡ core)) (λ w. (None ≡ Some w.ring) × (core ≡ moved (first_state w.packet w.ring (record core.state.world { rings = w.rings })) core)))
-    (sym (ap first_waiting (sym is) ∙ none)) (refl, refl)
+    subst (λ (o : Option Waiting). StartsWith o None core core) (sym (ap first_waiting (sym is) ∙ none)) (refl, refl)
 
-pub starts_some : (core new : Core) (found : Waiting) (ring : ℕ) (w : List (List Packet)) → w ≡ core.state.world.rings → first_waiting w ≡ Some found → ring ≡ found.ring → new ≡ moved (first_state found.packet found.ring (record core.state.world { rings = found.rings })) core → Starts (Some ring) core new
-starts_some core new found ring w is first same state =
-    subst (λ (o : Option Waiting). MatchOption o ((Some ring ≡ None) × (new ≡ core)) (λ w. (Some ring ≡ Some w.ring) × (new ≡ moved (first_state w.packet w.ring (record core.state.world { rings = w.rings })) core)))
-    (sym (ap first_waiting (sym is) ∙ first)) (ap Some same, state)
+pub starts_some : (core new : Core) (found : Waiting) (w : List (List Packet)) → w ≡ core.state.world.rings → first_waiting w ≡ Some found → new ≡ moved (first_state found.packet found.ring (record core.state.world { rings = found.rings })) core → Starts (Some found.ring) core new
+starts_some core new found w is first state =
+    subst (λ (o : Option Waiting). StartsWith o (Some found.ring) core new) (sym (ap first_waiting (sym is) ∙ first)) (refl, state)
 
 pub starts_first : (s : Store) (frames : Frames) (registers : List (Option ℕ)) (numbers : List ℕ) (rings : List RingView) (outboxes : List (List ℕ)) (calls : ℕ) (steps : Ran) (core : Core) (i h : ℕ) (xs : List ℕ) → core_of s frames registers numbers (record { rings = map entries_of rings; outboxes = outboxes }) calls steps ≡ core → IsFirst s.slots rings i → (ring_at rings i).entries ≡ h ∷ xs
     → Starts (Some i) core (core_of s frames (Some h ∷ replicate 7 None) (i ∷ replicate 7 0) (record { rings = slice_set (map entries_of rings) i xs; outboxes = outboxes }) calls (ran steps.steps steps.cuts 0))
@@ -44,7 +45,7 @@ starts_first s frames registers numbers rings outboxes calls steps core i h xs i
     let found : Waiting = record { ring = i; packet = packet_at s.slots h; rings = slice_set (in_rings s.slots rings) i (map (packet_at s.slots) xs) } in
     let e = map_set (map (packet_at s.slots)) (map entries_of rings) i xs in
     let P : Core → Type 0 = λ c. new ≡ moved (first_state found.packet found.ring (record c.state.world { rings = found.rings })) c in
-    starts_some core new found i (in_rings s.slots rings) (ap (λ (c : Core). c.state.world.rings) is) (first.is h xs at) refl (subst P is (rw e refl))
+    starts_some core new found (in_rings s.slots rings) (ap (λ (c : Core). c.state.world.rings) is) (first.is h xs at) (subst P is (rw e refl))
 
 -- ---- all packets of a list
 

@@ -41,16 +41,16 @@ pub record Became (rings rings' : List RingView) (i : ℕ) (entries : List ℕ) 
   pub lists : map entries_of rings' ≡ slice_set (map entries_of rings) i entries
 
 pub pushed : (rings rings' : List RingView) (i h : ℕ) (b : Bool) → rings' ≡ (if b then slice_set rings i (with_more (ring_at rings i) (h ∷ [])) else rings) → b ≡ true → Became rings rings' i ((ring_at rings i).entries ++ h ∷ [])
-pushed rings rings' i h b is yes =
+pushed rings rings' i h b is taken =
     let r : RingView = with_more (ring_at rings i) (h ∷ []) in
-    let e : rings' ≡ slice_set rings i r = is ∙ ap (λ (b : Bool). if b then slice_set rings i r else rings) yes in
+    let e : rings' ≡ slice_set rings i r = is ∙ ap (λ (b : Bool). if b then slice_set rings i r else rings) taken in
     record {
       frames = ap (map without_entries) e ∙ frames_kept rings i r.entries;
       lists = ap (map entries_of) e ∙ map_set entries_of rings i r;
     }
 
 pub not_pushed : (rings rings' : List RingView) (r : List RingView) (b : Bool) → rings' ≡ (if b then r else rings) → b ≡ false → rings' ≡ rings
-not_pushed rings rings' r b is no = is ∙ ap (λ (b : Bool). if b then r else rings) no
+not_pushed rings rings' r b is full = is ∙ ap (λ (b : Bool). if b then r else rings) full
 
 pub popped : (rings rings' : List RingView) (i : ℕ) → rings' ≡ slice_set rings i (without_first (ring_at rings i) 1) → Became rings rings' i (drop 1 (ring_at rings i).entries)
 popped rings rings' i e =

@@ -37,14 +37,14 @@ first_later slots r rings j none first = record {
 -- what the search answers, from a number on
 found_from : (slots : List (Option Packet)) (rings : List RingView) (n i : ℕ) → position_from is_waiting n rings ≡ Some i → (j : ℕ) × (i ≡ n + j) × IsFirst slots rings j
 found_from slots [] n i e = cc
-found_from slots (r ∷ rings) n i e = go r.entries refl
+found_from slots (r ∷ rings) n i e = go r.entries refl (λ later. found_from slots rings (n + 1) i later)
   where
-    go : (es : List ℕ) → r.entries ≡ es → (j : ℕ) × (i ≡ n + j) × IsFirst slots (r ∷ rings) j
-    go [] none =
+    go : (es : List ℕ) → r.entries ≡ es → (position_from is_waiting (n + 1) rings ≡ Some i → (j : ℕ) × (i ≡ n + 1 + j) × IsFirst slots rings j) → (j : ℕ) × (i ≡ n + j) × IsFirst slots (r ∷ rings) j
+    go [] none more =
         let later : position_from is_waiting (n + 1) rings ≡ Some i = rw none at e in
-        let (j, same, first) = found_from slots rings (n + 1) i later in
+        let (j, same, first) = more later in
         (suc j, omega (arith, same), first_later slots r rings j none first)
-    go (h ∷ xs) some =
+    go (h ∷ xs) some more =
         let here : Some n ≡ Some i = rw some at e in
         (0, omega (arith, one n i here), first_here slots r rings)
       where
@@ -53,13 +53,13 @@ found_from slots (r ∷ rings) n i e = go r.entries refl
 
 none_from : (slots : List (Option Packet)) (rings : List RingView) (n : ℕ) → position_from is_waiting n rings ≡ None → first_waiting (in_rings slots rings) ≡ None
 none_from slots [] n e = refl
-none_from slots (r ∷ rings) n e = go r.entries refl
+none_from slots (r ∷ rings) n e = go r.entries refl (λ later. none_from slots rings (n + 1) later)
   where
-    go : (es : List ℕ) → r.entries ≡ es → first_waiting (in_rings slots (r ∷ rings)) ≡ None
-    go [] none =
+    go : (es : List ℕ) → r.entries ≡ es → (position_from is_waiting (n + 1) rings ≡ None → first_waiting (in_rings slots rings) ≡ None) → first_waiting (in_rings slots (r ∷ rings)) ≡ None
+    go [] none more =
         let later : position_from is_waiting (n + 1) rings ≡ None = rw none at e in
-        ap (λ es. first_waiting (map (packet_at slots) es ∷ in_rings slots rings)) none ∙ ap (option_map (behind [])) (none_from slots rings (n + 1) later)
-    go (h ∷ xs) some = let bad : Some n ≡ None = rw some at e in cc
+        ap (λ es. first_waiting (map (packet_at slots) es ∷ in_rings slots rings)) none ∙ ap (option_map (behind [])) (more later)
+    go (h ∷ xs) some more = let bad : Some n ≡ None = rw some at e in cc
 
 pub found : (slots : List (Option Packet)) (rings : List RingView) (i : ℕ) → position is_waiting rings ≡ Some i → IsFirst slots rings i
 found slots rings i e =

@@ -40,7 +40,7 @@ pub returns-in-Some-clause-given : goal.returns-in-Some-clause-given
 returns-in-Some-clause-given c _ k holds =
     let there = held _ _ _ _ _ _ _ _ c.args.from c.handle_in-source.result k c.self.view_is c.self.invariant c.handle_in-source.ensures holds in
     let given = taken (setting_of c.args.env.now [] c.args.pattern.now) _ _ _ c.self.inside.registers c.self.inside.numbers (lists_of c.self.inside.rings c.self.inside.outboxes) c.self.inside.calls (ran c.self.inside.steps.count c.self.inside.cuts c.self.inside.jumps) c.args.self.now c.args.into c.args.pool (length k) c.in-Some.packet (λ ns. cloned ns k) (λ ns old new. new ≡ old) c.self.view_is c.self.invariant c.requires.empty c.requires.pools (c.in-Some.ensures.packets k there.has) in
-    rw (c.of.ensures, c.number.ensures, c.number-in-Some.ensures.same) (given.ns, given.fresh, keeps_bytes _ _ _ _ _ given.changes given.state)
+    rw (c.of.ensures, c.number.ensures, c.number-in-Some.ensures.same, c.clone_of.ensures.zones) (given.ns, given.fresh, keeps_bytes _ _ _ _ _ given.changes given.state)
 
 pub returns-in-None-clause-denied : goal.returns-in-None-clause-denied
 returns-in-None-clause-denied c k holds =
@@ -51,4 +51,4 @@ pub returns-in-None-clause-refused : goal.returns-in-None-clause-refused
 returns-in-None-clause-refused c _ =
     let (k, holds) = c.requires.holds in
     let there = held _ _ _ _ _ _ _ _ c.args.from c.handle_in-source.result k c.self.view_is c.self.invariant c.handle_in-source.ensures holds in
-    called _ _ _ _ _ _ _ _ _ c.self.view_is (c.in-None.ensures.packets k there.has).1
+    rw (c.clone_of.ensures.zones) (called _ _ _ _ _ _ _ _ _ c.self.view_is (c.in-None.ensures.packets k there.has).1)
