@@ -24,3 +24,4 @@ mod Examples
 pub mod GivingUp
 pub mod Pushing
 pub mod Clearing
+pub mod Lookups

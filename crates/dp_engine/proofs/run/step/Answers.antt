@@ -1,9 +1,5 @@
-use Rattle.std.proofs.Common.{length, ap, ◌∙◌, arith}
-use Rattle.std.specs.Prelude.{slice_index}
-use Rattle.dp_model.specs.Machine.{with_step}
-use Rattle.dp_engine.specs.Handles.{Core}
 use Rattle.dp_engine.specs.Steps.{setting_of}
-use Rattle.dp_engine.proofs.Steps.{may_act, acts_to, port_there}
+use Rattle.dp_engine.proofs.Steps.{may_act, acts_to, sends_to, queues_to}
 use Rattle.dp_engine.proofs.run.step.Goals as goal
 
 pub ask-requires-clause-has : goal.ask-requires-clause-has
@@ -34,14 +30,11 @@ pub returns-in-Free-clause-acts : goal.returns-in-Free-clause-acts
 returns-in-Free-clause-acts c =
     acts_to (setting_of c.args.env.now c.args.tables.now c.args.pattern.now) c.args.label c.args.m.now c.count_step.new.self c.args.instr.now c.edit.result c.edit.new.m.state c.count_step.ensures c.requires.pools c.requires.has c.edit.ensures.acts
 
-pub bounds-ports-number : goal.bounds-ports-number
-bounds-ports-number c =
-    let there = port_there (setting_of c.args.env.now c.args.tables.now c.args.pattern.now) c.args.label (with_step c.args.m.now.state) c.args.instr.now c.in-Tx.packet c.in-Tx.port c.in-Tx.full c.in-Tx.is c.requires.has in
-    let number = c.number.ensures ∙ ap (λ (x : Core). slice_index x.state.numbers c.in-Tx.port) c.count_step.ensures in
-    omega (arith, there, number, ap length c.ports.ensures)
+pub returns-in-Tx-clause-acts : goal.returns-in-Tx-clause-acts
+returns-in-Tx-clause-acts c =
+    let sends = record { taken = c.send.ensures.taken; sent = c.send.ensures.sent; full = c.send.ensures.full } in
+    sends_to (setting_of c.args.env.now c.args.tables.now c.args.pattern.now) c.args.label c.args.m.now c.count_step.new.self c.send.new.self c.args.instr.now c.in-Tx.packet c.in-Tx.port c.in-Tx.full c.number-to.result c.branch.result c.send.result
+    c.count_step.ensures c.requires.fits c.in-Tx.is c.number-to.ensures c.requires.has sends c.branch.ensures
 
-pub offset_bounds-ports-number : goal.offset_bounds-ports-number
-offset_bounds-ports-number c =
-    let there = port_there (setting_of c.args.env.now c.args.tables.now c.args.pattern.now) c.args.label (with_step c.args.m.now.state) c.args.instr.now c.in-Tx.packet c.in-Tx.port c.in-Tx.full c.in-Tx.is c.requires.has in
-    let number = c.number.ensures ∙ ap (λ (x : Core). slice_index x.state.numbers c.in-Tx.port) c.count_step.ensures in
-    omega (arith, there, number, ap length c.ports.ensures, c.ports.type_inv)
+pub returns-in-Enq-clause-acts : goal.returns-in-Enq-clause-acts
+returns-in-Enq-clause-acts c = ?

@@ -1,6 +1,9 @@
 use Rattle.dp_engine.proofs.Clearing.{left_start, left_there, left_some, left_next, left_end}
 use Rattle.dp_engine.proofs.machine.Machine.clear_left.Goals as goal
 
+pub loop-left-init : goal.loop-left-init
+loop-left-init c = left_start c.args.self.now c.args.ring c.waiting-left.result c.waiting-left.ensures.list
+
 pub drop_left-requires-clause-there : goal.drop_left-requires-clause-there
 drop_left-requires-clause-there c = left_there c.args.self.now c.loop-left.self c.args.ring c.loop-left.left c.loop-left.invariant c.requires.there
 

@@ -1,6 +1,9 @@
 use Rattle.dp_engine.proofs.Clearing.{sent_start, sent_there, sent_some, sent_next, sent_end}
 use Rattle.dp_engine.proofs.machine.Machine.clear_sent.Goals as goal
 
+pub loop-left-init : goal.loop-left-init
+loop-left-init c = sent_start c.args.self.now c.args.port c.queued-left.result c.queued-left.ensures.list
+
 pub drop_sent-requires-clause-there : goal.drop_sent-requires-clause-there
 drop_sent-requires-clause-there c = sent_there c.args.self.now c.loop-left.self c.args.port c.loop-left.left c.loop-left.invariant c.requires.there
 
