@@ -92,7 +92,7 @@ sent_next start core core' port left l lt drops =
       count = omega (arith, l.count, ap length e);
       had = l.had;
       is = drops rest k here ∙ ap (λ (c : Core). moved (with_outbox port rest c.state) c) l.is
-        ∙ ap (λ (x : List (List Packet)). moved (record start.state { world = record start.state.world { outboxes = x } }) start) again;
+          ∙ ap (λ (x : List (List Packet)). moved (record start.state { world = record start.state.world { outboxes = x } }) start) again;
     }
 
 none_left : (packets : List Packet) (left : ℕ) → length packets ≡ left → left ≤ 0 → packets ≡ []
@@ -136,7 +136,7 @@ left_next start core core' ring left l lt drops =
       count = omega (arith, l.count, ap length e);
       had = l.had;
       is = drops rest k here ∙ ap (λ (c : Core). moved (with_ring ring rest c.state) c) l.is
-        ∙ ap (λ (x : List (List Packet)). moved (record start.state { world = record start.state.world { rings = x } }) start) again;
+          ∙ ap (λ (x : List (List Packet)). moved (record start.state { world = record start.state.world { rings = x } }) start) again;
     }
 
 pub left_end : (start core : Core) (ring left : ℕ) → RingLeft start core ring left → left ≤ 0 → core ≡ moved (with_ring ring [] start.state) start

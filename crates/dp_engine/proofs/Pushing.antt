@@ -49,9 +49,6 @@ pushed rings rings' i h b is taken =
       lists = ap (map entries_of) e ∙ map_set entries_of rings i r;
     }
 
-pub not_pushed : (rings rings' : List RingView) (r : List RingView) (b : Bool) → rings' ≡ (if b then r else rings) → b ≡ false → rings' ≡ rings
-not_pushed rings rings' r b is full = is ∙ ap (λ (b : Bool). if b then r else rings) full
-
 pub popped : (rings rings' : List RingView) (i : ℕ) → rings' ≡ slice_set rings i (without_first (ring_at rings i) 1) → Became rings rings' i (drop 1 (ring_at rings i).entries)
 popped rings rings' i e =
     let r : RingView = without_first (ring_at rings i) 1 in

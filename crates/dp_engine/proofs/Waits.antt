@@ -29,10 +29,10 @@ first_later : (slots : List (Option Packet)) (r : RingView) (rings : List RingVi
 first_later slots r rings j none first = record {
   there = omega (arith, first.there);
   is = λ h xs at. (
-    let e : first_waiting (in_rings slots (r ∷ rings)) ≡ option_map (behind []) (first_waiting (in_rings slots rings)) = ap (λ es. first_waiting (map (packet_at slots) es ∷ in_rings slots rings)) none in
-    let back : [] ≡ map (packet_at slots) r.entries = ap (map (packet_at slots)) (sym none) in
-    e ∙ ap (option_map (behind [])) (first.is h xs at) ∙ ap (λ (l : List Packet). Some (record { ring = suc j; packet = packet_at slots h; rings = l ∷ slice_set (in_rings slots rings) j (map (packet_at slots) xs) })) back
-  );
+      let e : first_waiting (in_rings slots (r ∷ rings)) ≡ option_map (behind []) (first_waiting (in_rings slots rings)) = ap (λ es. first_waiting (map (packet_at slots) es ∷ in_rings slots rings)) none in
+      let back : [] ≡ map (packet_at slots) r.entries = ap (map (packet_at slots)) (sym none) in
+      e ∙ ap (option_map (behind [])) (first.is h xs at) ∙ ap (λ (l : List Packet). Some (record { ring = suc j; packet = packet_at slots h; rings = l ∷ slice_set (in_rings slots rings) j (map (packet_at slots) xs) })) back
+      );
 }
 
 -- a ring with an entry waits

@@ -36,7 +36,7 @@ overflow_cast-to c =
     omega (
       arith,
       port_there (setting_of c.args.env.now c.args.tables.now c.args.pattern.now) c.args.label c.args.m.now c.count_step.new.self c.args.instr.now c.in-Tx.packet c.in-Tx.port c.in-Tx.full c.number-to.result
-      c.count_step.ensures c.within_limits.ensures c.in-Tx.is c.number-to.ensures c.requires.has,
+          c.count_step.ensures c.within_limits.ensures c.in-Tx.is c.number-to.ensures c.requires.has,
     )
 
 pub returns-in-Tx-clause-acts : goal.returns-in-Tx-clause-acts
