@@ -25,3 +25,6 @@ pub mod GivingUp
 pub mod Pushing
 pub mod Clearing
 pub mod Lookups
+pub mod Interleaving
+pub mod Forwarded
+pub mod RunOn
