@@ -1,6 +1,6 @@
 -- All packets of a list are given up, and the first that waits is taken.
-use Rattle.std.proofs.Common.{◌≡◌, ℕ, zero, suc, ◌+◌, ◌-◌, ◌<◌, ◌≤◌, List, [], ◌∷◌, length, map, replicate, Option, Some, None, refl, sym, ◌∙◌, ap, subst, arith}
-use Rattle.std.specs.Prelude.{slice_get, slice_set, ◌==◌, MatchOption}
+use Rattle.std.proofs.Common.{◌≡◌, ℕ, zero, suc, ◌-◌, ◌<◌, ◌≤◌, List, [], ◌∷◌, length, map, replicate, Option, Some, None, refl, sym, ◌∙◌, ap, subst, arith}
+use Rattle.std.specs.Prelude.{slice_get, slice_set, MatchOption}
 use Rattle.dp_model.specs.Packets.{Packet}
 use Rattle.dp_model.specs.Machine.{with_outbox, with_ring}
 use Rattle.dp_model.specs.Runs.{Waiting, first_state, first_waiting}
@@ -8,7 +8,7 @@ use Rattle.dp_model.specs.Stores.{Store}
 use Rattle.dp_model.proofs.Refs.{get_set_same}
 use Rattle.dp_ring.specs.Rings.{RingView}
 use Rattle.dp_engine.specs.Queues.{ring_at}
-use Rattle.dp_engine.specs.Handles.{packet_at, handles_held, once, occurs, in_slot, waiting, packets_in, entries_of, Lists, Frames, StandOnce, Core, Ran, core_of, ran, moved}
+use Rattle.dp_engine.specs.Handles.{packet_at, entries_of, Lists, Frames, StandOnce, Core, Ran, core_of, ran, moved}
 use Rattle.dp_engine.proofs.Handles.{set_itself, map_set}
 use Rattle.dp_engine.proofs.Draining.{left_less}
 use Rattle.dp_engine.proofs.Receive.{Idle}

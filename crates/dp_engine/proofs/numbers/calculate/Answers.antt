@@ -1,7 +1,4 @@
-use Rattle.std.proofs.Common.{◌≡◌, ◌+◌, ◌∷◌, Some, ◌∙◌, ap, rules}
-use Rattle.std.specs.Prelude.{slice_set}
-use Rattle.dp_model.specs.Machine.{calculated}
-use Rattle.dp_engine.specs.Steps.{routes_of}
+use Rattle.std.proofs.Common.{rules}
 use Rattle.dp_engine.proofs.Lookups.{looks_up, misses}
 use Rattle.dp_engine.proofs.numbers.calculate.Goals as goal
 use Rattle.dp_engine.proofs.numbers.calculate.Goals.{in-Set, in-Mov, in-Add, in-Sub, in-And, in-Or, in-Xor, in-Shl, in-Shr, in-Lookup+in-Some}
