@@ -1,13 +1,13 @@
 -- The first packet that waits in a ring.
-use Rattle.std.proofs.Common.{◌≡◌, ℕ, zero, suc, ◌+◌, ◌<◌, cond, Bool, true, false, not, List, [], ◌∷◌, length, map, Option, Some, None, refl, sym, ◌∙◌, ap, subst, arith}
-use Rattle.std.specs.Prelude.{slice_get, slice_set, option_map, slice_index_or, ◌==◌}
+use Rattle.std.proofs.Common.{◌≡◌, ℕ, suc, ◌+◌, ◌<◌, cond, Bool, true, false, not, List, [], ◌∷◌, length, map, Option, Some, None, refl, sym, ◌∙◌, ap, subst, arith}
+use Rattle.std.specs.Prelude.{slice_set, option_map, ◌==◌}
 use Rattle.std.proofs.lemmas.Bool.{eqb-true}
 use Rattle.std.specs.List.{position, position_from}
 use Rattle.std.proofs.lemmas.Iterator.Adapters.{position_from-zero}
 use Rattle.dp_ring.specs.Rings.{RingView}
 use Rattle.dp_engine.specs.Queues.{ring_at, is_waiting}
 use Rattle.dp_model.specs.Packets.{Packet}
-use Rattle.dp_model.specs.Runs.{Waiting, behind, first_waiting}
+use Rattle.dp_model.specs.Runs.{behind, first_waiting}
 use Rattle.dp_engine.specs.Handles.{packet_at, packets_in, entries_of}
 
 -- the packets of rings
