@@ -21,3 +21,5 @@ pub mod Steps
 pub mod Taking
 pub mod Waits
 mod Examples
+pub mod Called
+pub mod Writing
