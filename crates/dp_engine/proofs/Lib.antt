@@ -23,3 +23,5 @@ pub mod Waits
 mod Examples
 pub mod Called
 pub mod Writing
+pub mod Resting
+pub mod Emptied

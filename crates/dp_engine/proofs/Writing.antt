@@ -17,9 +17,14 @@ use Rattle.dp_model.specs.Buffers.{Buffers}
 use Rattle.dp_model.specs.Packets.{Packet, packet_bytes}
 use Rattle.dp_model.specs.Machine.{World}
 use Rattle.dp_model.specs.Runs.{drained}
-use Rattle.dp_engine.specs.Handles.{held_of, packet_at, occurs, joined, packets_in, Lists, StandOnce}
+use Rattle.dp_model.specs.Stores.{Store}
+use Rattle.dp_ring.specs.Rings.{RingView}
+use Rattle.dp_pool.specs.Pools.{PoolZones}
+use Rattle.dp_engine.specs.Queues.{ring_at}
+use Rattle.dp_engine.specs.Handles.{held_of, packet_at, occurs, joined, packets_in, StandOnce, Core, core_of, Ran, frames_of, lists_of, without_entries, entries_of}
+use Rattle.dp_engine.proofs.Rings.{entries_at, frames_length}
 use Rattle.dp_engine.specs.Drains.{record_of, captured, WrotePart, Written}
-use Rattle.dp_engine.proofs.Handles.{map_get, in_slot_some, is_one, occurs-append, waits}
+use Rattle.dp_engine.proofs.Handles.{map_get, get_map, in_slot_some, is_one, occurs-append, waits}
 
 -- ---- lists, element by element
 
@@ -92,17 +97,21 @@ in_lists (ys ∷ lists) zero x xs e one =
 in_lists (ys ∷ lists) (suc j) x xs e one =
     let more = in_lists lists j x xs e one in omega (arith, more, occurs-append x ys (joined lists))
 
--- the handle at a place of a list names the packet there
-pub listed_at : (slots : List (Option Packet)) (registers : List (Option ℕ)) (lists : Lists) (port i h : ℕ) (xs : List ℕ) (packets : List Packet) (k : Packet)
-    → StandOnce slots registers lists → slice_get lists.outboxes port ≡ Some xs → slice_get (packets_in slots lists.outboxes) port ≡ Some packets
-    → slice_get packets i ≡ Some k → slice_get xs i ≡ Some h → slice_get slots h ≡ Some (Some k)
-listed_at slots registers lists port i h xs packets k stand there box here at =
-    let same : map (packet_at slots) xs ≡ packets = same_Some _ _ (sym (map_get (map (packet_at slots)) lists.outboxes port xs there) ∙ box) in
-    let named : packet_at slots h ≡ k = same_Some _ _ (sym (map_get (packet_at slots) xs i h at) ∙ ap (λ l. slice_get l i) same ∙ here) in
-    let one = in_lists lists.outboxes port h xs there (in_list xs i h at) in
-    let (k', has) = in_slot_some (slice_get slots h) (omega (arith, stand h, one, waits h lists)) in
+-- a packet in a transmit list has a handle at its place
+pub waits_at : (s : Store) (zones : List PoolZones) (registers : List (Option ℕ)) (numbers : List ℕ) (rings boxes : List RingView) (calls : ℕ) (steps : Ran) (core : Core) (port i : ℕ) (packets : List Packet) (k : Packet)
+    → core_of s (frames_of zones rings boxes) registers numbers (lists_of rings boxes) calls steps ≡ core → StandOnce s.slots registers (lists_of rings boxes)
+    → port < length core.frames.outboxes → slice_get core.state.world.outboxes port ≡ Some packets → slice_get packets i ≡ Some k
+    → (h : ℕ) × (slice_get (ring_at boxes port).entries i ≡ Some h) × (slice_get s.slots h ≡ Some (Some k))
+waits_at s zones registers numbers rings boxes calls steps core port i packets k is stand lt box here =
+    let long : length (map without_entries boxes) ≡ length core.frames.outboxes = ap (λ (c : Core). length c.frames.outboxes) is in
+    let there = entries_at boxes port (omega (arith, lt, long, frames_length boxes)) in
+    let listed : slice_get (packets_in s.slots (map entries_of boxes)) port ≡ Some packets = ap (λ (c : Core). slice_get c.state.world.outboxes port) is ∙ box in
+    let same : map (packet_at s.slots) (ring_at boxes port).entries ≡ packets = same_Some _ _ (sym (map_get (map (packet_at s.slots)) (map entries_of boxes) port _ there) ∙ listed) in
+    let (h, at, named) = get_map (packet_at s.slots) (ring_at boxes port).entries i k (ap (λ l. slice_get l i) same ∙ here) in
+    let one = in_lists (map entries_of boxes) port h (ring_at boxes port).entries there (in_list (ring_at boxes port).entries i h at) in
+    let (k', has) = in_slot_some (slice_get s.slots h) (omega (arith, stand h, one, waits h (lists_of rings boxes))) in
     let k_is : k' ≡ k = sym (ap held_of has) ∙ named in
-    has ∙ ap (λ k. Some (Some k)) k_is
+    (h, at, has ∙ ap (λ k. Some (Some k)) k_is)
 
 -- ---- records
 
