@@ -21,6 +21,10 @@ pub mod Steps
 pub mod Taking
 pub mod Waits
 mod Examples
+pub mod GivingUp
+pub mod Pushing
+pub mod Clearing
+pub mod Lookups
 pub mod Called
 pub mod Writing
 pub mod Resting

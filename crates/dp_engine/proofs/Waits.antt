@@ -1,6 +1,7 @@
 -- The first packet that waits in a ring.
-use Rattle.std.proofs.Common.{◌≡◌, ℕ, zero, suc, ◌+◌, ◌<◌, cond, List, [], ◌∷◌, length, map, Option, Some, None, refl, sym, ◌∙◌, ap, subst, arith}
-use Rattle.std.specs.Prelude.{slice_get, slice_set, option_map, slice_index_or}
+use Rattle.std.proofs.Common.{◌≡◌, ℕ, zero, suc, ◌+◌, ◌<◌, cond, Bool, true, false, not, List, [], ◌∷◌, length, map, Option, Some, None, refl, sym, ◌∙◌, ap, subst, arith}
+use Rattle.std.specs.Prelude.{slice_get, slice_set, option_map, slice_index_or, ◌==◌}
+use Rattle.std.proofs.lemmas.Bool.{eqb-true}
 use Rattle.std.specs.List.{position, position_from}
 use Rattle.std.proofs.lemmas.Iterator.Adapters.{position_from-zero}
 use Rattle.dp_ring.specs.Rings.{RingView}
@@ -34,18 +35,29 @@ first_later slots r rings j none first = record {
   );
 }
 
+-- a ring with an entry waits
+positive : (n : ℕ) → (suc n == 0) ≡ false
+positive n = go (suc n == 0) refl
+  where
+    go : (b : Bool) → (suc n == 0) ≡ b → (suc n == 0) ≡ false
+    go true e = let bad : suc n ≡ 0 = eqb-true (suc n) 0 e in absurd (omega (arith, bad))
+    go false e = e
+
+waits : (r : RingView) (h : ℕ) (xs : List ℕ) → r.entries ≡ h ∷ xs → is_waiting r ≡ true
+waits r h xs some = ap (λ (es : List ℕ). not (length es == 0)) some ∙ ap not (positive (length xs))
+
 -- what the search answers, from a number on
 found_from : (slots : List (Option Packet)) (rings : List RingView) (n i : ℕ) → position_from is_waiting n rings ≡ Some i → (j : ℕ) × (i ≡ n + j) × IsFirst slots rings j
 found_from slots [] n i e = cc
-found_from slots (r ∷ rings) n i e = go r.entries refl
+found_from slots (r ∷ rings) n i e = go r.entries refl (λ later. found_from slots rings (n + 1) i later)
   where
-    go : (es : List ℕ) → r.entries ≡ es → (j : ℕ) × (i ≡ n + j) × IsFirst slots (r ∷ rings) j
-    go [] none =
+    go : (es : List ℕ) → r.entries ≡ es → (position_from is_waiting (n + 1) rings ≡ Some i → (j : ℕ) × (i ≡ n + 1 + j) × IsFirst slots rings j) → (j : ℕ) × (i ≡ n + j) × IsFirst slots (r ∷ rings) j
+    go [] none more =
         let later : position_from is_waiting (n + 1) rings ≡ Some i = rw none at e in
-        let (j, same, first) = found_from slots rings (n + 1) i later in
+        let (j, same, first) = more later in
         (suc j, omega (arith, same), first_later slots r rings j none first)
-    go (h ∷ xs) some =
-        let here : Some n ≡ Some i = rw some at e in
+    go (h ∷ xs) some more =
+        let here : Some n ≡ Some i = sym (ap (λ b. cond b (Some n) (position_from is_waiting (n + 1) rings)) (waits r h xs some)) ∙ e in
         (0, omega (arith, one n i here), first_here slots r rings)
       where
         one : (x y : ℕ) → Some x ≡ Some y → y ≡ x
@@ -53,13 +65,14 @@ found_from slots (r ∷ rings) n i e = go r.entries refl
 
 none_from : (slots : List (Option Packet)) (rings : List RingView) (n : ℕ) → position_from is_waiting n rings ≡ None → first_waiting (in_rings slots rings) ≡ None
 none_from slots [] n e = refl
-none_from slots (r ∷ rings) n e = go r.entries refl
+none_from slots (r ∷ rings) n e = go r.entries refl (λ later. none_from slots rings (n + 1) later)
   where
-    go : (es : List ℕ) → r.entries ≡ es → first_waiting (in_rings slots (r ∷ rings)) ≡ None
-    go [] none =
+    go : (es : List ℕ) → r.entries ≡ es → (position_from is_waiting (n + 1) rings ≡ None → first_waiting (in_rings slots rings) ≡ None) → first_waiting (in_rings slots (r ∷ rings)) ≡ None
+    go [] none more =
         let later : position_from is_waiting (n + 1) rings ≡ None = rw none at e in
-        ap (λ es. first_waiting (map (packet_at slots) es ∷ in_rings slots rings)) none ∙ ap (option_map (behind [])) (none_from slots rings (n + 1) later)
-    go (h ∷ xs) some = let bad : Some n ≡ None = rw some at e in cc
+        ap (λ es. first_waiting (map (packet_at slots) es ∷ in_rings slots rings)) none ∙ ap (option_map (behind [])) (more later)
+    go (h ∷ xs) some more =
+        let bad : Some n ≡ None = sym (ap (λ b. cond b (Some n) (position_from is_waiting (n + 1) rings)) (waits r h xs some)) ∙ e in cc
 
 pub found : (slots : List (Option Packet)) (rings : List RingView) (i : ℕ) → position is_waiting rings ≡ Some i → IsFirst slots rings i
 found slots rings i e =
