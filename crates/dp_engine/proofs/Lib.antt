@@ -29,3 +29,4 @@ pub mod Called
 pub mod Writing
 pub mod Resting
 pub mod Emptied
+pub mod Reporting
