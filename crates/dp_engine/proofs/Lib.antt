@@ -28,3 +28,8 @@ pub mod Lookups
 pub mod Interleaving
 pub mod Forwarded
 pub mod RunOn
+pub mod Called
+pub mod Writing
+pub mod Resting
+pub mod Emptied
+pub mod Reporting

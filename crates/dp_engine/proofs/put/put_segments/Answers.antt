@@ -1,0 +1,46 @@
+use Rattle.std.proofs.Common.{◌+◌, ◌<◌, length, arith, rules, refl, append-nil, []}
+use Rattle.dp_model.specs.Packets.{packet_bytes, segment_bytes}
+use Rattle.dp_pcap.specs.Text.{head_text}
+use Rattle.dp_engine.proofs.Called.{called_head, called_piece, called_front}
+use Rattle.dp_engine.proofs.Writing.{at_place, appends_piece, part_piece, sound_after, on_err_of}
+use Rattle.dp_engine.proofs.put.put_segments.Goals as goal
+
+pub returns-in_err-put_head-clause-counted : goal.returns-in_err-put_head-clause-counted
+returns-in_err-put_head-clause-counted g c k has =
+    called_head _ _ c.args.unit c.args.time _ _ c.in_err-put_head.ensures.counted
+
+pub loop-index-init : goal.loop-index-init
+loop-index-init g c = record {
+  wrote = λ k has. rw (append-nil, ← c.length.ensures.value k has) c.in_ok-put_head.ensures.ok;
+  sound = search rules;
+  failures = search rules;
+  counted = λ k has. called_head _ _ c.args.unit c.args.time _ [] c.in_ok-put_head.ensures.counted;
+}
+
+pub returns-in_err-put_bytes-clause-counted : goal.returns-in_err-put_bytes-clause-counted
+returns-in_err-put_bytes-clause-counted g c k has =
+    let lt : c.loop-index.index < length k = omega (arith, c.segments-index-end.ensures k has) in
+    let (s, here) = at_place k c.loop-index.index lt in
+    called_front _ _ (head_text c.args.unit c.args.time (length (packet_bytes c.args.mbufs.now.store.buffers k))) (segment_bytes c.args.mbufs.now.store.buffers) k (c.loop-index.index + 1)
+    (called_piece _ _ _ _ (segment_bytes c.args.mbufs.now.store.buffers) k c.loop-index.index s c.segment_bytes.result.now here (c.segment_bytes.ensures k has s here) (c.loop-index.invariant.counted k has) c.in_err-put_bytes.ensures.counted)
+
+pub returns-in_err-put_bytes-clause-err : goal.returns-in_err-put_bytes-clause-err
+returns-in_err-put_bytes-clause-err g c =
+    on_err_of c.from_residual-in_err-put_bytes.result (λ k has.
+    let lt : c.loop-index.index < length k = omega (arith, c.segments-index-end.ensures k has) in
+    let (s, here) = at_place k c.loop-index.index lt in
+    part_piece _ _ _ _ (segment_bytes c.args.mbufs.now.store.buffers) k c.loop-index.index s c.segment_bytes.result.now here (c.segment_bytes.ensures k has s here) (c.loop-index.invariant.wrote k has) c.in_err-put_bytes.ensures.err)
+
+pub loop-index-preserved : goal.loop-index-preserved
+loop-index-preserved g c = record {
+  wrote = λ k has.
+      let lt : c.loop-index.index < length k = omega (arith, c.segments-index-end.ensures k has) in
+      let (s, here) = at_place k c.loop-index.index lt in
+      appends_piece _ _ _ _ (segment_bytes c.args.mbufs.now.store.buffers) k c.loop-index.index s c.segment_bytes.result.now here (c.segment_bytes.ensures k has s here) (c.loop-index.invariant.wrote k has) c.in_ok-put_bytes.ensures.ok;
+  sound = sound_after g.W.Sink.is_broken c.loop-index.w c.put_bytes.new.w c.segment_bytes.result.now c.loop-index.invariant.sound (λ some. c.in_ok-put_bytes.ensures.sound some refl) c.in_ok-put_bytes.ensures.untouched;
+  failures = search rules;
+  counted = λ k has.
+      let lt : c.loop-index.index < length k = omega (arith, c.segments-index-end.ensures k has) in
+      let (s, here) = at_place k c.loop-index.index lt in
+      called_piece _ _ _ _ (segment_bytes c.args.mbufs.now.store.buffers) k c.loop-index.index s c.segment_bytes.result.now here (c.segment_bytes.ensures k has s here) (c.loop-index.invariant.counted k has) c.in_ok-put_bytes.ensures.counted;
+}
