@@ -20,4 +20,8 @@ pub mod Stacking
 pub mod Steps
 pub mod Taking
 pub mod Waits
+
+pub mod Idling
+pub mod Opening
+pub mod Parts
 mod Examples
