@@ -22,7 +22,7 @@ pub stand_over : (slots : List (Option Packet)) (registers : List (Option ℕ)) 
 stand_over slots registers rings outboxes is empty unsent none h =
     let held : occurs h (handles_held registers) ≡ 0 = ap (λ rs. occurs h (handles_held rs)) is in
     let waits : occurs h (waiting (lists_of rings outboxes)) ≡ 0 =
-        ap (λ xs. occurs h (xs ++ joined (map entries_of outboxes))) (none_wait rings empty) ∙ ap (occurs h) (none_wait outboxes unsent) in
+    ap (λ xs. occurs h (xs ++ joined (map entries_of outboxes))) (none_wait rings empty) ∙ ap (occurs h) (none_wait outboxes unsent) in
     omega (arith, held, waits, none h)
 
 -- ---- and the other way round

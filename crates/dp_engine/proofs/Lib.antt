@@ -20,7 +20,7 @@ pub mod Stacking
 pub mod Steps
 pub mod Taking
 pub mod Waits
-
+pub mod Closing
 pub mod Idling
 pub mod Opening
 pub mod Parts

@@ -1,5 +1,6 @@
 -- An engine before its first turn.
-use Rattle.std.proofs.Common.{◌≡◌, ℕ, ◌+◌, ◌≤◌, List, [], ◌∷◌, length, map, replicate, Option, Some, None, refl, sym, ◌∙◌, ap, subst, arith}
+use Rattle.std.proofs.Common.{◌≡◌, ℕ, zero, suc, ◌+◌, ◌≤◌, List, [], ◌∷◌, length, map, replicate, Option, Some, None, refl, sym, ◌∙◌, ap, subst, arith}
+use Rattle.std.specs.Prelude.{slice_get}
 use Rattle.std.specs.List.{AllByRecursion}
 use Rattle.std.proofs.lemmas.Option.{none-some}
 use Rattle.dp_region.specs.Ownership.{Home}
@@ -20,7 +21,7 @@ use Rattle.dp_lpm.specs.Routes.{RouteTable}
 use Rattle.dp_mbuf.specs.Objects.{present, specs_of, zones_of}
 use Rattle.dp_mbuf.specs.Mbufs.{MbufsView, IsNew}
 use Rattle.dp_engine.specs.declared.space.Parts.{Parts}
-use Rattle.dp_engine.specs.Handles.{packet_at, packets_in, without_entries, entries_of, Frames, frames_of, lists_of, Core, core_of, ran}
+use Rattle.dp_engine.specs.Handles.{packet_at, in_slot, packets_in, without_entries, entries_of, Frames, frames_of, lists_of, Core, core_of, ran}
 use Rattle.dp_engine.specs.Queues.{rings_in}
 use Rattle.dp_engine.specs.Schemes.{Scheme, scheme_of}
 use Rattle.dp_engine.specs.Serving.{Rests}
@@ -44,6 +45,15 @@ empty_lists f home slots (x ∷ xs) (None ∷ places) are = absurd are.0
 empty_lists f home slots (x ∷ xs) (Some r ∷ places) are =
     ap (λ es. map (packet_at slots) es ∷ packets_in slots (map entries_of (rings_in places))) are.0.empty
     ∙ ap (λ lists. [] ∷ lists) (empty_lists f home slots xs places are.1)
+
+-- no slot has a packet
+pub no_slots : (slots : List (Option Packet)) (n h : ℕ) → slots ≡ replicate n None → in_slot (slice_get slots h) ≡ 0
+no_slots slots n h is = ap (λ xs. in_slot (slice_get xs h)) is ∙ none n h
+  where
+    none : (n h : ℕ) → in_slot (slice_get (replicate n None) h) ≡ 0
+    none zero h = refl
+    none (suc n) zero = refl
+    none (suc n) (suc h) = none n h
 
 none_listed : {X : Type 0} (xs : List X) → listed_count (map (λ _. []) xs) ≡ 0
 none_listed [] = refl

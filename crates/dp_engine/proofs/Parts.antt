@@ -50,12 +50,12 @@ same_length (r ∷ rings) = let more = same_length rings in omega arith
 
 rings_filled : (slots : List (Option RingView)) → RingsFirst slots → filled slots ≡ length (map without_entries (rings_in slots))
 rings_filled [] first = refl
-rings_filled (None ∷ slots) first = none_filled slots first
+rings_filled (None ∷ slots) first = let none = none_filled slots first in omega arith
 rings_filled (Some r ∷ slots) first = let more = rings_filled slots first in omega arith
 
 pools_filled : (slots : List (Option PoolView)) → PoolsFirst slots → filled slots ≡ length (zones_of (present slots))
 pools_filled [] first = refl
-pools_filled (None ∷ slots) first = none_filled slots first
+pools_filled (None ∷ slots) first = let none = none_filled slots first in omega arith
 pools_filled (Some p ∷ slots) first = let more = pools_filled slots first.1 in omega arith
 
 abbrev AreAt : Home → List RingView → Type 0
@@ -110,7 +110,8 @@ pub stand_back : (space : SpaceView) (parts : Parts) → PoolsFirst parts.pools 
 stand_back space parts pools rings lists stand = (
   (
     pools_stay space.home parts.pools pools stand.pools,
-    (rings_stay space.home parts.rings rings stand.rings, rings_stay space.home parts.lists lists stand.outboxes),
+    rings_stay space.home parts.rings rings stand.rings,
+    rings_stay space.home parts.lists lists stand.outboxes,
   ),
   omega (arith, stand.out, pools_filled parts.pools pools, rings_filled parts.rings rings, rings_filled parts.lists lists),
 )
