@@ -20,6 +20,10 @@ pub mod Stacking
 pub mod Steps
 pub mod Taking
 pub mod Waits
+pub mod Closing
+pub mod Idling
+pub mod Opening
+pub mod Parts
 mod Examples
 pub mod GivingUp
 pub mod Pushing
