@@ -1,5 +1,5 @@
 -- What an engine is, how it begins, and what its calls do.
-use Rattle.std.specs.Prelude.{◌≡◌, ℕ, ◌+◌, ◌*◌, ◌≤◌, List, [], ◌∷◌, length, map, replicate, slice_index_or, slice_set, zip_with}
+use Rattle.std.specs.Prelude.{◌≡◌, ℕ, ◌+◌, ◌*◌, ◌≤◌, List, [], ◌∷◌, length, map, replicate, slice_index_or, slice_set}
 use Rattle.std.specs.List.{AllByRecursion}
 use Rattle.dp_region.specs.Ownership.{Home}
 use Rattle.dp_region.specs.declared.region.Region.{Region}
