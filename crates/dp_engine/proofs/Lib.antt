@@ -21,3 +21,6 @@ pub mod Steps
 pub mod Taking
 pub mod Waits
 mod Examples
+pub mod Pipelines
+pub mod Served
+pub mod Turning
