@@ -1,5 +1,6 @@
 -- A plan of checked programs is a pipeline.
-use Rattle.std.proofs.Common.{◌≡◌, ℕ, zero, suc, ◌+◌, ◌-◌, ◌<◌, ◌≤◌, Bool, true, false, List, [], ◌∷◌, length, map, take, drop, Option, Some, None, refl, sym, ◌∙◌, ap, subst, arith}
+use Rattle.std.proofs.Common.{◌≡◌, ℕ, zero, suc, ◌+◌, ◌-◌, ◌<◌, ◌≤◌, Bool, true, false, List, [], ◌∷◌, length, map, take, drop, Option, Some, None}
+use Rattle.std.proofs.Common.{refl, sym, ◌∙◌, ap, subst, arith}
 use Rattle.std.specs.Prelude.{slice_get, nat_lt}
 use Rattle.std.specs.List.{AllByRecursion}
 use Rattle.std.proofs.lemmas.Bool.{ltb-true, ltb-false}
@@ -50,7 +51,8 @@ each_place P (x ∷ xs) all = (all 0 x refl, each_place P xs (λ k y h. all (suc
 -- ---- what loops have looked at
 
 -- one program more
-pub next_checked : (nodes : List Question) (i : ℕ) (node : Question) → ((k : ℕ) (q : Question) → k < i → slice_get nodes k ≡ Some q → IsChecked q) → slice_get nodes i ≡ Some node → IsChecked node → (k : ℕ) (q : Question) → k < i + 1 → slice_get nodes k ≡ Some q → IsChecked q
+pub next_checked : (nodes : List Question) (i : ℕ) (node : Question) → ((k : ℕ) (q : Question) → k < i → slice_get nodes k ≡ Some q → IsChecked q)
+    → slice_get nodes i ≡ Some node → IsChecked node → (k : ℕ) (q : Question) → k < i + 1 → slice_get nodes k ≡ Some q → IsChecked q
 next_checked nodes i node before here is k q less there = go (nat_lt k i) refl
   where
     go : (b : Bool) → nat_lt k i ≡ b → IsChecked q
@@ -62,7 +64,8 @@ next_checked nodes i node before here is k q less there = go (nat_lt k i) refl
 -- ---- a plan
 
 -- the node of a question
-node_of : (env : Environment) (entry : Entry) (program : List Instr) (q : Question) → q.program ≡ program → q.env ≡ env → q.entry ≡ entry → IsChecked q → Checked env entry program
+node_of : (env : Environment) (entry : Entry) (program : List Instr) (q : Question) → q.program ≡ program → q.env ≡ env → q.entry ≡ entry → IsChecked q
+    → Checked env entry program
 node_of env entry program q is_program is_env is_entry c = record {
   question = q;
   accepted = record { accepted = c.accepted; well_formed = c.well_formed };
@@ -71,7 +74,8 @@ node_of env entry program q is_program is_env is_entry c = record {
   entry_is = is_entry;
 }
 
-are_checked : (env : Environment) (tables : List RouteTable) (questions : List Question) (pattern : List ℕ) → fault_of env ≡ None → AreNodes env questions → ((k : ℕ) (q : Question) → slice_get questions k ≡ Some q → IsChecked q) → AreChecked (setting_of env tables pattern) (nodes_of env questions)
+are_checked : (env : Environment) (tables : List RouteTable) (questions : List Question) (pattern : List ℕ) → fault_of env ≡ None → AreNodes env questions
+    → ((k : ℕ) (q : Question) → slice_get questions k ≡ Some q → IsChecked q) → AreChecked (setting_of env tables pattern) (nodes_of env questions)
 are_checked env tables questions pattern limits nodes checked = record {
   ports = λ port program h.
       let (less, there) = get_take (length env.ports) (programs_of questions) port program h in
@@ -79,7 +83,8 @@ are_checked env tables questions pattern limits nodes checked = record {
       let (is_env, is_entry) = nodes.ports port q less is_q in
       node_of env (Port port) program q is_program is_env is_entry (checked port q is_q);
   rings = λ ring program h.
-      let (q, is_q, is_program) = get_map (λ (q : Question). q.program) questions (length env.ports + ring) program (sym (get_drop (length env.ports) (programs_of questions) ring) ∙ h) in
+      let (q, is_q, is_program) = get_map (λ (q : Question). q.program) questions (length env.ports + ring) program
+          (sym (get_drop (length env.ports) (programs_of questions) ring) ∙ h) in
       let (is_env, is_entry) = nodes.rings ring q is_q in
       node_of env (Ring ring) program q is_program is_env is_entry (checked (length env.ports + ring) q is_q);
   rooms = ports_have_room env limits;
@@ -87,8 +92,10 @@ are_checked env tables questions pattern limits nodes checked = record {
 }
 
 -- programs that are checked for the entries of an environment, and tables that keep their hops, are a plan
-pub plan_of : (env : Environment) (tables : List RouteTable) (questions : List Question) (pattern : List ℕ) → fault_of env ≡ None → AreNodes env questions → length tables ≡ env.tables → ((k : ℕ) (q : Question) → slice_get questions k ≡ Some q → IsChecked q)
-    → ((k : ℕ) (t : RouteTable) → slice_get tables k ≡ Some t → AllByRecursion (λ (route : Route). route.hop ≤ 16777215) t.routes) → IsPlan env tables questions pattern
+pub plan_of : (env : Environment) (tables : List RouteTable) (questions : List Question) (pattern : List ℕ) → fault_of env ≡ None → AreNodes env questions
+    → length tables ≡ env.tables → ((k : ℕ) (q : Question) → slice_get questions k ≡ Some q → IsChecked q)
+    → ((k : ℕ) (t : RouteTable) → slice_get tables k ≡ Some t → AllByRecursion (λ (route : Route). route.hop ≤ 16777215) t.routes)
+    → IsPlan env tables questions pattern
 plan_of env tables questions pattern limits nodes many checked hops =
     let all : length (programs_of questions) ≡ length env.ports + length env.rings = length-map questions (λ (q : Question). q.program) ∙ nodes.many in
     record {

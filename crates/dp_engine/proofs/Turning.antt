@@ -17,7 +17,8 @@ use Rattle.dp_engine.specs.Engines.{over_ports, records_of, sent_by, StandIn, Is
 -- ---- a turn
 
 -- a record's part and the rings' part make a turn
-pub turn_is : (s : Scheme) (port : ℕ) (bytes : List ℕ) (w mid w' : World) (outcome : runs.Outcome) (more all : ℕ) → all ≡ runs.runs_of outcome + more → (now : List Bool) × ArrivesAt s port bytes w outcome now mid → (later : List Bool) × Serves s.setting s.nodes.rings 32 mid later more w'
+pub turn_is : (s : Scheme) (port : ℕ) (bytes : List ℕ) (w mid w' : World) (outcome : runs.Outcome) (more all : ℕ) → all ≡ runs.runs_of outcome + more
+    → (now : List Bool) × ArrivesAt s port bytes w outcome now mid → (later : List Bool) × Serves s.setting s.nodes.rings 32 mid later more w'
     → (told : List Bool) × Turn s.setting s.nodes port bytes w outcome all told w'
 turn_is s port bytes w mid w' outcome more all sum (now, (spec, program, is_spec, is_program, arrives)) (later, serves) = (
   now ++ later,
@@ -52,7 +53,8 @@ one_of_all f (t ∷ tallies) zero less = omega arith
 one_of_all f (t ∷ tallies) (suc port) less = omega (arith, one_of_all f tallies port (omega (arith, less)))
 
 -- where one port counts anew
-pub one_changed : (f : Tallies → ℕ) (tallies : List Tallies) (port : ℕ) (t' : Tallies) → port < length tallies → over_ports f (slice_set tallies port t') + f (tallies_at tallies port) ≡ over_ports f tallies + f t'
+pub one_changed : (f : Tallies → ℕ) (tallies : List Tallies) (port : ℕ) (t' : Tallies) → port < length tallies
+    → over_ports f (slice_set tallies port t') + f (tallies_at tallies port) ≡ over_ports f tallies + f t'
 one_changed f [] port t' less = absurd (omega (arith, less))
 one_changed f (t ∷ tallies) zero t' less = omega arith
 one_changed f (t ∷ tallies) (suc port) t' less = omega (arith, one_changed f tallies port t' (omega (arith, less)))
@@ -75,8 +77,11 @@ counted_sent runs.Outcome.Oversize t = refl
 -- ---- what is true of an engine
 
 -- behind a turn
-pub turned : (s : Scheme) (m m' : Core) (space : SpaceView) (turns : ℕ) (tallies : List Tallies) (left : List ℕ) (port : ℕ) (outcome : runs.Outcome) → IsEngine s m space turns tallies left → turns < 134217728 → port < 8 → Rests s m' → m'.frames ≡ m.frames → m'.state.world.calls ≤ m.state.world.calls + 8684545
-    → m'.state.world.cuts ≤ m.state.world.cuts + 33 → packet_count m'.state + m.state.world.calls ≤ packet_count m.state + m'.state.world.calls → IsEngine s m' space (turns + 1) (counted_at port outcome tallies) left
+pub turned : (s : Scheme) (m m' : Core) (space : SpaceView) (turns : ℕ) (tallies : List Tallies) (left : List ℕ) (port : ℕ) (outcome : runs.Outcome)
+    → IsEngine s m space turns tallies left → turns < 134217728 → port < 8 → Rests s m' → m'.frames ≡ m.frames
+    → m'.state.world.calls ≤ m.state.world.calls + 8684545
+    → m'.state.world.cuts ≤ m.state.world.cuts + 33 → packet_count m'.state + m.state.world.calls ≤ packet_count m.state + m'.state.world.calls
+    → IsEngine s m' space (turns + 1) (counted_at port outcome tallies) left
 turned s m m' space turns tallies left port outcome e limit less rests frames calls cuts packets =
     let t = tallies_at tallies port in
     let there : port < length tallies = omega (arith, less, e.ports) in

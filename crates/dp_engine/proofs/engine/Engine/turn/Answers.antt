@@ -23,24 +23,39 @@ count-requires-clause-few c =
 
 pub invariant_of-self : goal.invariant_of-self
 invariant_of-self c =
+    let engine = c.self.inside in
+    let port = c.args.port in
+    let m2 = c.serve-served.new.m in
+    let outcome = outcome_of c.arrive-outcome.result.0 in
     let e = c.self.invariant in
     let a = c.arrive-outcome.ensures in
     let r = c.serve-served.ensures in
-    let exists = subst (λ (v : EngineState). c.args.port < length v.setting.env.ports) (sym c.self.view_is) c.requires.exists in
+    let exists = subst (λ (v : EngineState). port < length v.setting.env.ports) (sym c.self.view_is) c.requires.exists in
     let turns = ap (λ (v : EngineState). v.turns) c.self.view_is in
-    subst (λ (tallies : List Tallies). IsEngine c.self.inside.plan c.serve-served.new.m c.self.inside.space (c.self.inside.turns + 1) tallies c.self.inside.left) (sym c.count.ensures)
-    (turned c.self.inside.plan c.self.inside.machine c.serve-served.new.m c.self.inside.space c.self.inside.turns c.self.inside.tallies c.self.inside.left c.args.port (outcome_of c.arrive-outcome.result.0) e
-    (omega (arith, turns, c.requires.limit)) (port_small c.self.inside.plan c.args.port c.env-env.ensures.pipeline exists) r.rests (r.frames ∙ a.frames) (omega (arith, a.calls, r.calls))
-    (omega (arith, a.took.cuts_are, a.few_cuts, r.took.cuts_are, r.few_cuts)) (omega (arith, a.packets, r.packets)))
+    subst (λ (tallies : List Tallies). IsEngine engine.plan m2 engine.space (engine.turns + 1) tallies engine.left) (sym c.count.ensures)
+    (turned engine.plan engine.machine m2 engine.space engine.turns engine.tallies engine.left port outcome e
+    (omega (arith, turns, c.requires.limit)) (port_small engine.plan port c.env-env.ensures.pipeline exists) r.rests (r.frames ∙ a.frames)
+    (omega (arith, a.calls, r.calls)) (omega (arith, a.took.cuts_are, a.few_cuts, r.took.cuts_are, r.few_cuts)) (omega (arith, a.packets, r.packets)))
 
 pub returns-clause-turn : goal.returns-clause-turn
 returns-clause-turn c =
-    subst (λ (v : EngineState). (told : List Bool) × IsTurn v.setting v.nodes c.args.port c.args.bytes.now v.world (outcome_of c.arrive-outcome.result.0) (c.runs_of.result + c.serve-served.result.runs) told c.serve-served.new.m.state.world) c.self.view_is
-    (turn_is c.self.inside.plan c.args.port c.args.bytes.now c.self.inside.machine.state.world c.arrive-outcome.new.m.state.world c.serve-served.new.m.state.world (outcome_of c.arrive-outcome.result.0) c.serve-served.result.runs (c.runs_of.result + c.serve-served.result.runs)
-    (ap (λ n. n + c.serve-served.result.runs) c.runs_of.ensures.value) c.arrive-outcome.ensures.arrives c.serve-served.ensures.serves)
+    let engine = c.self.inside in
+    let port = c.args.port in
+    let bytes = c.args.bytes.now in
+    let m2 = c.serve-served.new.m in
+    let outcome = outcome_of c.arrive-outcome.result.0 in
+    let more = c.serve-served.result.runs in
+    subst (λ (v : EngineState). (told : List Bool) × IsTurn v.setting v.nodes port bytes v.world outcome
+        (c.runs_of.result + more) told m2.state.world) c.self.view_is
+    (turn_is engine.plan port bytes engine.machine.state.world c.arrive-outcome.new.m.state.world m2.state.world outcome more (c.runs_of.result + more)
+    (ap (λ n. n + more) c.runs_of.ensures.value) c.arrive-outcome.ensures.arrives c.serve-served.ensures.serves)
 
 pub returns-clause-never_stuck : goal.returns-clause-never_stuck
 returns-clause-never_stuck c =
-    subst (λ (v : EngineState). (b : Beginning) → IsOfTurn v.setting v.nodes c.args.port c.args.bytes.now v.world b → NeverStuck v.setting b.program b.packet b.number b.world) c.self.view_is
-    (λ b of. safe_never_stuck c.self.inside.plan.setting b
-    (turn_runs_safe c.self.inside.plan.setting c.self.inside.plan.nodes c.args.port c.args.bytes.now c.self.inside.machine.state.world b c.env-env.ensures.pipeline c.self.invariant.rests.rest of))
+    let engine = c.self.inside in
+    let port = c.args.port in
+    let bytes = c.args.bytes.now in
+    subst (λ (v : EngineState). (b : Beginning) → IsOfTurn v.setting v.nodes port bytes v.world b
+        → NeverStuck v.setting b.program b.packet b.number b.world) c.self.view_is
+    (λ b of. safe_never_stuck engine.plan.setting b
+    (turn_runs_safe engine.plan.setting engine.plan.nodes port bytes engine.machine.state.world b c.env-env.ensures.pipeline c.self.invariant.rests.rest of))
