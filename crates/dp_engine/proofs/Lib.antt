@@ -37,3 +37,6 @@ pub mod Writing
 pub mod Resting
 pub mod Emptied
 pub mod Reporting
+pub mod Pipelines
+pub mod Served
+pub mod Turning
