@@ -29,9 +29,6 @@ pub mod GivingUp
 pub mod Pushing
 pub mod Clearing
 pub mod Lookups
-pub mod Interleaving
-pub mod Forwarded
-pub mod RunOn
 pub mod Called
 pub mod Writing
 pub mod Resting

@@ -1,6 +1,5 @@
 pub mod Drains
 pub mod Engines
-pub mod Forwarding
 pub mod Handles
 pub mod Layouts
 pub mod Names

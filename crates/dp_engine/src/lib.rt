@@ -3,7 +3,6 @@
 #![tactic(auto)]
 
 mod engine;
-mod forwarding;
 mod machine;
 mod names;
 mod needs;
@@ -19,6 +18,5 @@ mod space;
 mod stack;
 
 pub use engine::{Engine, OpenFault, Outcome, Turn, WriteFault};
-pub use forwarding::RunCause;
 pub use needs::need;
 pub use report::{InputState, PoolReport, PortReport, Report};
