@@ -84,7 +84,7 @@ are_checked env tables questions pattern limits nodes checked = record {
       node_of env (Port port) program q is_program is_env is_entry (checked port q is_q);
   rings = λ ring program h.
       let (q, is_q, is_program) = get_map (λ (q : Question). q.program) questions (length env.ports + ring) program
-          (sym (get_drop (length env.ports) (programs_of questions) ring) ∙ h) in
+      (sym (get_drop (length env.ports) (programs_of questions) ring) ∙ h) in
       let (is_env, is_entry) = nodes.rings ring q is_q in
       node_of env (Ring ring) program q is_program is_env is_entry (checked (length env.ports + ring) q is_q);
   rooms = ports_have_room env limits;

@@ -31,7 +31,6 @@ loop-at-preserved g c = record {
       appends_piece _ _ _ [] (record_of c.args.unit c.args.time c.args.self.now.state.world.buffers) packets c.loop-at.at k _ here refl (c.loop-at.invariant.wrote packets box) (on_ok_at c.put.result c.if-is_err.ensures.value c.put.ensures.ok packets k box here);
   sound = λ sound. search rules;
   failures = search rules;
-
   counted = λ packets box.
       let (others, box', count) = c.queued-count.ensures.list in
       let same : length others ≡ length packets = ap length (same_Some _ _ (sym box' ∙ box)) in
@@ -39,6 +38,7 @@ loop-at-preserved g c = record {
       let (k, here) = at_place packets c.loop-at.at lt in
       called_piece _ _ _ [] (record_of c.args.unit c.args.time c.args.self.now.state.world.buffers) packets c.loop-at.at k _ here refl (c.loop-at.invariant.counted packets box) (c.put.ensures.counted packets k box here);
 }
+
 pub returns-clause-ok : goal.returns-clause-ok
 returns-clause-ok g c =
     let (packets, box, count) = c.queued-count.ensures.list in
