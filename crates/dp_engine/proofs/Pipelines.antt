@@ -1,5 +1,5 @@
 -- A plan of checked programs is a pipeline.
-use Rattle.std.proofs.Common.{◌≡◌, ℕ, zero, suc, ◌+◌, ◌-◌, ◌<◌, ◌≤◌, Bool, true, false, List, [], ◌∷◌, length, map, take, drop, Option, Some, None}
+use Rattle.std.proofs.Common.{◌≡◌, ℕ, zero, suc, ◌+◌, ◌-◌, ◌<◌, ◌≤◌, Bool, true, false, List, [], ◌∷◌, length, map, take, drop, Some, None}
 use Rattle.std.proofs.Common.{refl, sym, ◌∙◌, ap, subst, arith}
 use Rattle.std.specs.Prelude.{slice_get, nat_lt}
 use Rattle.std.specs.List.{AllByRecursion}
@@ -14,7 +14,6 @@ use Rattle.dp_model.specs.Environments.{Environment, fault_of}
 use Rattle.dp_model.specs.Prefixes.{Route}
 use Rattle.dp_model.specs.Rules.{Question}
 use Rattle.dp_model.specs.Laws.{Checked, AreChecked}
-use Rattle.dp_model.specs.Safety.{IsPipeline}
 use Rattle.dp_model.proofs.EnvLemmas.{ports_have_room}
 use Rattle.dp_model.proofs.PacketSteps.{each_at}
 use Rattle.dp_lpm.specs.Routes.{RouteTable}
@@ -84,7 +83,7 @@ are_checked env tables questions pattern limits nodes checked = record {
       node_of env (Port port) program q is_program is_env is_entry (checked port q is_q);
   rings = λ ring program h.
       let (q, is_q, is_program) = get_map (λ (q : Question). q.program) questions (length env.ports + ring) program
-          (sym (get_drop (length env.ports) (programs_of questions) ring) ∙ h) in
+      (sym (get_drop (length env.ports) (programs_of questions) ring) ∙ h) in
       let (is_env, is_entry) = nodes.rings ring q is_q in
       node_of env (Ring ring) program q is_program is_env is_entry (checked (length env.ports + ring) q is_q);
   rooms = ports_have_room env limits;

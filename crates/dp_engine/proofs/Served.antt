@@ -10,11 +10,11 @@ use Rattle.dp_model.specs.declared.env.PortSpec.{PortSpec}
 use Rattle.dp_model.specs.declared.instr.Instr.{Instr}
 use Rattle.dp_model.specs.Environments.{Environment, room_at}
 use Rattle.dp_model.specs.Packets.{Packet, needed, received, Filled, AreFresh}
-use Rattle.dp_model.specs.Machine.{Setting, World, State, live, At, Ended, is_denied}
+use Rattle.dp_model.specs.Machine.{Setting, World, State, live, At, is_denied}
 use Rattle.dp_model.specs.Meaning.{RingHolds}
-use Rattle.dp_model.specs.Runs.{Goes, first_state, between, NodeRun, Took, Outcome, Got, Receives, Waiting, behind, first_waiting, Serves, Nodes}
+use Rattle.dp_model.specs.Runs.{first_state, between, Took, Receives, Waiting, behind, first_waiting, Serves, Nodes}
 use Rattle.dp_model.specs.Laws.{Checked}
-use Rattle.dp_model.specs.Safety.{IsAtRest, BeginsWell, Beginning, IsSafeBeginning, IsPipeline}
+use Rattle.dp_model.specs.Safety.{IsAtRest, BeginsWell, Beginning, IsPipeline}
 use Rattle.dp_model.proofs.Kept.{get_within, zip_back}
 use Rattle.dp_model.proofs.EnvLemmas.{segs_small}
 use Rattle.dp_model.proofs.Begin.{waits}
@@ -71,7 +71,7 @@ at_port c nodes ports port d pipeline same less =
     let spec = slice_index_or ports port d in
     let long : length ports ≡ length c.env.ports = ap length same in
     let is_spec : slice_get c.env.ports port ≡ Some spec = subst (λ l. slice_get l port ≡ Some spec) same
-        (slice_get-get_or ports port d (omega (arith, long, less))) in
+    (slice_get-get_or ports port d (omega (arith, long, less))) in
     let (program, is_program) = get_within nodes.ports port (omega (arith, less, pipeline.ports)) in
     record {
       spec_is = is_spec;
@@ -107,7 +107,7 @@ received_is c nodes program port spec bytes w s pipeline is_spec is_program rest
     let w1 : World = record w { buffers = r.buffers; calls = w.calls + 1 } in
     let k : Packet = received (room_at c.env.pools spec.pool) r.numbers (length bytes) in
     let well = record_begins c node.question port spec bytes w r.numbers r.buffers (sym node.env_is) node.entry_is is_spec
-        (pipeline.checked.rooms port spec is_spec) pipeline.limits rest fits r.fresh r.filled in
+    (pipeline.checked.rooms port spec is_spec) pipeline.limits rest fits r.fresh r.filled in
     subst (Received c program port spec bytes w) (sym r.state) (record {
       can_run = can_run c (Port port) program k port w1 node well;
       receives = λ allowed s' (n, told, goes). (
@@ -153,8 +153,9 @@ next_is c nodes m m' ring rest = go (first_waiting m.state.world.rings) refl
         let w = m.state.world in
         let (packets, there, _) = waits w.rings next e in
         let (spec, is_ring, _) = zip_back (RingHolds c.env.pools (live (between w))) c.env.rings w.rings next.ring (next.packet ∷ packets)
-            rest.ready.world.rings there in
+        rest.ready.world.rings there in
         slice_get_within c.env.rings next.ring spec is_ring
+
     go : (o : Option Waiting) → first_waiting m.state.world.rings ≡ o → IsTaken m m' ring o → Next c nodes m m' ring
     go None e (never, _) = cc
     go (Some next) e (same, is) =
@@ -177,9 +178,15 @@ pub next_serves : (s : Scheme) (program : List Instr) (m m' m2 : Core) (ring : �
     → ServesOne s m.state.world (Some run) m2.state.world
 next_serves s program m m' m2 ring run is_program n runs took =
     let (k, told, goes) = subst (λ (x : Core). Runs s.setting program x.state m2.state) n.taken runs in
-    let t = subst (λ (x : Core). Took x.state.world m2.state.world run.steps run.cuts) n.taken took in
-    (n.next, program, told, n.waits, ap (slice_get s.nodes.rings) n.ring_is ∙ is_program,
-        (k, m2.state, goes, refl), record { steps_are = t.steps_are; cuts_are = t.cuts_are })
+    let t = subst (λ (x : Core). Took x.state.world m2.state.world run.steps run.cuts) n.taken took in (
+      n.next,
+      program,
+      told,
+      n.waits,
+      ap (slice_get s.nodes.rings) n.ring_is ∙ is_program,
+      (k, m2.state, goes, refl),
+      record { steps_are = t.steps_are; cuts_are = t.cuts_are },
+    )
 
 -- after it the next can follow
 pub served_rests : (s : Scheme) (m m' : Core) (run : took.NodeRun) → IsPipeline s.setting s.nodes → IsAtRest s.setting m.state.world
@@ -203,7 +210,7 @@ listed_waiting ([] ∷ rings) next h = go (first_waiting rings) refl h (listed_w
         omega (arith, same, others w e)
 listed_waiting ((k ∷ packets) ∷ rings) next h =
     let same : length packets + listed_count rings ≡ listed_count next.rings = ap (λ (x : Waiting). listed_count x.rings)
-        (same_Some (record { ring = 0; packet = k; rings = packets ∷ rings }) next h) in
+    (same_Some (record { ring = 0; packet = k; rings = packets ∷ rings }) next h) in
     omega (arith, same)
 
 pub idle_count : (packets : List (Option Packet)) → AllByRecursion (λ o. o ≡ None) packets → held_count packets ≡ 0
@@ -215,7 +222,7 @@ pub next_count : (c : Setting) (nodes : Nodes) (m m' : Core) (ring : ℕ) → Al
     → packet_count m'.state ≡ packet_count m.state
 next_count c nodes m m' ring idle n =
     let e : packet_count m'.state ≡ packet_count (first_state n.next.packet n.next.ring
-        (record m.state.world { rings = n.next.rings })) = ap (λ (x : Core). packet_count x.state) n.taken in
+    (record m.state.world { rings = n.next.rings })) = ap (λ (x : Core). packet_count x.state) n.taken in
     omega (arith, e, idle_count m.state.packets idle, listed_waiting m.state.world.rings n.next n.waits)
 
 -- ---- one after the other
@@ -283,7 +290,7 @@ one_round s m0 m m' i runs steps cuts run less r o few_steps few_cuts k =
       told = r.told ++ o.2;
       serves = λ later more w serves.
           let one : Serves s.setting s.nodes.rings (suc (32 - (i + 1))) m.state.world (o.2 ++ later) (more + 1) w = serves_one s
-              (32 - (i + 1)) m.state.world m'.state.world w run later more o serves in
+          (32 - (i + 1)) m.state.world m'.state.world w run later more o serves in
           let left : suc (32 - (i + 1)) ≡ 32 - i = omega (arith, less) in
           let sum : runs + (more + 1) ≡ (runs + 1) + more = omega arith in
           let all = r.serves (o.2 ++ later) (more + 1) w (subst (λ n. Serves s.setting s.nodes.rings n m.state.world (o.2 ++ later) (more + 1) w) left one) in
@@ -310,7 +317,7 @@ pub rounds_none : (s : Scheme) (m0 m : Core) (i runs steps cuts : ℕ) (w : Worl
     → (told : List Bool) × Serves s.setting s.nodes.rings 32 m0.state.world told runs w
 rounds_none s m0 m i runs steps cuts w r (none, is) =
     rounds_end s m0 m i runs steps cuts w r (subst (Serves s.setting s.nodes.rings (32 - i) m.state.world [] 0) (sym is)
-        (serves_none s.setting s.nodes.rings (32 - i) m.state.world none))
+    (serves_none s.setting s.nodes.rings (32 - i) m.state.world none))
 
 pub none_of : (s : Scheme) (w w' : World) (o : Option took.NodeRun) → ((x : took.NodeRun) → o ≡ Some x → ⊥) → ServesOne s w o w' → ServesOne s w None w'
 none_of s w w' None none is = is
@@ -322,4 +329,4 @@ pub rounds_all : (s : Scheme) (m0 m : Core) (i runs steps cuts : ℕ) → 32 ≤
 rounds_all s m0 m i runs steps cuts all r =
     let none : 0 ≡ 32 - i = omega (arith, all) in
     rounds_end s m0 m i runs steps cuts m.state.world r (subst (λ n. Serves s.setting s.nodes.rings n m.state.world [] 0 m.state.world) none
-        (refl, refl, refl))
+    (refl, refl, refl))

@@ -21,7 +21,7 @@ returns-then-needed-spec-clause-arrives c =
     let spec = slice_index_or c.ports.result.now port d in
     let same = c.env-env.ensures.same in
     let at = at_port p.setting p.nodes c.ports.result.now port d c.env-env.ensures.pipeline
-        (c.ports.ensures ∙ ap (λ (x : Environment). x.ports) same) c.requires.exists in
+    (c.ports.ensures ∙ ap (λ (x : Environment). x.ports) same) c.requires.exists in
     let pools = c.pools.ensures ∙ ap (λ (x : Environment). x.pools) same in
     let need : c.needed.result ≡ segments_needed p.setting.env.pools spec.pool (length bytes) = rw pools at c.needed.ensures in
     ([], (spec, at.program, at.spec_is, at.program_is, (omega (arith, need, c.if-needed-spec.true), refl, refl)))
@@ -34,7 +34,7 @@ receive-requires-clause-has_room c =
     let spec = slice_index_or c.ports.result.now port d in
     let same = c.env-env.ensures.same in
     let at = at_port p.setting p.nodes c.ports.result.now port d c.env-env.ensures.pipeline
-        (c.ports.ensures ∙ ap (λ (x : Environment). x.ports) same) c.requires.exists in
+    (c.ports.ensures ∙ ap (λ (x : Environment). x.ports) same) c.requires.exists in
     subst (λ (e : Environment). 129 ≤ room_at e.pools spec.pool) (sym same) at.room
 
 pub receive-requires-clause-fits : goal.receive-requires-clause-fits
@@ -46,7 +46,7 @@ receive-requires-clause-fits c =
     let spec = slice_index_or c.ports.result.now port d in
     let same = c.env-env.ensures.same in
     let at = at_port p.setting p.nodes c.ports.result.now port d c.env-env.ensures.pipeline
-        (c.ports.ensures ∙ ap (λ (x : Environment). x.ports) same) c.requires.exists in
+    (c.ports.ensures ∙ ap (λ (x : Environment). x.ports) same) c.requires.exists in
     let need : c.needed.result ≡ segments_needed c.env-env.result.now.pools spec.pool (length bytes) = rw c.pools.ensures at c.needed.ensures in
     omega (arith, need, c.if-needed-spec.false, at.segs)
 
@@ -59,7 +59,7 @@ returns-then-not-receive-clause-arrives c =
     let spec = slice_index_or c.ports.result.now port d in
     let same = c.env-env.ensures.same in
     let at = at_port p.setting p.nodes c.ports.result.now port d c.env-env.ensures.pipeline
-        (c.ports.ensures ∙ ap (λ (x : Environment). x.ports) same) c.requires.exists in
+    (c.ports.ensures ∙ ap (λ (x : Environment). x.ports) same) c.requires.exists in
     let pools = c.pools.ensures ∙ ap (λ (x : Environment). x.pools) same in
     let need : c.needed.result ≡ segments_needed p.setting.env.pools spec.pool (length bytes) = rw pools at c.needed.ensures in
     let denied = rw (same, c.pattern.ensures) at c.if-not-receive.ensures.denied in
@@ -77,14 +77,14 @@ run-requires-clause-sound c =
     let spec = slice_index_or c.ports.result.now port d in
     let same = c.env-env.ensures.same in
     let at = at_port p.setting p.nodes c.ports.result.now port d c.env-env.ensures.pipeline
-        (c.ports.ensures ∙ ap (λ (x : Environment). x.ports) same) c.requires.exists in
+    (c.ports.ensures ∙ ap (λ (x : Environment). x.ports) same) c.requires.exists in
     let pools = c.pools.ensures ∙ ap (λ (x : Environment). x.pools) same in
     let need : c.needed.result ≡ segments_needed p.setting.env.pools spec.pool (length bytes) = rw pools at c.needed.ensures in
     let program = c.port_program-program.result.now in
     let got = received_with p.setting (setting_of c.env-env.result.now [] c.pattern.result.now) spec.pool port bytes w s same
-        (c.if-not-receive.ensures.received refl) in
+    (c.if-not-receive.ensures.received refl) in
     let r = received_is p.setting p.nodes program port spec bytes w s c.env-env.ensures.pipeline at.spec_is c.port_program-program.ensures.same
-        c.requires.rests.rest (omega (arith, need, c.if-needed-spec.false)) got in
+    c.requires.rests.rest (omega (arith, need, c.if-needed-spec.false)) got in
     let setting = setting_is p.setting c.env-env.result.now c.tables.result.now c.pattern-2.result.now same c.tables.ensures c.pattern-2.ensures in
     subst (λ (x : Setting). CanRun x program s) (sym setting) r.can_run
 
@@ -99,14 +99,14 @@ returns-clause-arrives c =
     let spec = slice_index_or c.ports.result.now port d in
     let same = c.env-env.ensures.same in
     let at = at_port p.setting p.nodes c.ports.result.now port d c.env-env.ensures.pipeline
-        (c.ports.ensures ∙ ap (λ (x : Environment). x.ports) same) c.requires.exists in
+    (c.ports.ensures ∙ ap (λ (x : Environment). x.ports) same) c.requires.exists in
     let pools = c.pools.ensures ∙ ap (λ (x : Environment). x.pools) same in
     let need : c.needed.result ≡ segments_needed p.setting.env.pools spec.pool (length bytes) = rw pools at c.needed.ensures in
     let program = c.port_program-program.result.now in
     let got = received_with p.setting (setting_of c.env-env.result.now [] c.pattern.result.now) spec.pool port bytes w s same
-        (c.if-not-receive.ensures.received refl) in
+    (c.if-not-receive.ensures.received refl) in
     let r = received_is p.setting p.nodes program port spec bytes w s c.env-env.ensures.pipeline at.spec_is c.port_program-program.ensures.same
-        c.requires.rests.rest (omega (arith, need, c.if-needed-spec.false)) got in
+    c.requires.rests.rest (omega (arith, need, c.if-needed-spec.false)) got in
     let denied = rw (same, c.pattern.ensures) at c.if-not-receive.ensures.denied in
     let setting = setting_is p.setting c.env-env.result.now c.tables.result.now c.pattern-2.result.now same c.tables.ensures c.pattern-2.ensures in
     let runs = subst (λ (x : Setting). Runs x program s c.run.new.m.state) setting c.run.ensures.runs in
@@ -124,14 +124,14 @@ returns-clause-rests c =
     let spec = slice_index_or c.ports.result.now port d in
     let same = c.env-env.ensures.same in
     let at = at_port p.setting p.nodes c.ports.result.now port d c.env-env.ensures.pipeline
-        (c.ports.ensures ∙ ap (λ (x : Environment). x.ports) same) c.requires.exists in
+    (c.ports.ensures ∙ ap (λ (x : Environment). x.ports) same) c.requires.exists in
     let pools = c.pools.ensures ∙ ap (λ (x : Environment). x.pools) same in
     let need : c.needed.result ≡ segments_needed p.setting.env.pools spec.pool (length bytes) = rw pools at c.needed.ensures in
     let program = c.port_program-program.result.now in
     let got = received_with p.setting (setting_of c.env-env.result.now [] c.pattern.result.now) spec.pool port bytes w s same
-        (c.if-not-receive.ensures.received refl) in
+    (c.if-not-receive.ensures.received refl) in
     let r = received_is p.setting p.nodes program port spec bytes w s c.env-env.ensures.pipeline at.spec_is c.port_program-program.ensures.same
-        c.requires.rests.rest (omega (arith, need, c.if-needed-spec.false)) got in
+    c.requires.rests.rest (omega (arith, need, c.if-needed-spec.false)) got in
     let denied = rw (same, c.pattern.ensures) at c.if-not-receive.ensures.denied in
     let setting = setting_is p.setting c.env-env.result.now c.tables.result.now c.pattern-2.result.now same c.tables.ensures c.pattern-2.ensures in
     let runs = subst (λ (x : Setting). Runs x program s c.run.new.m.state) setting c.run.ensures.runs in

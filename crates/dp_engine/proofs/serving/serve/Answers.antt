@@ -22,4 +22,4 @@ loop-i-preserved c =
 pub returns-clause-serves : goal.returns-clause-serves
 returns-clause-serves c =
     rounds_all c.args.plan.now c.args.m.now c.loop-i.m c.loop-i.i c.loop-i.served.runs c.loop-i.served.steps c.loop-i.served.cuts
-        (omega (arith, c.loop-i-test.false)) c.loop-i.invariant
+    (omega (arith, c.loop-i-test.false)) c.loop-i.invariant

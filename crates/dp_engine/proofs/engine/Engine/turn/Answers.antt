@@ -46,7 +46,7 @@ returns-clause-turn c =
     let outcome = outcome_of c.arrive-outcome.result.0 in
     let more = c.serve-served.result.runs in
     subst (λ (v : EngineState). (told : List Bool) × IsTurn v.setting v.nodes port bytes v.world outcome
-        (c.runs_of.result + more) told m2.state.world) c.self.view_is
+    (c.runs_of.result + more) told m2.state.world) c.self.view_is
     (turn_is engine.plan port bytes engine.machine.state.world c.arrive-outcome.new.m.state.world m2.state.world outcome more (c.runs_of.result + more)
     (ap (λ n. n + more) c.runs_of.ensures.value) c.arrive-outcome.ensures.arrives c.serve-served.ensures.serves)
 
@@ -56,6 +56,6 @@ returns-clause-never_stuck c =
     let port = c.args.port in
     let bytes = c.args.bytes.now in
     subst (λ (v : EngineState). (b : Beginning) → IsOfTurn v.setting v.nodes port bytes v.world b
-        → NeverStuck v.setting b.program b.packet b.number b.world) c.self.view_is
+    → NeverStuck v.setting b.program b.packet b.number b.world) c.self.view_is
     (λ b of. safe_never_stuck engine.plan.setting b
     (turn_runs_safe engine.plan.setting engine.plan.nodes port bytes engine.machine.state.world b c.env-env.ensures.pipeline c.self.invariant.rests.rest of))

@@ -13,4 +13,4 @@ invariant_of-result c =
     plan_of c.args.env c.args.tables.items c.args.nodes.items [] c.within_limits.ensures c.requires.nodes c.requires.tables
     (subst (λ (qs : List Question). (k : ℕ) (q : Question) → slice_get qs k ≡ Some q → IsChecked q) c.as_slice-2.ensures.value c.tell_checked.ensures)
     (subst (λ (ts : List RouteTable). (k : ℕ) (t : RouteTable) → slice_get ts k ≡ Some t → AllByRecursion
-        (λ (route : Route). route.hop ≤ 16777215) t.routes) c.as_slice.ensures.value c.tell_hops.ensures)
+    (λ (route : Route). route.hop ≤ 16777215) t.routes) c.as_slice.ensures.value c.tell_hops.ensures)
