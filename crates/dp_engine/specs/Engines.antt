@@ -1,12 +1,12 @@
 -- What an engine is, how it begins, and what its calls do.
-use Rattle.std.specs.Prelude.{◌≡◌, ℕ, ◌+◌, ◌*◌, ◌≤◌, List, [], ◌∷◌, length, map, replicate, slice_index_or, slice_set}
+use Rattle.std.specs.Prelude.{◌≡◌, ℕ, ◌+◌, ◌*◌, ◌≤◌, List, [], ◌∷◌, length, map, replicate, slice_index_or, slice_set, None}
 use Rattle.std.specs.List.{AllByRecursion}
 use Rattle.dp_region.specs.Ownership.{Home}
 use Rattle.dp_region.specs.declared.region.Region.{Region}
 use Rattle.dp_pool.specs.Pools.{PoolZones}
 use Rattle.dp_ring.specs.Rings.{RingView}
 use Rattle.dp_lpm.specs.Routes.{RouteTable}
-use Rattle.dp_model.specs.Environments.{Environment}
+use Rattle.dp_model.specs.Environments.{Environment, fault_of}
 use Rattle.dp_model.specs.Packets.{Packet}
 use Rattle.dp_model.specs.Rules.{Question}
 use Rattle.dp_model.specs.Machine.{Setting, World}
@@ -68,9 +68,10 @@ pub record StandIn (space : SpaceView) (frames : Frames) : Type 0 where
   pub outboxes : AllByRecursion (λ (r : RingView). r.home ≡ space.home) frames.outboxes
   pub out : 2 * length frames.zones + length frames.rings + length frames.outboxes ≡ space.out
 
--- a turn has 33 node runs at most, each of 257 times 1,024 steps at most; each step and each record make at most one
--- allocation call, and each packet that was sent or left comes from one
+-- its environment is within the limits; a turn has 33 node runs at most, each of 257 times 1,024 steps at most; each step and
+-- each record make at most one allocation call, and each packet that was sent or left comes from one
 pub record IsEngine (s : Scheme) (core : Core) (space : SpaceView) (turns : ℕ) (tallies : List Tallies) (left : List ℕ) : Type 0 where
+  pub within : fault_of s.setting.env ≡ None
   pub rests : Rests s core
   pub stand : StandIn space core.frames
   pub limit : turns ≤ 134217728
