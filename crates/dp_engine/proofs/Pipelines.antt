@@ -1,5 +1,5 @@
 -- A plan of checked programs is a pipeline.
-use Rattle.std.proofs.Common.{◌≡◌, ℕ, zero, suc, ◌+◌, ◌-◌, ◌<◌, ◌≤◌, Bool, true, false, List, [], ◌∷◌, length, map, take, drop, Option, Some, None}
+use Rattle.std.proofs.Common.{◌≡◌, ℕ, zero, suc, ◌+◌, ◌-◌, ◌<◌, ◌≤◌, Bool, true, false, List, [], ◌∷◌, length, map, take, drop, Some, None}
 use Rattle.std.proofs.Common.{refl, sym, ◌∙◌, ap, subst, arith}
 use Rattle.std.specs.Prelude.{slice_get, nat_lt}
 use Rattle.std.specs.List.{AllByRecursion}
@@ -14,7 +14,6 @@ use Rattle.dp_model.specs.Environments.{Environment, fault_of}
 use Rattle.dp_model.specs.Prefixes.{Route}
 use Rattle.dp_model.specs.Rules.{Question}
 use Rattle.dp_model.specs.Laws.{Checked, AreChecked}
-use Rattle.dp_model.specs.Safety.{IsPipeline}
 use Rattle.dp_model.proofs.EnvLemmas.{ports_have_room}
 use Rattle.dp_model.proofs.PacketSteps.{each_at}
 use Rattle.dp_lpm.specs.Routes.{RouteTable}

@@ -10,11 +10,11 @@ use Rattle.dp_model.specs.declared.env.PortSpec.{PortSpec}
 use Rattle.dp_model.specs.declared.instr.Instr.{Instr}
 use Rattle.dp_model.specs.Environments.{Environment, room_at}
 use Rattle.dp_model.specs.Packets.{Packet, needed, received, Filled, AreFresh}
-use Rattle.dp_model.specs.Machine.{Setting, World, State, live, At, Ended, is_denied}
+use Rattle.dp_model.specs.Machine.{Setting, World, State, live, At, is_denied}
 use Rattle.dp_model.specs.Meaning.{RingHolds}
-use Rattle.dp_model.specs.Runs.{Goes, first_state, between, NodeRun, Took, Outcome, Got, Receives, Waiting, behind, first_waiting, Serves, Nodes}
+use Rattle.dp_model.specs.Runs.{first_state, between, Took, Receives, Waiting, behind, first_waiting, Serves, Nodes}
 use Rattle.dp_model.specs.Laws.{Checked}
-use Rattle.dp_model.specs.Safety.{IsAtRest, BeginsWell, Beginning, IsSafeBeginning, IsPipeline}
+use Rattle.dp_model.specs.Safety.{IsAtRest, BeginsWell, Beginning, IsPipeline}
 use Rattle.dp_model.proofs.Kept.{get_within, zip_back}
 use Rattle.dp_model.proofs.EnvLemmas.{segs_small}
 use Rattle.dp_model.proofs.Begin.{waits}

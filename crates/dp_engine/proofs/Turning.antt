@@ -86,6 +86,7 @@ turned s m m' space turns tallies left port outcome e limit less rests frames ca
     let t = tallies_at tallies port in
     let there : port < length tallies = omega (arith, less, e.ports) in
     record {
+      within = e.within;
       rests = rests;
       stand = subst (StandIn space) (sym frames) e.stand;
       limit = omega (arith, limit);

@@ -1,4 +1,4 @@
-use Rattle.std.proofs.Common.{◌≡◌, refl, ◌<◌, ◌≤◌, length, Some, arith, sym, ap, ◌∙◌}
+use Rattle.std.proofs.Common.{refl, length, arith}
 use Rattle.std.proofs.lemmas.Option.{slice_get_within, slice_get_read}
 use Rattle.dp_engine.proofs.Pipelines.{next_checked}
 use Rattle.dp_engine.proofs.plan.tell_checked.Goals as goal
