@@ -36,7 +36,8 @@ abbrev pub first_core : MbufsView → List RingView → List RingView → Core
 first_core m rings outboxes = core_of m.store (frames_of m.zones rings outboxes) (replicate 8 None) (replicate 8 0) (lists_of rings outboxes) 0 (ran 0 0 0)
 
 -- nothing waits in rings that were laid out for these
-empty_lists : {X : Type 0} (f : X → ℕ) (home : Home) (slots : List (Option Packet)) (xs : List X) (places : List (Option RingView)) → AreFilled (IsNewRing home) (map f xs) places → packets_in slots (map entries_of (rings_in places)) ≡ map (λ _. []) xs
+empty_lists : {X : Type 0} (f : X → ℕ) (home : Home) (slots : List (Option Packet)) (xs : List X) (places : List (Option RingView))
+    → AreFilled (IsNewRing home) (map f xs) places → packets_in slots (map entries_of (rings_in places)) ≡ map (λ _. []) xs
 empty_lists f home slots [] [] are = refl
 empty_lists f home slots [] (None ∷ places) are = refl
 empty_lists f home slots [] (Some r ∷ places) are = absurd (none-some r (sym are.0))
@@ -59,7 +60,8 @@ none_listed : {X : Type 0} (xs : List X) → listed_count (map (λ _. []) xs) �
 none_listed [] = refl
 none_listed (x ∷ xs) = let more = none_listed xs in omega arith
 
-module _ (home : Home) (size : ℕ) (env : Environment) (space : SpaceView) (parts : Parts) (m : MbufsView) (laid : IsLaidOut home size env space parts) (new : IsNew parts.pools m) (well : IsWellFormedStore m.store) where
+module _ (home : Home) (size : ℕ) (env : Environment) (space : SpaceView) (parts : Parts) (m : MbufsView) (laid : IsLaidOut home size env space parts)
+    (new : IsNew parts.pools m) (well : IsWellFormedStore m.store) where
   abbrev core : Core
   core = first_core m (rings_in parts.rings) (rings_in parts.lists)
 
@@ -70,7 +72,8 @@ module _ (home : Home) (size : ℕ) (env : Environment) (space : SpaceView) (par
   starts = record {
     rings = empty_lists (λ (r : RingSpec). r.count) home m.store.slots env.rings parts.rings laid.rings;
     outboxes = empty_lists (λ (p : PortSpec). p.queue) home m.store.slots env.ports parts.lists laid.lists;
-    rooms = λ b there. (let P : List PoolSpec → Type 0 = λ pools. IsNumber pools b → length (bytes_of m.store.buffers b) ≡ room_at pools b.pool in subst P pools_are (well.within.rooms b) there);
+    rooms = λ b there. (let P : List PoolSpec → Type 0 = λ pools. IsNumber pools b → length (bytes_of m.store.buffers b) ≡ room_at pools b.pool in subst P
+        pools_are (well.within.rooms b) there);
     bytes = well.within.bytes;
     cuts = refl;
   }
@@ -106,7 +109,8 @@ module _ (home : Home) (size : ℕ) (env : Environment) (space : SpaceView) (par
         packets = omega (arith, queued, sent);
       }
 
-  pub is_opened : (tables : List RouteTable) (questions : List Question) → IsOpened home size env tables questions (engine_of (scheme_of env tables questions []) core space 0 (replicate 8 no_tallies) (replicate 8 0))
+  pub is_opened : (tables : List RouteTable) (questions : List Question)
+      → IsOpened home size env tables questions (engine_of (scheme_of env tables questions []) core space 0 (replicate 8 no_tallies) (replicate 8 0))
   is_opened tables questions = record {
     setting = refl;
     nodes = refl;

@@ -24,7 +24,8 @@ rings_first home (n ∷ counts) [] are = absurd are
 rings_first home (n ∷ counts) (None ∷ slots) are = absurd are.0
 rings_first home (n ∷ counts) (Some r ∷ slots) are = rings_first home counts slots are.1
 
-pub without_entry : (home : Home) (counts : List ℕ) (slots : List (Option RingView)) → AreFilled (IsNewRing home) counts slots → AllByRecursion (λ (r : RingView). r.entries ≡ []) (rings_in slots)
+pub without_entry : (home : Home) (counts : List ℕ) (slots : List (Option RingView)) → AreFilled (IsNewRing home) counts slots
+    → AllByRecursion (λ (r : RingView). r.entries ≡ []) (rings_in slots)
 without_entry home [] [] are = tt
 without_entry home [] (None ∷ slots) are = tt
 without_entry home [] (Some r ∷ slots) are = absurd (none-some r (sym are.0))
@@ -32,7 +33,8 @@ without_entry home (n ∷ counts) [] are = absurd are
 without_entry home (n ∷ counts) (None ∷ slots) are = absurd are.0
 without_entry home (n ∷ counts) (Some r ∷ slots) are = (are.0.empty, without_entry home counts slots are.1)
 
-pub counts_in : (home : Home) (counts : List ℕ) (slots : List (Option RingView)) → AreFilled (IsNewRing home) counts slots → map (λ (r : RingView). r.count) (map without_entries (rings_in slots)) ≡ counts
+pub counts_in : (home : Home) (counts : List ℕ) (slots : List (Option RingView)) → AreFilled (IsNewRing home) counts slots
+    → map (λ (r : RingView). r.count) (map without_entries (rings_in slots)) ≡ counts
 counts_in home [] [] are = refl
 counts_in home [] (None ∷ slots) are = refl
 counts_in home [] (Some r ∷ slots) are = absurd (none-some r (sym are.0))
@@ -95,7 +97,8 @@ pools_stay home (None ∷ slots) first all = (tt, no_pools home slots first)
 pools_stay home (Some p ∷ slots) first all = (all.0, pools_stay home slots first.1 all.1)
 
 -- what is laid out stands in the space
-pub stand_in : (space : SpaceView) (parts : Parts) → PoolsFirst parts.pools → RingsFirst parts.rings → RingsFirst parts.lists → PartsIn space.home parts → zones_in parts ≡ space.out
+pub stand_in : (space : SpaceView) (parts : Parts) → PoolsFirst parts.pools → RingsFirst parts.rings → RingsFirst parts.lists → PartsIn space.home parts
+    → zones_in parts ≡ space.out
     → StandIn space (frames_of (zones_of (present parts.pools)) (rings_in parts.rings) (rings_in parts.lists))
 stand_in space parts pools rings lists (pools_here, rings_here, lists_here) out = record {
   pools = pools_at space.home parts.pools pools_here;
@@ -106,7 +109,8 @@ stand_in space parts pools rings lists (pools_here, rings_here, lists_here) out 
 
 -- and so does what comes back of it
 pub stand_back : (space : SpaceView) (parts : Parts) → PoolsFirst parts.pools → RingsFirst parts.rings → RingsFirst parts.lists
-    → StandIn space (frames_of (zones_of (present parts.pools)) (rings_in parts.rings) (rings_in parts.lists)) → PartsIn space.home parts × (zones_in parts ≡ space.out)
+    → StandIn space (frames_of (zones_of (present parts.pools)) (rings_in parts.rings) (rings_in parts.lists)) → PartsIn space.home parts ×
+    (zones_in parts ≡ space.out)
 stand_back space parts pools rings lists stand = (
   (
     pools_stay space.home parts.pools pools stand.pools,
@@ -116,8 +120,10 @@ stand_back space parts pools rings lists stand = (
   omega (arith, stand.out, pools_filled parts.pools pools, rings_filled parts.rings rings, rings_filled parts.lists lists),
 )
 
-pub parts_back : (space : SpaceView) (frames : Frames) (zones : List PoolZones) (rings outboxes : List RingView) (parts : Parts) → StandIn space frames → frames_of zones rings outboxes ≡ frames
-    → PoolsFirst parts.pools → zones_of (present parts.pools) ≡ zones → RingsFirst parts.rings → rings_in parts.rings ≡ rings → RingsFirst parts.lists → rings_in parts.lists ≡ outboxes
+pub parts_back : (space : SpaceView) (frames : Frames) (zones : List PoolZones) (rings outboxes : List RingView) (parts : Parts) → StandIn space frames
+    → frames_of zones rings outboxes ≡ frames
+    → PoolsFirst parts.pools → zones_of (present parts.pools) ≡ zones → RingsFirst parts.rings → rings_in parts.rings ≡ rings → RingsFirst parts.lists →
+    rings_in parts.lists ≡ outboxes
     → PartsIn space.home parts × (zones_in parts ≡ space.out)
 parts_back space frames zones rings outboxes parts stand is pools zones_are first rings_are lists lists_are =
     let same : frames_of (zones_of (present parts.pools)) (rings_in parts.rings) (rings_in parts.lists) ≡ frames = rw (zones_are, rings_are, lists_are) is in

@@ -8,4 +8,5 @@ pub close-requires : goal.close-requires
 close-requires c = record { none = subst IsFlushed (sym c.flush.ensures.empty) (flushed_empty c.args.self) }
 
 pub returns-clause-whole : goal.returns-clause-whole
-returns-clause-whole c = whole_report c.args.self.setting.env c.flush.new.self c.report-report.result (ap (λ (e : EngineState). e.setting.env) c.flush.ensures.empty) c.flush.ensures.free c.report-report.ensures
+returns-clause-whole c = whole_report c.args.self.setting.env c.flush.new.self c.report-report.result
+    (ap (λ (e : EngineState). e.setting.env) c.flush.ensures.empty) c.flush.ensures.free c.report-report.ensures
