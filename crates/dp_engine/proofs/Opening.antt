@@ -9,7 +9,7 @@ use Rattle.dp_pool.specs.Pools.{PoolZones}
 use Rattle.dp_model.specs.declared.env.PoolSpec.{PoolSpec}
 use Rattle.dp_model.specs.declared.env.RingSpec.{RingSpec}
 use Rattle.dp_model.specs.declared.env.PortSpec.{PortSpec}
-use Rattle.dp_model.specs.Environments.{Environment, room_at}
+use Rattle.dp_model.specs.Environments.{Environment, room_at, fault_of}
 use Rattle.dp_model.specs.Buffers.{Number, IsNumber, Buffers, bytes_of}
 use Rattle.dp_model.specs.Packets.{Packet}
 use Rattle.dp_model.specs.Rules.{Question}
@@ -75,6 +75,8 @@ module _ (home : Home) (size : ℕ) (env : Environment) (space : SpaceView) (par
     rooms = λ b there. (let P : List PoolSpec → Type 0 = λ pools. IsNumber pools b → length (bytes_of m.store.buffers b) ≡ room_at pools b.pool in subst P
         pools_are (well.within.rooms b) there);
     bytes = well.within.bytes;
+    calls = refl;
+    steps = refl;
     cuts = refl;
   }
 
@@ -93,11 +95,12 @@ module _ (home : Home) (size : ℕ) (env : Environment) (space : SpaceView) (par
     rest = start_rest s.setting core.state.world tables (subst (λ (e : Environment). IsStart e core.state.world) (sym same) starts);
   }
 
-  pub engine_first : (s : Scheme) → s.setting.env ≡ env → TablesFit s.setting → IsEngine s core space 0 (replicate 8 no_tallies) (replicate 8 0)
-  engine_first s same tables =
+  pub engine_first : (s : Scheme) → s.setting.env ≡ env → fault_of s.setting.env ≡ None → TablesFit s.setting → IsEngine s core space 0 (replicate 8 no_tallies) (replicate 8 0)
+  engine_first s same within tables =
       let queued : listed_count core.state.world.rings ≡ 0 = ap listed_count starts.rings ∙ none_listed env.rings in
       let sent : listed_count core.state.world.outboxes ≡ 0 = ap listed_count starts.outboxes ∙ none_listed env.ports in
       record {
+        within = within;
         rests = rests_first s same tables;
         stand = stands;
         limit = omega arith;
@@ -115,8 +118,6 @@ module _ (home : Home) (size : ℕ) (env : Environment) (space : SpaceView) (par
     setting = refl;
     nodes = refl;
     start = starts;
-    calls = refl;
-    steps = refl;
     turns = refl;
     tallies = refl;
     left = refl;

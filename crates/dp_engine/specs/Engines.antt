@@ -92,8 +92,6 @@ pub record IsOpened (home : Home) (size : ℕ) (env : Environment) (tables : Lis
   pub setting : e.setting ≡ (scheme_of env tables questions []).setting
   pub nodes : e.nodes ≡ (scheme_of env tables questions []).nodes
   pub start : IsStart env e.world
-  pub calls : e.world.calls ≡ 0
-  pub steps : e.world.steps ≡ 0
   pub turns : e.turns ≡ 0
   pub tallies : e.tallies ≡ replicate 8 no_tallies
   pub left : e.left ≡ replicate 8 0

@@ -34,7 +34,7 @@ invariant_of-result c =
     let env : c.new-plan.result.setting.env ≡ c.args.env.now = ap (λ (s : Scheme). s.setting.env) c.new-plan.ensures ∙ c.copy.ensures in
     subst (λ (core : Core). IsEngine c.new-plan.result core c.in-Ok.opened.0 0 (replicate 8 no_tallies) (replicate 8 0)) (sym core)
     (engine_first c.args.region.home (length c.args.region.bytes) c.args.env.now c.in-Ok.opened.0 parts c.over-mbufs.result c.in-Ok.ensures.opened
-    c.over-mbufs.ensures c.is_well_formed.ensures.world c.new-plan.result env c.env-env.ensures.tables)
+    c.over-mbufs.ensures c.is_well_formed.ensures.world c.new-plan.result env c.env-env.ensures.pipeline.limits c.env-env.ensures.tables)
 
 pub returns-clause-opened : goal.returns-clause-opened
 returns-clause-opened c =
