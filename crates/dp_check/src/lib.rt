@@ -3,6 +3,8 @@
 #![tactic(auto)]
 
 mod checked;
+mod laws;
 mod rules;
 
 pub use checked::{Checked, Refused, check, fault_of};
+pub use laws::raised_certificates_get_the_same_answer;

@@ -65,6 +65,11 @@ pub record IsKnown (e : Environment) : Type 0 where
   pub rings_fit : AllByRecursion IsCount (ring_counts e)
   pub lists_fit : AllByRecursion IsCount (list_counts e)
   pub mbufs : sum_by (λ p. p.count) e.pools ≤ 65535
+  pub facts : AllByRecursion (λ r. is_well_formed_fact r.fact ≡ true) e.rings
+
+each_is : {X : Type 0} → (P Q : X → Type 0) → ((x : X) → P x → Q x) → (xs : List X) → AllByRecursion P xs → AllByRecursion Q xs
+each_is P Q step [] all = tt
+each_is P Q step (x ∷ xs) all = (step x all.0, each_is P Q step xs all.1)
 
 nothing_else : (n : ℕ) → (if nat_le n 65535 then None else Some TooMany) ≡ None → n ≤ 65535
 nothing_else n h = go (nat_le n 65535) refl h
@@ -91,5 +96,6 @@ known e h =
       pools_fit = all_pass pool_fits e.pools (map_none BadPool _ one.0);
       rings_fit = each_map (λ r. ring_fits r ≡ true) IsCount (λ r. r.count) (λ r fits. count_fits r.count (and_parts (is_ring_count r.count) (not (is_empty r.fact)) (and_parts (is_ring_count r.count && not (is_empty r.fact)) (is_well_formed_fact r.fact) fits).0).0) e.rings (all_pass ring_fits e.rings (map_none BadRing _ two.0));
       lists_fit = each_map (λ p. port_fits e.pools p ≡ true) IsCount (λ p. p.queue) (λ p fits. count_fits p.queue (and_parts (nat_le 129 (room_at e.pools p.pool) && nat_le 1 p.segs && nat_le p.segs 64) (is_ring_count p.queue) fits).1) e.ports (all_pass (port_fits e.pools) e.ports (map_none BadPort _ three.0));
+      facts = each_is (λ r. ring_fits r ≡ true) (λ r. is_well_formed_fact r.fact ≡ true) (λ r fits. (and_parts (is_ring_count r.count && not (is_empty r.fact)) (is_well_formed_fact r.fact) fits).1) e.rings (all_pass ring_fits e.rings (map_none BadRing _ two.0));
       mbufs = nothing_else (sum_by (λ p. p.count) e.pools) three.1;
     }

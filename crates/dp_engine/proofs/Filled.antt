@@ -25,7 +25,7 @@ next_empty P (x ∷ xs) [] i o inside room are = absurd (omega (arith, room))
 next_empty P (x ∷ xs) (s ∷ slots) zero o inside room are = are.0
 next_empty P (x ∷ xs) (s ∷ slots) (suc i) o inside room are = next_empty P xs slots i o (omega (arith, inside)) (omega (arith, room)) are.1
 
-none_filled : {V : Type 0} → (slots : List (Option V)) → AllByRecursion (λ o. o ≡ None) slots → filled slots ≡ 0
+pub none_filled : {V : Type 0} → (slots : List (Option V)) → AllByRecursion (λ o. o ≡ None) slots → filled slots ≡ 0
 none_filled [] all = refl
 none_filled (None ∷ slots) all = let more = none_filled slots all.1 in omega arith
 none_filled (Some v ∷ slots) all = let no : Some v ≡ None = all.0 in cc

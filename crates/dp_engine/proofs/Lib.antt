@@ -20,6 +20,10 @@ pub mod Stacking
 pub mod Steps
 pub mod Taking
 pub mod Waits
+pub mod Closing
+pub mod Idling
+pub mod Opening
+pub mod Parts
 mod Examples
 pub mod GivingUp
 pub mod Pushing
@@ -30,3 +34,6 @@ pub mod Writing
 pub mod Resting
 pub mod Emptied
 pub mod Reporting
+pub mod Pipelines
+pub mod Served
+pub mod Turning

@@ -1,13 +1,13 @@
 -- The first packet that waits in a ring.
-use Rattle.std.proofs.Common.{◌≡◌, ℕ, zero, suc, ◌+◌, ◌<◌, cond, Bool, true, false, not, List, [], ◌∷◌, length, map, Option, Some, None, refl, sym, ◌∙◌, ap, subst, arith}
-use Rattle.std.specs.Prelude.{slice_get, slice_set, option_map, slice_index_or, ◌==◌}
+use Rattle.std.proofs.Common.{◌≡◌, ℕ, suc, ◌+◌, ◌<◌, cond, Bool, true, false, not, List, [], ◌∷◌, length, map, Option, Some, None, refl, sym, ◌∙◌, ap, subst, arith}
+use Rattle.std.specs.Prelude.{slice_set, option_map, ◌==◌}
 use Rattle.std.proofs.lemmas.Bool.{eqb-true}
 use Rattle.std.specs.List.{position, position_from}
 use Rattle.std.proofs.lemmas.Iterator.Adapters.{position_from-zero}
 use Rattle.dp_ring.specs.Rings.{RingView}
 use Rattle.dp_engine.specs.Queues.{ring_at, is_waiting}
 use Rattle.dp_model.specs.Packets.{Packet}
-use Rattle.dp_model.specs.Runs.{Waiting, behind, first_waiting}
+use Rattle.dp_model.specs.Runs.{behind, first_waiting}
 use Rattle.dp_engine.specs.Handles.{packet_at, packets_in, entries_of}
 
 -- the packets of rings
@@ -29,10 +29,10 @@ first_later : (slots : List (Option Packet)) (r : RingView) (rings : List RingVi
 first_later slots r rings j none first = record {
   there = omega (arith, first.there);
   is = λ h xs at. (
-    let e : first_waiting (in_rings slots (r ∷ rings)) ≡ option_map (behind []) (first_waiting (in_rings slots rings)) = ap (λ es. first_waiting (map (packet_at slots) es ∷ in_rings slots rings)) none in
-    let back : [] ≡ map (packet_at slots) r.entries = ap (map (packet_at slots)) (sym none) in
-    e ∙ ap (option_map (behind [])) (first.is h xs at) ∙ ap (λ (l : List Packet). Some (record { ring = suc j; packet = packet_at slots h; rings = l ∷ slice_set (in_rings slots rings) j (map (packet_at slots) xs) })) back
-  );
+      let e : first_waiting (in_rings slots (r ∷ rings)) ≡ option_map (behind []) (first_waiting (in_rings slots rings)) = ap (λ es. first_waiting (map (packet_at slots) es ∷ in_rings slots rings)) none in
+      let back : [] ≡ map (packet_at slots) r.entries = ap (map (packet_at slots)) (sym none) in
+      e ∙ ap (option_map (behind [])) (first.is h xs at) ∙ ap (λ (l : List Packet). Some (record { ring = suc j; packet = packet_at slots h; rings = l ∷ slice_set (in_rings slots rings) j (map (packet_at slots) xs) })) back
+      );
 }
 
 -- a ring with an entry waits

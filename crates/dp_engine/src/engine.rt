@@ -116,9 +116,14 @@ impl Engine {
             rings,
             lists,
         } = parts;
+        let plan = Plan::new(env.copy(), tables, nodes);
+        let mbufs = Mbufs::over(pools);
+        mbufs.is_well_formed();
+        let _env = plan.env();
+        let machine = Machine::over(mbufs, Queues::over(rings), Queues::over(lists));
         Ok(Engine {
-            plan: Plan::new(env.copy(), tables, nodes),
-            machine: Machine::over(Mbufs::over(pools), Queues::over(rings), Queues::over(lists)),
+            plan,
+            machine,
             space,
             turns: 0,
             tallies: [NO_TALLIES; 8],

@@ -170,7 +170,7 @@ impl Machine {
     }
 
     // To the end of a port's transmit list, or not where that is full.
-    pub(crate) fn send(&mut self, p: PacketRegister, port: usize) -> bool
+    pub(crate) fn send(&mut self, p: PacketRegister, port: u8) -> bool
         requires holds { (k : Packet) × Holds self.old.state p k }
         requires there { port < length self.old.frames.outboxes }
         ensures taken { (packets : List Packet) → slice_get self.old.state.world.outboxes port ≡ Some packets → result ≡ nat_lt (length packets + 1) (ring_at self.old.frames.outboxes port).count }
@@ -196,7 +196,7 @@ impl Machine {
         ensures full { result ≡ false → self.new ≡ self.old }
     {
         let packet = handle_in(&self.registers, p);
-        if !self.rings.push(ring as usize, packet.number()) {
+        if !self.rings.push(ring, packet.number()) {
             return false;
         }
         self.registers[p.number() as usize] = Register::empty();

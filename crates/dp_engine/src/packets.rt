@@ -9,13 +9,7 @@ use crate::numbers::branch;
 use dp_model::{Env, Instr, NumberRegister, PacketRegister};
 
 // Takes buffers for a packet, or goes where the instruction says for a refused call.
-pub(crate) fn take(
-    m: &mut Machine,
-    env: &Env,
-    pattern: &[u64],
-    instr: Instr,
-    label: u16,
-) -> u16
+pub(crate) fn take(m: &mut Machine, env: &Env, pattern: &[u64], instr: Instr, label: u16) -> u16
     requires has { (move : Move) × Acts (setting_of env.now [] pattern.now) label m.old.state instr move }
     requires takes { Takes instr }
     requires label { label < 1024 }
@@ -86,12 +80,7 @@ pub(crate) fn ask(m: &Machine, instr: Instr, label: u16) -> u16
 }
 
 // The place in a packet's first segment that a register and an offset make.
-fn place_of(
-    m: &Machine,
-    packet: PacketRegister,
-    index: NumberRegister,
-    offset: u16,
-) -> u64
+fn place_of(m: &Machine, packet: PacketRegister, index: NumberRegister, offset: u16) -> u64
     requires { (k : Packet) × Holds m.now.state packet k × (slice_index m.now.state.numbers index + offset ≤ first_len k) }
     ensures { result ≡ slice_index m.now.state.numbers index + offset }
 {

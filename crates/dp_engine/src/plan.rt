@@ -1,5 +1,10 @@
 //! What node runs rest on: an environment, its tables, a checked program for each port and each ring, and a pattern of refusals.
-ghost use Rattle.std.specs.Prelude.{◌≡◌, ◌<◌, [], length, slice_get, Some};
+ghost use Rattle.std.specs.Prelude.{◌≡◌, ◌<◌, ◌≤◌, [], length, slice_get, Some, ℕ};
+ghost use Rattle.dp_model.specs.Rules.{Question};
+ghost use Rattle.std.specs.List.{AllByRecursion};
+ghost use Rattle.dp_model.specs.Prefixes.{Route};
+ghost use Rattle.dp_lpm.specs.Routes.{RouteTable};
+ghost use Rattle.dp_check.specs.Faults.{IsChecked};
 ghost use Rattle.dp_lang.specs.Programs.{IsProgram};
 ghost use Rattle.dp_model.specs.Safety.{IsPipeline};
 ghost use Rattle.dp_model.specs.Meaning.{TablesFit};
@@ -22,13 +27,32 @@ pub(crate) struct Plan {
 }
 
 impl Model for Plan {
+    ghost use Rattle.std.specs.Prelude.{option_map};
     ghost use Rattle.dp_engine.specs.Schemes.{Scheme, scheme_of, pattern_of, IsPlan};
 
     ghost Value = { Scheme };
 
-    ghost view = { λ p. scheme_of p.env p.tables.items p.nodes.items (pattern_of p.pattern) };
+    ghost view = { λ p. scheme_of p.env p.tables.items p.nodes.items (pattern_of (option_map (λ v. v.items) p.pattern)) };
 
-    ghost invariant = { λ p. IsPlan p.env p.tables.items p.nodes.items (pattern_of p.pattern) };
+    ghost invariant = { λ p. IsPlan p.env p.tables.items p.nodes.items (pattern_of (option_map (λ v. v.items) p.pattern)) };
+}
+
+// What every table is known to keep: no hop is above 16,777,215.
+fn tell_hops(tables: &[Lpm])
+    ensures { (k : ℕ) (t : RouteTable) → slice_get tables.now k ≡ Some t → AllByRecursion (λ (route : Route). route.hop ≤ 16777215) t.routes }
+{
+    for table in tables {
+        let _rules = table.len();
+    }
+}
+
+// What is known of every checked program: no rule fails, and its certificate is well formed.
+fn tell_checked(nodes: &[Checked])
+    ensures { (k : ℕ) (q : Question) → slice_get nodes.now k ≡ Some q → IsChecked q }
+{
+    for node in nodes {
+        let _program = node.program();
+    }
 }
 
 impl Plan {
@@ -38,6 +62,9 @@ impl Plan {
         requires nodes { AreNodes env nodes.items }
         ensures { result ≡ scheme_of env tables.items nodes.items [] }
     {
+        env.within_limits();
+        tell_hops(tables.as_slice());
+        tell_checked(nodes.as_slice());
         Plan {
             env,
             tables,

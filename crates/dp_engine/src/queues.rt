@@ -119,12 +119,12 @@ impl Queues {
     }
 
     /// Puts an entry behind the others of a ring, or answers false where that is full.
-    pub fn push(&mut self, k: usize, entry: u32) -> bool
+    pub fn push(&mut self, k: u8, entry: u32) -> bool
         requires { k < length self.old }
         ensures taken { result ≡ nat_lt 0 (room_in (ring_at self.old k)) }
         ensures rings { self.new ≡ (if nat_lt 0 (room_in (ring_at self.old k)) then slice_set self.old k (with_more (ring_at self.old k) (entry ∷ [])) else self.old) }
     {
-        push_in(&mut self.rings[k], entry)
+        push_in(&mut self.rings[k as usize], entry)
     }
 
     /// Takes the first entry of a ring out, if it has one.

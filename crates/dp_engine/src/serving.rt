@@ -2,7 +2,7 @@
 ghost use Rattle.std.specs.Prelude.{◌≡◌, ℕ, ◌+◌, ◌*◌, ◌^◌, ◌<◌, ◌≤◌, Bool, List, length, IfSome};
 ghost use Rattle.dp_model.specs.Environments.{room_at};
 ghost use Rattle.dp_model.specs.Packets.{needed as segments_needed};
-ghost use Rattle.dp_model.specs.Runs.{Serves, Took};
+ghost use Rattle.dp_model.specs.Runs.{Serves, Took, runs_of};
 ghost use Rattle.dp_engine.specs.Outcomes.{outcome_of};
 ghost use Rattle.dp_engine.specs.Tallies.{packet_count};
 ghost use Rattle.dp_engine.specs.Serving.{ArrivesAt, ServesOne, Rests};
@@ -30,12 +30,7 @@ fn needed(pools: &[PoolSpec], pool: u32, len: usize) -> usize
 const NO_RUN: NodeRun = NodeRun { steps: 0, cuts: 0 };
 
 // What becomes of a record at a port, and the node run on it if it is received.
-pub(crate) fn arrive(
-    plan: &Plan,
-    m: &mut Machine,
-    port: u8,
-    bytes: &[u8],
-) -> (Outcome, NodeRun)
+pub(crate) fn arrive(plan: &Plan, m: &mut Machine, port: u8, bytes: &[u8]) -> (Outcome, NodeRun)
     requires exists { port < length plan.now.setting.env.ports }
     requires size { length bytes.now ≤ 262144 }
     requires rests { Rests plan.now m.old }
@@ -43,7 +38,7 @@ pub(crate) fn arrive(
     requires few_cuts { m.old.state.world.cuts + 1 < 2 ^ 64 }
     ensures arrives { (told : List Bool) × ArrivesAt plan.now port bytes.now m.old.state.world (outcome_of result.0) told m.new.state.world }
     ensures took { Took m.old.state.world m.new.state.world result.1.steps result.1.cuts }
-    ensures few_steps { result.1.steps ≤ 263168 }
+    ensures few_steps { result.1.steps ≤ runs_of (outcome_of result.0) * 263168 }
     ensures few_cuts { result.1.cuts ≤ 1 }
     // A call for the record, and one at most for each step.
     ensures calls { m.new.state.world.calls ≤ m.old.state.world.calls + 263169 }
@@ -102,7 +97,7 @@ pub(crate) fn serve(plan: &Plan, m: &mut Machine) -> Served
     ensures serves { (told : List Bool) × Serves plan.now.setting plan.now.nodes.rings 32 m.old.state.world told result.runs m.new.state.world }
     ensures took { Took m.old.state.world m.new.state.world result.steps result.cuts }
     ensures few_runs { result.runs ≤ 32 }
-    ensures few_steps { result.steps ≤ 32 * 263168 }
+    ensures few_steps { result.steps ≤ result.runs * 263168 }
     ensures few_cuts { result.cuts ≤ 32 }
     ensures calls { m.new.state.world.calls ≤ m.old.state.world.calls + 32 * 263168 }
     ensures packets { packet_count m.new.state + m.old.state.world.calls ≤ packet_count m.old.state + m.new.state.world.calls }

@@ -2,23 +2,23 @@
 ghost use Rattle.std.specs.Prelude.{◌≡◌, ℕ, ◌+◌, ◌<◌, ◌≤◌, ◌*◌, Bool, List, length};
 ghost use Rattle.dp_model.specs.Runs.{Turn as IsTurn, Took, NeverStuck, runs_of};
 ghost use Rattle.dp_model.specs.Safety.{Beginning, IsOfTurn};
-ghost use Rattle.dp_engine.specs.Engines.{counted_at};
+ghost use Rattle.dp_engine.specs.Engines.{tallies_at, counted_at, records_of};
 ghost use Rattle.dp_engine.specs.Outcomes.{outcome_of};
-ghost use Rattle.dp_engine.specs.Tallies.{counted};
 
 use crate::engine::{Engine, Outcome, Turn};
 use crate::report::Tallies;
 use crate::serving::{arrive, serve};
 
-// One record more of which that became.
-fn count(tallies: &mut Tallies, outcome: Outcome)
-    requires { tallies.old.received + tallies.old.nobuf + tallies.old.oversize < 134217728 }
-    ensures { tallies.new ≡ counted (outcome_of outcome) tallies.old }
+// One record more at a port, of which that became.
+fn count(tallies: &mut [Tallies; 8], port: u8, outcome: Outcome)
+    requires there { port < 8 }
+    requires few { records_of (tallies_at tallies.old port) < 134217728 }
+    ensures { tallies.new ≡ counted_at port (outcome_of outcome) tallies.old }
 {
     match outcome {
-        Outcome::Got => tallies.received += 1,
-        Outcome::NoBuffer => tallies.nobuf += 1,
-        Outcome::Oversize => tallies.oversize += 1,
+        Outcome::Got => tallies[port as usize].received += 1,
+        Outcome::NoBuffer => tallies[port as usize].nobuf += 1,
+        Outcome::Oversize => tallies[port as usize].oversize += 1,
     }
 }
 
@@ -36,9 +36,11 @@ impl Engine {
         ensures few { result.steps ≤ result.runs * 263168 }
         ensures rest { self.new ≡ record self.old { world = self.new.world; turns = self.old.turns + 1; tallies = counted_at port (outcome_of result.outcome) self.old.tallies } }
     {
+        // It tells that the nodes are checked.
+        let _env = self.plan.env();
         self.turns += 1;
         let (outcome, own) = arrive(&self.plan, &mut self.machine, port, bytes);
-        count(&mut self.tallies[port as usize], outcome);
+        count(&mut self.tallies, port, outcome);
         let served = serve(&self.plan, &mut self.machine);
         Turn {
             outcome,

@@ -1,14 +1,12 @@
-use Rattle.std.proofs.Common.{◌≡◌, ◌+◌, ◌∷◌, Some, ◌∙◌, ap, rules}
-use Rattle.std.specs.Prelude.{slice_set}
-use Rattle.dp_model.specs.Machine.{calculated}
-use Rattle.dp_engine.specs.Steps.{routes_of}
+use Rattle.std.proofs.Common.{rules}
 use Rattle.dp_engine.proofs.Lookups.{looks_up, misses}
 use Rattle.dp_engine.proofs.numbers.calculate.Goals as goal
 use Rattle.dp_engine.proofs.numbers.calculate.Goals.{in-Set, in-Mov, in-Add, in-Sub, in-And, in-Or, in-Xor, in-Shl, in-Shr, in-Lookup+in-Some}
 
 pub returns-in-None : goal.returns-in-None
 returns-in-None c =
-    misses c.args.tables.now c.args.label c.args.numbers.now c.args.instr c.in-Lookup.into c.in-Lookup.table c.in-Lookup.address c.in-Lookup.missed c.number-in-Lookup.result c.in-Lookup.is c.number-in-Lookup.ensures c.in-None.ensures
+    misses c.args.tables.now c.args.label c.args.numbers.now c.args.instr c.in-Lookup.into c.in-Lookup.table c.in-Lookup.address c.in-Lookup.missed
+    c.number-in-Lookup.result c.in-Lookup.is c.number-in-Lookup.ensures c.in-None.ensures
 
 pub returns : goal.returns
 returns c = elim c.match-instr.branch [
@@ -23,5 +21,6 @@ returns c = elim c.match-instr.branch [
   | in-Shr w ↦ search rules
   | in-Lookup+in-Some w ↦
       rw (c.number-2.ensures.same, w.into-is)
-      (looks_up c.args.tables.now c.args.label c.args.numbers.now c.args.instr w.in-Lookup.into w.in-Lookup.table w.in-Lookup.address w.in-Lookup.missed w.number-in-Lookup.result w.in-Some.hop w.in-Lookup.is w.number-in-Lookup.ensures w.in-Some.ensures)
+      (looks_up c.args.tables.now c.args.label c.args.numbers.now c.args.instr _ _ _ _ w.number-in-Lookup.result w.in-Some.hop
+      w.in-Lookup.is w.number-in-Lookup.ensures w.in-Some.ensures)
 ]

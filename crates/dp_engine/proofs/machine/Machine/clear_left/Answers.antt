@@ -11,7 +11,9 @@ pub drop_left-requires-clause-some : goal.drop_left-requires-clause-some
 drop_left-requires-clause-some c = left_some c.args.self.now c.loop-left.self c.args.ring c.loop-left.left c.loop-left.invariant c.loop-left-test.true
 
 pub loop-left-preserved : goal.loop-left-preserved
-loop-left-preserved c = left_next c.args.self.now c.loop-left.self c.drop_left.new.self c.args.ring c.loop-left.left c.loop-left.invariant c.loop-left-test.true c.drop_left.ensures
+loop-left-preserved c =
+    left_next c.args.self.now c.loop-left.self c.drop_left.new.self c.args.ring c.loop-left.left c.loop-left.invariant c.loop-left-test.true
+    c.drop_left.ensures
 
 pub returns : goal.returns
 returns c = left_end c.args.self.now c.loop-left.self c.args.ring c.loop-left.left c.loop-left.invariant c.loop-left-test.false

@@ -11,7 +11,9 @@ pub drop_sent-requires-clause-some : goal.drop_sent-requires-clause-some
 drop_sent-requires-clause-some c = sent_some c.args.self.now c.loop-left.self c.args.port c.loop-left.left c.loop-left.invariant c.loop-left-test.true
 
 pub loop-left-preserved : goal.loop-left-preserved
-loop-left-preserved c = sent_next c.args.self.now c.loop-left.self c.drop_sent.new.self c.args.port c.loop-left.left c.loop-left.invariant c.loop-left-test.true c.drop_sent.ensures
+loop-left-preserved c =
+    sent_next c.args.self.now c.loop-left.self c.drop_sent.new.self c.args.port c.loop-left.left c.loop-left.invariant c.loop-left-test.true
+    c.drop_sent.ensures
 
 pub returns : goal.returns
 returns c = sent_end c.args.self.now c.loop-left.self c.args.port c.loop-left.left c.loop-left.invariant c.loop-left-test.false

@@ -2,4 +2,5 @@ use Rattle.dp_engine.proofs.Pushing.{outbox_list}
 use Rattle.dp_engine.proofs.machine.Machine.queued.Goals as goal
 
 pub returns-clause-list : goal.returns-clause-list
-returns-clause-list c = outbox_list c.self.inside.mbufs.store c.self.inside.mbufs.zones c.self.inside.rings c.self.inside.outboxes c.self.inside.registers c.self.inside.numbers c.self.inside.calls _ c.args.self.now c.self.view_is c.args.port c.count.result c.requires.there c.count.ensures.value
+returns-clause-list c =
+    outbox_list _ _ _ _ _ _ _ _ _ c.self.view_is c.args.port c.count.result c.requires.there c.count.ensures.value

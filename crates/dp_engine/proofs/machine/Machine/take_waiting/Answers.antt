@@ -16,7 +16,9 @@ returns-in_err-ring c =
 
 pub invariant_of-self : goal.invariant_of-self
 invariant_of-self c =
-    let idle = idle_of _ _ c.self.inside.registers c.self.inside.numbers (lists_of c.self.inside.rings c.self.inside.outboxes) c.self.inside.calls _ c.args.self.now c.self.view_is c.self.invariant c.requires.idle in
+    let idle =
+    idle_of _ _ c.self.inside.registers c.self.inside.numbers (lists_of c.self.inside.rings c.self.inside.outboxes) c.self.inside.calls _ c.args.self.now
+    c.self.view_is c.self.invariant c.requires.idle in
     let at = first_in c.self.inside.rings c.in_ok-ring.ring c.in-Some.packet c.in_ok-ring.ensures.bound c.in-Some.ensures.first in
     let rest = popped c.self.inside.rings c.pop.new.self c.in_ok-ring.ring c.pop.ensures.rest in
     rw (c.one_packet-self-inside.ensures, rest.lists)
@@ -24,8 +26,9 @@ invariant_of-self c =
 
 pub returns : goal.returns
 returns c =
+    let steps = ran c.self.inside.steps.count c.self.inside.cuts c.self.inside.jumps in
     let rest = popped c.self.inside.rings c.pop.new.self c.in_ok-ring.ring c.pop.ensures.rest in
     let first = found c.self.inside.mbufs.store.slots c.self.inside.rings c.in_ok-ring.ring (sym c.in_ok-ring.ensures.value) in
     let at = first_of (ring_at c.self.inside.rings c.in_ok-ring.ring).entries c.in-Some.packet c.in-Some.ensures.first in
     rw (c.one_packet-self-inside.ensures, rest.frames, rest.lists)
-    (starts_first _ _ _ _ c.self.inside.rings _ _ (ran c.self.inside.steps.count c.self.inside.cuts c.self.inside.jumps) c.args.self.now c.in_ok-ring.ring c.in-Some.packet _ c.self.view_is first at)
+    (starts_first _ _ _ _ c.self.inside.rings _ _ steps c.args.self.now c.in_ok-ring.ring c.in-Some.packet _ c.self.view_is first at)

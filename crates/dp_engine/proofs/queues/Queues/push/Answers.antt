@@ -1,4 +1,4 @@
-use Rattle.std.proofs.Common.{◌∙◌, ap, [], ◌∷◌, arith}
+use Rattle.std.proofs.Common.{◌∙◌, ap, [], ◌∷◌}
 use Rattle.std.specs.Prelude.{nat_lt, if◌then◌else◌}
 use Rattle.dp_ring.specs.Rings.{room_in, with_more}
 use Rattle.dp_engine.specs.Queues.{ring_at}
@@ -10,9 +10,6 @@ listed c = (ring_listed _ _ c.self.view_is c.self.invariant c.args.k c.requires)
 
 pub bounds-self-inside-k : goal.bounds-self-inside-k
 bounds-self-inside-k c = (ring_listed _ _ c.self.view_is c.self.invariant c.args.k c.requires).1
-
-pub offset_bounds-self-inside-k : goal.offset_bounds-self-inside-k
-offset_bounds-self-inside-k c = omega (arith, (ring_listed _ _ c.self.view_is c.self.invariant c.args.k c.requires).1)
 
 pub push_in-requires : goal.push_in-requires
 push_in-requires c = has_ring _ _ c.self.view_is c.self.invariant c.args.k _ c.requires

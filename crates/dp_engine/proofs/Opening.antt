@@ -1,0 +1,121 @@
+-- An engine before its first turn.
+use Rattle.std.proofs.Common.{◌≡◌, ℕ, zero, suc, ◌+◌, ◌≤◌, List, [], ◌∷◌, length, map, replicate, Option, Some, None, refl, sym, ◌∙◌, ap, subst, arith}
+use Rattle.std.specs.Prelude.{slice_get}
+use Rattle.std.specs.List.{AllByRecursion}
+use Rattle.std.proofs.lemmas.Option.{none-some}
+use Rattle.dp_region.specs.Ownership.{Home}
+use Rattle.dp_ring.specs.Rings.{RingView}
+use Rattle.dp_pool.specs.Pools.{PoolZones}
+use Rattle.dp_model.specs.declared.env.PoolSpec.{PoolSpec}
+use Rattle.dp_model.specs.declared.env.RingSpec.{RingSpec}
+use Rattle.dp_model.specs.declared.env.PortSpec.{PortSpec}
+use Rattle.dp_model.specs.Environments.{Environment, room_at}
+use Rattle.dp_model.specs.Buffers.{Number, IsNumber, Buffers, bytes_of}
+use Rattle.dp_model.specs.Packets.{Packet}
+use Rattle.dp_model.specs.Rules.{Question}
+use Rattle.dp_model.specs.Meaning.{TablesFit}
+use Rattle.dp_model.specs.Stores.{Store, IsWellFormedStore}
+use Rattle.dp_model.specs.Starts.{IsStart}
+use Rattle.dp_model.proofs.SafeWhole.{start_rest}
+use Rattle.dp_lpm.specs.Routes.{RouteTable}
+use Rattle.dp_mbuf.specs.Objects.{present, specs_of, zones_of}
+use Rattle.dp_mbuf.specs.Mbufs.{MbufsView, IsNew}
+use Rattle.dp_engine.specs.declared.space.Parts.{Parts}
+use Rattle.dp_engine.specs.Handles.{packet_at, in_slot, packets_in, without_entries, entries_of, Frames, frames_of, lists_of, Core, core_of, ran}
+use Rattle.dp_engine.specs.Queues.{rings_in}
+use Rattle.dp_engine.specs.Schemes.{Scheme, scheme_of}
+use Rattle.dp_engine.specs.Serving.{Rests}
+use Rattle.dp_engine.specs.Spaces.{SpaceView, AreFilled, IsNewRing}
+use Rattle.dp_engine.specs.Layouts.{IsLaidOut}
+use Rattle.dp_engine.specs.Tallies.{listed_count}
+use Rattle.dp_engine.specs.Engines.{IsEngine, EngineState, engine_of, IsOpened, StandIn, no_tallies}
+use Rattle.dp_engine.proofs.Parts.{rings_first, counts_in, stand_in}
+
+-- a machine over mbufs, rings and transmit lists at its start
+abbrev pub first_core : MbufsView → List RingView → List RingView → Core
+first_core m rings outboxes = core_of m.store (frames_of m.zones rings outboxes) (replicate 8 None) (replicate 8 0) (lists_of rings outboxes) 0 (ran 0 0 0)
+
+-- nothing waits in rings that were laid out for these
+empty_lists : {X : Type 0} (f : X → ℕ) (home : Home) (slots : List (Option Packet)) (xs : List X) (places : List (Option RingView)) → AreFilled (IsNewRing home) (map f xs) places → packets_in slots (map entries_of (rings_in places)) ≡ map (λ _. []) xs
+empty_lists f home slots [] [] are = refl
+empty_lists f home slots [] (None ∷ places) are = refl
+empty_lists f home slots [] (Some r ∷ places) are = absurd (none-some r (sym are.0))
+empty_lists f home slots (x ∷ xs) [] are = absurd are
+empty_lists f home slots (x ∷ xs) (None ∷ places) are = absurd are.0
+empty_lists f home slots (x ∷ xs) (Some r ∷ places) are =
+    ap (λ es. map (packet_at slots) es ∷ packets_in slots (map entries_of (rings_in places))) are.0.empty
+    ∙ ap (λ lists. [] ∷ lists) (empty_lists f home slots xs places are.1)
+
+-- no slot has a packet
+pub no_slots : (slots : List (Option Packet)) (n h : ℕ) → slots ≡ replicate n None → in_slot (slice_get slots h) ≡ 0
+no_slots slots n h is = ap (λ xs. in_slot (slice_get xs h)) is ∙ none n h
+  where
+    none : (n h : ℕ) → in_slot (slice_get (replicate n None) h) ≡ 0
+    none zero h = refl
+    none (suc n) zero = refl
+    none (suc n) (suc h) = none n h
+
+none_listed : {X : Type 0} (xs : List X) → listed_count (map (λ _. []) xs) ≡ 0
+none_listed [] = refl
+none_listed (x ∷ xs) = let more = none_listed xs in omega arith
+
+module _ (home : Home) (size : ℕ) (env : Environment) (space : SpaceView) (parts : Parts) (m : MbufsView) (laid : IsLaidOut home size env space parts) (new : IsNew parts.pools m) (well : IsWellFormedStore m.store) where
+  abbrev core : Core
+  core = first_core m (rings_in parts.rings) (rings_in parts.lists)
+
+  pools_are : m.store.pools ≡ env.pools
+  pools_are = new.pools_are ∙ laid.pools
+
+  pub starts : IsStart env core.state.world
+  starts = record {
+    rings = empty_lists (λ (r : RingSpec). r.count) home m.store.slots env.rings parts.rings laid.rings;
+    outboxes = empty_lists (λ (p : PortSpec). p.queue) home m.store.slots env.ports parts.lists laid.lists;
+    rooms = λ b there. (let P : List PoolSpec → Type 0 = λ pools. IsNumber pools b → length (bytes_of m.store.buffers b) ≡ room_at pools b.pool in subst P pools_are (well.within.rooms b) there);
+    bytes = well.within.bytes;
+    cuts = refl;
+  }
+
+  stands : StandIn space core.frames
+  stands = subst (λ (zones : List PoolZones). StandIn space (frames_of zones (rings_in parts.rings) (rings_in parts.lists))) (sym new.zones)
+      (stand_in space parts laid.ready.first (rings_first home _ parts.rings laid.rings) (rings_first home _ parts.lists laid.lists) laid.stand laid.out)
+
+  pub rests_first : (s : Scheme) → s.setting.env ≡ env → TablesFit s.setting → Rests s core
+  rests_first s same tables = record {
+    idle = (refl, (refl, (refl, (refl, (refl, (refl, (refl, (refl, tt))))))));
+    pools = pools_are ∙ ap (λ (e : Environment). e.pools) (sym same);
+    fits = record {
+      rings = counts_in home _ parts.rings laid.rings ∙ ap (λ (e : Environment). map (λ (r : RingSpec). r.count) e.rings) (sym same);
+      outboxes = counts_in home _ parts.lists laid.lists ∙ ap (λ (e : Environment). map (λ (p : PortSpec). p.queue) e.ports) (sym same);
+    };
+    rest = start_rest s.setting core.state.world tables (subst (λ (e : Environment). IsStart e core.state.world) (sym same) starts);
+  }
+
+  pub engine_first : (s : Scheme) → s.setting.env ≡ env → TablesFit s.setting → IsEngine s core space 0 (replicate 8 no_tallies) (replicate 8 0)
+  engine_first s same tables =
+      let queued : listed_count core.state.world.rings ≡ 0 = ap listed_count starts.rings ∙ none_listed env.rings in
+      let sent : listed_count core.state.world.outboxes ≡ 0 = ap listed_count starts.outboxes ∙ none_listed env.ports in
+      record {
+        rests = rests_first s same tables;
+        stand = stands;
+        limit = omega arith;
+        ports = refl;
+        rings = refl;
+        records = omega arith;
+        calls = omega arith;
+        cuts = omega arith;
+        packets = omega (arith, queued, sent);
+      }
+
+  pub is_opened : (tables : List RouteTable) (questions : List Question) → IsOpened home size env tables questions (engine_of (scheme_of env tables questions []) core space 0 (replicate 8 no_tallies) (replicate 8 0))
+  is_opened tables questions = record {
+    setting = refl;
+    nodes = refl;
+    start = starts;
+    calls = refl;
+    steps = refl;
+    turns = refl;
+    tallies = refl;
+    left = refl;
+    home_is = laid.home_is;
+    size_is = laid.size_is;
+  }
