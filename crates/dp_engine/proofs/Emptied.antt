@@ -1,20 +1,17 @@
 -- Engines of which rings and transmit lists are emptied.
-use Rattle.std.proofs.Common.{◌≡◌, ℕ, zero, suc, ◌+◌, ◌*◌, ◌<◌, ◌≤◌, List, [], ◌∷◌, length, map, Option, Some, None, refl, sym, ◌∙◌, ap, subst, arith, add-zero}
+use Rattle.std.proofs.Common.{◌≡◌, ℕ, zero, suc, ◌+◌, ◌*◌, ◌<◌, ◌≤◌, List, [], ◌∷◌, length, map, Some, refl, sym, ◌∙◌, ap, subst, arith, add-zero}
 use Rattle.std.specs.Prelude.{slice_get, slice_set, slice_index_or}
 use Rattle.std.specs.List.{AllZip}
 use Rattle.std.proofs.lemmas.Option.{same_Some}
-use Rattle.dp_model.specs.declared.env.RingSpec.{RingSpec}
-use Rattle.dp_model.specs.declared.env.PortSpec.{PortSpec}
 use Rattle.dp_model.specs.Packets.{Packet}
 use Rattle.dp_model.specs.Machine.{live, segments_listed, with_ring, with_outbox}
-use Rattle.dp_model.specs.Meaning.{RingHolds}
 use Rattle.dp_model.specs.Runs.{between, left_in_rings}
 use Rattle.dp_model.proofs.WholeRuns.{nothing_listed}
 use Rattle.dp_engine.specs.declared.report.Tallies.{Tallies}
 use Rattle.dp_engine.specs.Handles.{Core, moved}
 use Rattle.dp_engine.specs.Schemes.{Scheme}
 use Rattle.dp_engine.specs.Spaces.{SpaceView}
-use Rattle.dp_engine.specs.Tallies.{listed_count, packet_count, held_count}
+use Rattle.dp_engine.specs.Tallies.{listed_count}
 use Rattle.dp_engine.specs.Engines.{EngineState, engine_of, IsEngine, over_ports, sent_by, records_of, sum, tallies_at, sent_at, drained, left_at, with_left, flushed}
 use Rattle.dp_engine.proofs.Writing.{at_place}
 use Rattle.dp_engine.proofs.Resting.{length_set, left_rests, sent_rests}
@@ -23,7 +20,8 @@ use Rattle.dp_engine.proofs.Envs.{known}
 -- ---- sums
 
 -- a list emptied
-listed_less : (lists : List (List Packet)) (i : ℕ) (packets : List Packet) → slice_get lists i ≡ Some packets → listed_count (slice_set lists i []) + length packets ≡ listed_count lists
+listed_less : (lists : List (List Packet)) (i : ℕ) (packets : List Packet) → slice_get lists i ≡ Some packets
+    → listed_count (slice_set lists i []) + length packets ≡ listed_count lists
 listed_less [] i packets e = cc
 listed_less (l ∷ lists) zero packets e = let same : length l ≡ length packets = ap length (same_Some l packets e) in omega (arith, same)
 listed_less (l ∷ lists) (suc i) packets e = let more = listed_less lists i packets e in omega (arith, more)
@@ -39,7 +37,8 @@ sum_at [] i = omega arith
 sum_at (x ∷ counts) zero = omega arith
 sum_at (x ∷ counts) (suc i) = let more = sum_at counts i in omega (arith, more)
 
-over_set : (f : Tallies → ℕ) (tallies : List Tallies) (i : ℕ) (t : Tallies) → i < length tallies → over_ports f (slice_set tallies i t) + f (tallies_at tallies i) ≡ over_ports f tallies + f t
+over_set : (f : Tallies → ℕ) (tallies : List Tallies) (i : ℕ) (t : Tallies) → i < length tallies
+    → over_ports f (slice_set tallies i t) + f (tallies_at tallies i) ≡ over_ports f tallies + f t
 over_set f [] i t lt = absurd (omega (arith, lt))
 over_set f (x ∷ tallies) zero t lt = omega arith
 over_set f (x ∷ tallies) (suc i) t lt = let more = over_set f tallies i t (omega (arith, lt)) in omega (arith, more)
@@ -50,28 +49,6 @@ over_at f (x ∷ tallies) zero lt = omega arith
 over_at f (x ∷ tallies) (suc i) lt = let more = over_at f tallies i (omega (arith, lt)) in omega (arith, more)
 
 -- ---- places
-
--- each ring and each port of the environment has a place among the engine's
-pub ring_within : (s : Scheme) (core : Core) (space : SpaceView) (turns : ℕ) (tallies : List Tallies) (left : List ℕ) (i : ℕ) → IsEngine s core space turns tallies left → i < length s.setting.env.rings → i < 8
-ring_within s core space turns tallies left i is lt = omega (arith, lt, (known s.setting.env is.within).rings)
-
-pub port_within : (s : Scheme) (core : Core) (space : SpaceView) (turns : ℕ) (tallies : List Tallies) (left : List ℕ) (i : ℕ) → IsEngine s core space turns tallies left → i < length s.setting.env.ports → i < 8
-port_within s core space turns tallies left i is lt = omega (arith, lt, (known s.setting.env is.within).ports.1)
-
-length_same : {A B : Type 0} (f : A → ℕ) (g : B → ℕ) (xs : List A) (ys : List B) → map f xs ≡ map g ys → length xs ≡ length ys
-length_same f g [] [] e = refl
-length_same f g [] (y ∷ ys) e = cc
-length_same f g (x ∷ xs) [] e = cc
-length_same f g (x ∷ xs) (y ∷ ys) e = ap suc (length_same f g xs ys (tails _ _ _ _ e))
-  where
-    tails : (m n : ℕ) (ms ns : List ℕ) → m ∷ ms ≡ n ∷ ns → ms ≡ ns
-    tails m n ms ns e = cc
-
-pub ring_there : (s : Scheme) (core : Core) (space : SpaceView) (turns : ℕ) (tallies : List Tallies) (left : List ℕ) (i : ℕ) → IsEngine s core space turns tallies left → i < length s.setting.env.rings → i < length core.frames.rings
-ring_there s core space turns tallies left i is lt = omega (arith, lt, length_same _ _ core.frames.rings s.setting.env.rings is.rests.fits.rings)
-
-pub port_there : (s : Scheme) (core : Core) (space : SpaceView) (turns : ℕ) (tallies : List Tallies) (left : List ℕ) (i : ℕ) → IsEngine s core space turns tallies left → i < length s.setting.env.ports → i < length core.frames.outboxes
-port_there s core space turns tallies left i is lt = omega (arith, lt, length_same _ _ core.frames.outboxes s.setting.env.ports is.rests.fits.outboxes)
 
 length_zip : {A B : Type 0} (R : A → B → Type 0) (xs : List A) (ys : List B) → AllZip R xs ys → length ys ≡ length xs
 length_zip R [] [] all = refl
@@ -84,78 +61,85 @@ pub record HasAll (e : EngineState) : Type 0 where
   pub rings : length e.world.rings ≡ length e.setting.env.rings
   pub ports : length e.world.outboxes ≡ length e.setting.env.ports
 
-pub has_all : (s : Scheme) (core : Core) (space : SpaceView) (turns : ℕ) (tallies : List Tallies) (left : List ℕ) (e : EngineState) → engine_of s core space turns tallies left ≡ e → IsEngine s core space turns tallies left → HasAll e
-has_all s core space turns tallies left e is all = subst HasAll is (record {
-  rings = length_zip _ s.setting.env.rings core.state.world.rings all.rests.rest.ready.world.rings;
-  ports = all.rests.rest.ready.world.outboxes;
-})
+module _ (s : Scheme) (core : Core) (space : SpaceView) (turns : ℕ) (tallies : List Tallies) (left : List ℕ)
+    (is : IsEngine s core space turns tallies left) where
+  -- each ring and each port of the environment has a place among the engine's
+  pub ring_within : (i : ℕ) → i < length s.setting.env.rings → i < 8
+  ring_within i lt = omega (arith, lt, (known s.setting.env is.within).rings)
 
--- each port has its list of packets
-pub box_at : (s : Scheme) (core : Core) (space : SpaceView) (turns : ℕ) (tallies : List Tallies) (left : List ℕ) (i : ℕ) → IsEngine s core space turns tallies left → i < length s.setting.env.ports → (packets : List Packet) × (slice_get core.state.world.outboxes i ≡ Some packets)
-box_at s core space turns tallies left i is lt = at_place core.state.world.outboxes i (omega (arith, lt, is.rests.rest.ready.world.outboxes))
+  pub port_within : (i : ℕ) → i < length s.setting.env.ports → i < 8
+  port_within i lt = omega (arith, lt, (known s.setting.env is.within).ports.1)
 
--- ---- what stays true
+  pub has_all : (e : EngineState) → engine_of s core space turns tallies left ≡ e → HasAll e
+  has_all e same = subst HasAll same (record {
+    rings = length_zip _ s.setting.env.rings core.state.world.rings is.rests.rest.ready.world.rings;
+    ports = is.rests.rest.ready.world.outboxes;
+  })
 
--- a transmit list is emptied, and so many of its packets are counted as written
-pub sent_kept : (s : Scheme) (core : Core) (space : SpaceView) (turns : ℕ) (tallies : List Tallies) (left : List ℕ) (port sent : ℕ) (packets : List Packet)
-    → IsEngine s core space turns tallies left → port < 8 → slice_get core.state.world.outboxes port ≡ Some packets → sent ≤ length packets
-    → IsEngine s (moved (with_outbox port [] core.state) core) space turns (sent_at port sent tallies) left
-sent_kept s core space turns tallies left port sent packets is lt box le =
-    let t : Tallies = record (tallies_at tallies port) { sent = (tallies_at tallies port).sent + sent } in
-    record {
-      within = is.within;
-      rests = sent_rests s core port is.rests;
-      stand = is.stand;
-      limit = is.limit;
-      ports = length_set tallies port t ∙ is.ports;
-      rings = is.rings;
-      records = omega (arith, is.records, is.ports, lt, over_set records_of tallies port t (omega (arith, is.ports, lt)));
-      calls = is.calls;
-      cuts = is.cuts;
-      packets = omega (arith, is.packets, le, listed_less core.state.world.outboxes port packets box, over_set sent_by tallies port t (omega (arith, is.ports, lt)));
-    }
+  -- each port has its list of packets
+  pub box_at : (i : ℕ) → i < length s.setting.env.ports → (packets : List Packet) × (slice_get core.state.world.outboxes i ≡ Some packets)
+  box_at i lt = at_place core.state.world.outboxes i (omega (arith, lt, is.rests.rest.ready.world.outboxes))
 
--- the sum of what a port wrote has room for its transmit list
-pub sent_fits : (s : Scheme) (core : Core) (space : SpaceView) (turns : ℕ) (tallies : List Tallies) (left : List ℕ) (port sent : ℕ) (packets : List Packet)
-    → IsEngine s core space turns tallies left → port < 8 → slice_get core.state.world.outboxes port ≡ Some packets → sent ≤ length packets
-    → (tallies_at tallies port).sent + sent ≤ 134217728 * 8684545
-sent_fits s core space turns tallies left port sent packets is lt box le =
-    omega (arith, is.packets, is.calls, is.limit, le, listed_less core.state.world.outboxes port packets box, over_at sent_by tallies port (omega (arith, is.ports, lt)))
+  -- a transmit list is emptied, and so many of its packets are counted as written
+  pub sent_kept : (port sent : ℕ) (packets : List Packet) → port < 8 → slice_get core.state.world.outboxes port ≡ Some packets → sent ≤ length packets
+      → IsEngine s (moved (with_outbox port [] core.state) core) space turns (sent_at port sent tallies) left
+  sent_kept port sent packets lt box le =
+      let t : Tallies = record (tallies_at tallies port) { sent = (tallies_at tallies port).sent + sent } in
+      record {
+        within = is.within;
+        rests = sent_rests s core port is.rests;
+        stand = is.stand;
+        limit = is.limit;
+        ports = length_set tallies port t ∙ is.ports;
+        rings = is.rings;
+        records = omega (arith, is.records, is.ports, lt, over_set records_of tallies port t (omega (arith, is.ports, lt)));
+        calls = is.calls;
+        cuts = is.cuts;
+        packets = omega (arith, is.packets, le, listed_less core.state.world.outboxes port packets box,
+        over_set sent_by tallies port t (omega (arith, is.ports, lt)));
+      }
 
--- a ring is emptied, and what was in it is counted
-pub left_kept : (s : Scheme) (core : Core) (space : SpaceView) (turns : ℕ) (tallies : List Tallies) (left : List ℕ) (ring : ℕ) (packets : List Packet)
-    → IsEngine s core space turns tallies left → ring < 8 → slice_get core.state.world.rings ring ≡ Some packets
-    → IsEngine s (moved (with_ring ring [] core.state) core) space turns tallies (slice_set left ring (slice_index_or left ring 0 + length packets))
-left_kept s core space turns tallies left ring packets is lt there =
-    let n = slice_index_or left ring 0 + length packets in
-    record {
-      within = is.within;
-      rests = left_rests s core ring is.rests;
-      stand = is.stand;
-      limit = is.limit;
-      ports = is.ports;
-      rings = length_set left ring n ∙ is.rings;
-      records = is.records;
-      calls = is.calls;
-      cuts = is.cuts;
-      packets = omega (arith, is.packets, listed_less core.state.world.rings ring packets there, sum_set left ring n (omega (arith, is.rings, lt)));
-    }
+  -- the sum of what a port wrote has room for its transmit list
+  pub sent_fits : (port sent : ℕ) (packets : List Packet) → port < 8 → slice_get core.state.world.outboxes port ≡ Some packets → sent ≤ length packets
+      → (tallies_at tallies port).sent + sent ≤ 134217728 * 8684545
+  sent_fits port sent packets lt box le =
+      omega (arith, is.packets, is.calls, is.limit, le, listed_less core.state.world.outboxes port packets box,
+      over_at sent_by tallies port (omega (arith, is.ports, lt)))
 
-pub left_fits : (s : Scheme) (core : Core) (space : SpaceView) (turns : ℕ) (tallies : List Tallies) (left : List ℕ) (ring : ℕ) (packets : List Packet)
-    → IsEngine s core space turns tallies left → slice_get core.state.world.rings ring ≡ Some packets
-    → slice_index_or left ring 0 + length packets ≤ 134217728 * 8684545
-left_fits s core space turns tallies left ring packets is there =
-    omega (arith, is.packets, is.calls, is.limit, listed_less core.state.world.rings ring packets there, sum_at left ring)
+  -- a ring is emptied, and what was in it is counted
+  pub left_kept : (ring : ℕ) (packets : List Packet) → ring < 8 → slice_get core.state.world.rings ring ≡ Some packets
+      → IsEngine s (moved (with_ring ring [] core.state) core) space turns tallies (slice_set left ring (slice_index_or left ring 0 + length packets))
+  left_kept ring packets lt there =
+      let n = slice_index_or left ring 0 + length packets in
+      record {
+        within = is.within;
+        rests = left_rests s core ring is.rests;
+        stand = is.stand;
+        limit = is.limit;
+        ports = is.ports;
+        rings = length_set left ring n ∙ is.rings;
+        records = is.records;
+        calls = is.calls;
+        cuts = is.cuts;
+        packets = omega (arith, is.packets, listed_less core.state.world.rings ring packets there, sum_set left ring n (omega (arith, is.rings, lt)));
+      }
+
+  pub left_fits : (ring : ℕ) (packets : List Packet) → slice_get core.state.world.rings ring ≡ Some packets
+      → slice_index_or left ring 0 + length packets ≤ 134217728 * 8684545
+  left_fits ring packets there =
+      omega (arith, is.packets, is.calls, is.limit, listed_less core.state.world.rings ring packets there, sum_at left ring)
 
 -- ---- one place
 
-counted_there : (rings : List (List Packet)) (i : ℕ) (packets : List Packet) → slice_get rings i ≡ Some packets → slice_index_or (map length rings) i 0 ≡ length packets
+counted_there : (rings : List (List Packet)) (i : ℕ) (packets : List Packet) → slice_get rings i ≡ Some packets
+    → slice_index_or (map length rings) i 0 ≡ length packets
 counted_there [] i packets e = cc
 counted_there (r ∷ rings) zero packets e = ap length (same_Some r packets e)
 counted_there (r ∷ rings) (suc i) packets e = counted_there rings i packets e
 
-pub leaves : (s : Scheme) (core core' : Core) (space : SpaceView) (turns : ℕ) (tallies : List Tallies) (left : List ℕ) (e : EngineState) (ring n : ℕ) (packets : List Packet)
-    → engine_of s core space turns tallies left ≡ e → core' ≡ moved (with_ring ring [] core.state) core → slice_get core.state.world.rings ring ≡ Some packets → n ≡ length packets
+pub leaves : (s : Scheme) (core core' : Core) (space : SpaceView) (turns : ℕ) (tallies : List Tallies) (left : List ℕ) (e : EngineState) (ring n : ℕ)
+    (packets : List Packet) → engine_of s core space turns tallies left ≡ e → core' ≡ moved (with_ring ring [] core.state) core
+    → slice_get core.state.world.rings ring ≡ Some packets → n ≡ length packets
     → engine_of s core' space turns tallies (slice_set left ring (slice_index_or left ring 0 + n)) ≡ left_at ring e
 leaves s core core' space turns tallies left e ring n packets is becomes there count =
     let same : n ≡ slice_index_or (left_in_rings core.state.world) ring 0 = count ∙ sym (counted_there core.state.world.rings ring packets there) in
@@ -181,9 +165,9 @@ pub dropped_kept : (s : Scheme) (core : Core) (space : SpaceView) (turns : ℕ) 
     → IsEngine s core space turns tallies left → port < length s.setting.env.ports
     → IsEngine s (moved (with_outbox port [] core.state) core) space turns tallies left
 dropped_kept s core space turns tallies left port is lt =
-    let (packets, box) = box_at s core space turns tallies left port is lt in
+    let (packets, box) = box_at s core space turns tallies left is port lt in
     subst (λ l. IsEngine s (moved (with_outbox port [] core.state) core) space turns l left) (sent_none tallies port)
-    (sent_kept s core space turns tallies left port 0 packets is (port_within s core space turns tallies left port is lt) box (omega arith))
+    (sent_kept s core space turns tallies left is port 0 packets (port_within s core space turns tallies left is port lt) box (omega arith))
 
 -- ---- the first places, and all
 
@@ -213,7 +197,8 @@ emptied_all (suc n) [] le = refl
 emptied_all (suc n) (l ∷ lists) le = ap (λ k. [] ∷ k) (emptied_all n lists (omega (arith, le)))
 
 added_next : (n : ℕ) (left : List ℕ) (rings : List (List Packet)) → n < length rings
-    → slice_set (added_to n left rings) n (slice_index_or (added_to n left rings) n 0 + slice_index_or (map length (emptied_to n rings)) n 0) ≡ added_to (suc n) left rings
+    → slice_set (added_to n left rings) n (slice_index_or (added_to n left rings) n 0 + slice_index_or (map length (emptied_to n rings)) n 0)
+    ≡ added_to (suc n) left rings
 added_next zero left [] lt = absurd (omega (arith, lt))
 added_next zero [] (r ∷ rings) lt = refl
 added_next zero (x ∷ left) (r ∷ rings) lt = refl
@@ -239,7 +224,8 @@ dropped_to n e = record e { world = record e.world { outboxes = emptied_to n e.w
 
 pub left_next : (n : ℕ) (e : EngineState) → n < length e.world.rings → left_at n (left_to n e) ≡ left_to (suc n) e
 left_next n e lt =
-    ap (λ l. record e { world = record e.world { rings = l }; left = slice_set (added_to n e.left e.world.rings) n (slice_index_or (added_to n e.left e.world.rings) n 0 + slice_index_or (map length (emptied_to n e.world.rings)) n 0) }) (emptied_next n e.world.rings)
+    ap (λ l. record e { world = record e.world { rings = l }; left = slice_set (added_to n e.left e.world.rings) n
+    (slice_index_or (added_to n e.left e.world.rings) n 0 + slice_index_or (map length (emptied_to n e.world.rings)) n 0) }) (emptied_next n e.world.rings)
     ∙ ap (λ l. record e { world = record e.world { rings = emptied_to (suc n) e.world.rings }; left = l }) (added_next n e.left e.world.rings lt)
 
 pub dropped_next : (n : ℕ) (e : EngineState) → drained n 0 (dropped_to n e) ≡ dropped_to (suc n) e
@@ -247,7 +233,8 @@ dropped_next n e =
     ap (λ l. record e { world = record e.world { outboxes = l }; tallies = sent_at n 0 e.tallies }) (emptied_next n e.world.outboxes)
     ∙ ap (λ l. record e { world = record e.world { outboxes = emptied_to (suc n) e.world.outboxes }; tallies = l }) (sent_none e.tallies n)
 
-pub all_flushed : (rings ports : ℕ) (e : EngineState) → length e.world.rings ≤ rings → length e.world.outboxes ≤ ports → dropped_to ports (left_to rings e) ≡ flushed e
+pub all_flushed : (rings ports : ℕ) (e : EngineState) → length e.world.rings ≤ rings → length e.world.outboxes ≤ ports
+    → dropped_to ports (left_to rings e) ≡ flushed e
 all_flushed rings ports e le lp =
     let f = emptied_all rings e.world.rings le in
     let g = emptied_all ports e.world.outboxes lp in

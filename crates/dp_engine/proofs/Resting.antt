@@ -1,5 +1,5 @@
 -- A world of which one ring or one transmit list is emptied is at rest, where it was before.
-use Rattle.std.proofs.Common.{◌≡◌, ℕ, zero, suc, ◌+◌, ◌≤◌, Bool, List, [], ◌∷◌, ◌++◌, length, refl, sym, ◌∙◌, ap, subst, arith}
+use Rattle.std.proofs.Common.{◌≡◌, ℕ, zero, suc, ◌+◌, ◌≤◌, Bool, List, [], ◌∷◌, length, refl, ◌∙◌, arith}
 use Rattle.std.specs.Prelude.{slice_set}
 use Rattle.std.specs.List.{AllByRecursion, AllZip, flat_map}
 use Rattle.dp_model.specs.declared.env.PoolSpec.{PoolSpec}
@@ -24,14 +24,17 @@ use Rattle.dp_engine.specs.Serving.{Rests}
 -- ---- lists of which one is emptied
 
 -- no count of their segments grows
-fewer_listed : (test : Segment → Bool) (lists : List (List Packet)) (i : ℕ) → tally test (segments_listed (slice_set lists i [])) ≤ tally test (segments_listed lists)
+fewer_listed : (test : Segment → Bool) (lists : List (List Packet)) (i : ℕ)
+    → tally test (segments_listed (slice_set lists i [])) ≤ tally test (segments_listed lists)
 fewer_listed test [] i = omega arith
 fewer_listed test (l ∷ lists) zero = omega (arith, tally-append test (flat_map (λ k. k) l) (segments_listed lists))
 fewer_listed test (l ∷ lists) (suc i) =
-    omega (arith, fewer_listed test lists i, tally-append test (flat_map (λ k. k) l) (segments_listed lists), tally-append test (flat_map (λ k. k) l) (segments_listed (slice_set lists i [])))
+    omega (arith, fewer_listed test lists i, tally-append test (flat_map (λ k. k) l) (segments_listed lists),
+    tally-append test (flat_map (λ k. k) l) (segments_listed (slice_set lists i [])))
 
 -- what holds of all their segments still does
-all_listed : (P : Segment → Type 0) (lists : List (List Packet)) (i : ℕ) → AllByRecursion P (segments_listed lists) → AllByRecursion P (segments_listed (slice_set lists i []))
+all_listed : (P : Segment → Type 0) (lists : List (List Packet)) (i : ℕ) → AllByRecursion P (segments_listed lists)
+    → AllByRecursion P (segments_listed (slice_set lists i []))
 all_listed P [] i all = all
 all_listed P (l ∷ lists) zero all = all_right P (flat_map (λ k. k) l) (segments_listed lists) all
 all_listed P (l ∷ lists) (suc i) all =
@@ -45,7 +48,8 @@ all_emptied P (l ∷ lists) zero none all = (none, all.1)
 all_emptied P (l ∷ lists) (suc i) none all = (all.0, all_emptied P lists i none all.1)
 
 -- each ring has what it declares
-rings_emptied : (pools : List PoolSpec) (held : List Segment) (specs : List RingSpec) (rings : List (List Packet)) (i : ℕ) → AllZip (RingHolds pools held) specs rings → AllZip (RingHolds pools held) specs (slice_set rings i [])
+rings_emptied : (pools : List PoolSpec) (held : List Segment) (specs : List RingSpec) (rings : List (List Packet)) (i : ℕ)
+    → AllZip (RingHolds pools held) specs rings → AllZip (RingHolds pools held) specs (slice_set rings i [])
 rings_emptied pools held [] [] i all = tt
 rings_emptied pools held [] (r ∷ rings) i all = absurd all
 rings_emptied pools held (spec ∷ specs) [] i all = all

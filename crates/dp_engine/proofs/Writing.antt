@@ -21,7 +21,7 @@ use Rattle.dp_model.specs.Stores.{Store}
 use Rattle.dp_ring.specs.Rings.{RingView}
 use Rattle.dp_pool.specs.Pools.{PoolZones}
 use Rattle.dp_engine.specs.Queues.{ring_at}
-use Rattle.dp_engine.specs.Handles.{held_of, packet_at, occurs, joined, packets_in, StandOnce, Core, core_of, Ran, frames_of, lists_of, without_entries, entries_of}
+use Rattle.dp_engine.specs.Handles.{held_of, packet_at, in_slot, occurs, joined, packets_in, StandOnce, Core, core_of, Ran, frames_of, lists_of, without_entries, entries_of}
 use Rattle.dp_engine.proofs.Rings.{entries_at, frames_length}
 use Rattle.dp_engine.specs.Drains.{record_of, captured, WrotePart, Written}
 use Rattle.dp_engine.proofs.Handles.{map_get, get_map, in_slot_some, is_one, occurs-append, waits}
@@ -45,7 +45,8 @@ take_all (x ∷ xs) zero le = absurd (omega arith)
 take_all (x ∷ xs) (suc n) le = ap (λ l. x ∷ l) (take_all xs n (omega arith))
 
 -- the pieces before one, it, and those behind
-pieces : {A : Type 0} (f : A → List ℕ) (xs : List A) (i : ℕ) (x : A) → slice_get xs i ≡ Some x → flat_map f xs ≡ (flat_map f (take i xs) ++ f x) ++ flat_map f (drop (suc i) xs)
+pieces : {A : Type 0} (f : A → List ℕ) (xs : List A) (i : ℕ) (x : A) → slice_get xs i ≡ Some x
+    → flat_map f xs ≡ (flat_map f (take i xs) ++ f x) ++ flat_map f (drop (suc i) xs)
 pieces f [] i x e = cc
 pieces f (y ∷ xs) zero x e = ap (λ z. f z ++ flat_map f xs) (same_Some y x e)
 pieces f (y ∷ xs) (suc i) x e =
@@ -54,11 +55,15 @@ pieces f (y ∷ xs) (suc i) x e =
 
 -- ---- one piece more
 
-pub piece_more : {A : Type 0} (head : List ℕ) (f : A → List ℕ) (xs : List A) (i : ℕ) (x : A) → slice_get xs i ≡ Some x → (head ++ flat_map f (take i xs)) ++ f x ≡ head ++ flat_map f (take (i + 1) xs)
+pub piece_more : {A : Type 0} (head : List ℕ) (f : A → List ℕ) (xs : List A) (i : ℕ) (x : A) → slice_get xs i ≡ Some x
+    → (head ++ flat_map f (take i xs)) ++ f x ≡ head ++ flat_map f (take (i + 1) xs)
 piece_more head f xs i x here =
-    append_assoc head (flat_map f (take i xs)) (f x) ∙ ap (λ l. head ++ l) (ap (λ l. flat_map f (take i xs) ++ l) (sym (append-nil (f x))) ∙ sym (flat_map-append f (take i xs) (x ∷ [])) ∙ ap (flat_map f) (sym (take_more xs i x here))) ∙ ap (λ n. head ++ flat_map f (take n xs)) (sym (add-one i))
+    append_assoc head (flat_map f (take i xs)) (f x) ∙ ap (λ l. head ++ l) (ap (λ l. flat_map f (take i xs) ++ l) (sym (append-nil (f x)))
+    ∙ sym (flat_map-append f (take i xs) (x ∷ [])) ∙ ap (flat_map f) (sym (take_more xs i x here))) ∙ ap (λ n. head ++ flat_map f (take n xs)) (sym (add-one i))
 
-pub appends_piece : {A : Type 0} (a b d : Option (List ℕ)) (head : List ℕ) (f : A → List ℕ) (xs : List A) (i : ℕ) (x : A) (bytes : List ℕ) → slice_get xs i ≡ Some x → bytes ≡ f x → Appends a b (head ++ flat_map f (take i xs)) → Appends b d bytes → Appends a d (head ++ flat_map f (take (i + 1) xs))
+pub appends_piece : {A : Type 0} (a b d : Option (List ℕ)) (head : List ℕ) (f : A → List ℕ) (xs : List A) (i : ℕ) (x : A) (bytes : List ℕ)
+    → slice_get xs i ≡ Some x → bytes ≡ f x → Appends a b (head ++ flat_map f (take i xs)) → Appends b d bytes
+    → Appends a d (head ++ flat_map f (take (i + 1) xs))
 appends_piece a b d head f xs i x bytes here is before now =
     subst (Appends a d) (piece_more head f xs i x here) (Appends-trans a b d (head ++ flat_map f (take i xs)) (f x) before (subst (Appends b d) is now))
 
@@ -71,14 +76,18 @@ part_before : (a b : Option (List ℕ)) (xs ys : List ℕ) → AppendsPart a b x
 part_before a b xs ys (n, less, appends) = (n, omega (arith, less, length-append xs ys), rw (take-append-le n xs ys (omega (arith, less))) appends)
 
 -- a piece was written in part
-pub part_piece : {A : Type 0} (a b d : Option (List ℕ)) (head : List ℕ) (f : A → List ℕ) (xs : List A) (i : ℕ) (x : A) (bytes : List ℕ) → slice_get xs i ≡ Some x → bytes ≡ f x → Appends a b (head ++ flat_map f (take i xs)) → AppendsPart b d bytes → AppendsPart a d (head ++ flat_map f xs)
+pub part_piece : {A : Type 0} (a b d : Option (List ℕ)) (head : List ℕ) (f : A → List ℕ) (xs : List A) (i : ℕ) (x : A) (bytes : List ℕ)
+    → slice_get xs i ≡ Some x → bytes ≡ f x → Appends a b (head ++ flat_map f (take i xs)) → AppendsPart b d bytes → AppendsPart a d (head ++ flat_map f xs)
 part_piece a b d head f xs i x bytes here is before now =
     let e : ((head ++ flat_map f (take i xs)) ++ f x) ++ flat_map f (drop (suc i) xs) ≡ head ++ flat_map f xs =
-    ap (λ l. l ++ flat_map f (drop (suc i) xs)) (append_assoc head (flat_map f (take i xs)) (f x)) ∙ append_assoc head (flat_map f (take i xs) ++ f x) (flat_map f (drop (suc i) xs)) ∙ ap (λ l. head ++ l) (sym (pieces f xs i x here)) in
-    subst (AppendsPart a d) e (part_before a d _ (flat_map f (drop (suc i) xs)) (AppendsPart-after a b d (head ++ flat_map f (take i xs)) (f x) before (subst (AppendsPart b d) is now)))
+    ap (λ l. l ++ flat_map f (drop (suc i) xs)) (append_assoc head (flat_map f (take i xs)) (f x)) ∙ append_assoc head (flat_map f (take i xs) ++ f x)
+    (flat_map f (drop (suc i) xs)) ∙ ap (λ l. head ++ l) (sym (pieces f xs i x here)) in
+    subst (AppendsPart a d) e (part_before a d _ (flat_map f (drop (suc i) xs))
+    (AppendsPart-after a b d (head ++ flat_map f (take i xs)) (f x) before (subst (AppendsPart b d) is now)))
 
 -- a device that took a piece is sound behind it, if it was before
-pub sound_after : {W : Type 0} (is_broken : W → Bool) (w w' : W) (bytes : List ℕ) → is_broken w ≡ false → (0 < length bytes → is_broken w' ≡ false) → (length bytes ≡ 0 → w' ≡ w) → is_broken w' ≡ false
+pub sound_after : {W : Type 0} (is_broken : W → Bool) (w w' : W) (bytes : List ℕ) → is_broken w ≡ false → (0 < length bytes → is_broken w' ≡ false)
+    → (length bytes ≡ 0 → w' ≡ w) → is_broken w' ≡ false
 sound_after is_broken w w' [] sound some none = ap is_broken (none refl) ∙ sound
 sound_after is_broken w w' (x ∷ bytes) sound some none = some (omega arith)
 
@@ -97,21 +106,27 @@ in_lists (ys ∷ lists) zero x xs e one =
 in_lists (ys ∷ lists) (suc j) x xs e one =
     let more = in_lists lists j x xs e one in omega (arith, more, occurs-append x ys (joined lists))
 
+-- a slot that is filled has the packet of its handle
+slot_of : (slots : List (Option Packet)) (h : ℕ) (k : Packet) → 1 ≤ in_slot (slice_get slots h) → packet_at slots h ≡ k → slice_get slots h ≡ Some (Some k)
+slot_of slots h k one named =
+    let (k', has) = in_slot_some (slice_get slots h) one in has ∙ ap (λ k. Some (Some k)) (sym (ap held_of has) ∙ named)
+
 -- a packet in a transmit list has a handle at its place
-pub waits_at : (s : Store) (zones : List PoolZones) (registers : List (Option ℕ)) (numbers : List ℕ) (rings boxes : List RingView) (calls : ℕ) (steps : Ran) (core : Core) (port i : ℕ) (packets : List Packet) (k : Packet)
-    → core_of s (frames_of zones rings boxes) registers numbers (lists_of rings boxes) calls steps ≡ core → StandOnce s.slots registers (lists_of rings boxes)
-    → port < length core.frames.outboxes → slice_get core.state.world.outboxes port ≡ Some packets → slice_get packets i ≡ Some k
-    → (h : ℕ) × (slice_get (ring_at boxes port).entries i ≡ Some h) × (slice_get s.slots h ≡ Some (Some k))
+pub waits_at : (s : Store) (zones : List PoolZones) (registers : List (Option ℕ)) (numbers : List ℕ) (rings boxes : List RingView) (calls : ℕ) (steps : Ran)
+    (core : Core) (port i : ℕ) (packets : List Packet) (k : Packet)
+    → core_of s (frames_of zones rings boxes) registers numbers (lists_of rings boxes) calls steps ≡ core
+    → StandOnce s.slots registers (lists_of rings boxes) → port < length core.frames.outboxes → slice_get core.state.world.outboxes port ≡ Some packets
+    → slice_get packets i ≡ Some k → (h : ℕ) × (slice_get (ring_at boxes port).entries i ≡ Some h) × (slice_get s.slots h ≡ Some (Some k))
 waits_at s zones registers numbers rings boxes calls steps core port i packets k is stand lt box here =
     let long : length (map without_entries boxes) ≡ length core.frames.outboxes = ap (λ (c : Core). length c.frames.outboxes) is in
     let there = entries_at boxes port (omega (arith, lt, long, frames_length boxes)) in
-    let listed : slice_get (packets_in s.slots (map entries_of boxes)) port ≡ Some packets = ap (λ (c : Core). slice_get c.state.world.outboxes port) is ∙ box in
-    let same : map (packet_at s.slots) (ring_at boxes port).entries ≡ packets = same_Some _ _ (sym (map_get (map (packet_at s.slots)) (map entries_of boxes) port _ there) ∙ listed) in
+    let listed : slice_get (packets_in s.slots (map entries_of boxes)) port ≡ Some packets =
+    ap (λ (c : Core). slice_get c.state.world.outboxes port) is ∙ box in
+    let same : map (packet_at s.slots) (ring_at boxes port).entries ≡ packets =
+    same_Some _ _ (sym (map_get (map (packet_at s.slots)) (map entries_of boxes) port _ there) ∙ listed) in
     let (h, at, named) = get_map (packet_at s.slots) (ring_at boxes port).entries i k (ap (λ l. slice_get l i) same ∙ here) in
     let one = in_lists (map entries_of boxes) port h (ring_at boxes port).entries there (in_list (ring_at boxes port).entries i h at) in
-    let (k', has) = in_slot_some (slice_get s.slots h) (omega (arith, stand h, one, waits h (lists_of rings boxes))) in
-    let k_is : k' ≡ k = sym (ap held_of has) ∙ named in
-    (h, at, has ∙ ap (λ k. Some (Some k)) k_is)
+    (h, at, slot_of s.slots h k (omega (arith, stand h, one, waits h (lists_of rings boxes))) named)
 
 -- ---- records
 
@@ -119,7 +134,8 @@ waits_at s zones registers numbers rings boxes calls steps core port i packets k
 abbrev pub packet_record : Time → Buffers → Packet → capture.PacketRecord
 packet_record time buffers k = record { time = time; bytes = packet_bytes buffers k }
 
-timed : (time : Time) (buffers : Buffers) (packets : List Packet) → map captured (map (λ bytes. (time, bytes)) (drained buffers packets)) ≡ map (packet_record time buffers) packets
+timed : (time : Time) (buffers : Buffers) (packets : List Packet)
+    → map captured (map (λ bytes. (time, bytes)) (drained buffers packets)) ≡ map (packet_record time buffers) packets
 timed time buffers [] = refl
 timed time buffers (k ∷ packets) = ap (λ l. packet_record time buffers k ∷ l) (timed time buffers packets)
 
@@ -167,7 +183,8 @@ pub part_written : (unit : TimeUnit) (time : Time) (port : ℕ) (w : World) (a b
     → Written unit time port w (λ records. WrotePart a d unit records sent)
 part_written unit time port w a b d sent n packets k box is here wrote (bytes, less, part) =
     let g = packet_record time w.buffers in
-    let same : flat_map (record_of unit time w.buffers) (take n packets) ≡ flat_map (record_text unit) (take sent (map g packets)) = taken_records unit time w.buffers packets sent n is in
+    let same : flat_map (record_of unit time w.buffers) (take n packets) ≡ flat_map (record_text unit) (take sent (map g packets)) =
+    taken_records unit time w.buffers packets sent n is in
     let P : List capture.PacketRecord → Type 0 = λ records. WrotePart a d unit records sent in
     written_of unit time port w packets P box (record {
       next = g k;

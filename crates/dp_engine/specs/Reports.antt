@@ -1,8 +1,8 @@
 -- What engines report.
-use Rattle.std.specs.Prelude.{◌≡◌, ℕ, zero, suc, ◌+◌, List, [], ◌∷◌, length, map, take}
+use Rattle.std.specs.Prelude.{◌≡◌, ℕ, suc, List, [], ◌∷◌, length, map, take}
 use Rattle.dp_model.specs.declared.env.PoolSpec.{PoolSpec}
 use Rattle.dp_model.specs.Environments.{Environment}
-use Rattle.dp_model.specs.Packets.{Segment, available}
+use Rattle.dp_model.specs.Packets.{available}
 use Rattle.dp_model.specs.Machine.{live}
 use Rattle.dp_model.specs.Runs.{between}
 use Rattle.dp_engine.specs.declared.report.InputState.{InputState}

@@ -13,5 +13,6 @@ invariant-loop-index g l = record {
   sound : g.W.Sink.is_broken l.w ≡ false;
   failures : g.W.Sink.failures l.w ≡ g.W.Sink.failures l.fn.w;
   counted : Of l.mbufs.store l.packet (λ k. g.W.Sink.calls l.w ≤ g.W.Sink.calls l.fn.w
-      + length (head_text l.fn.unit l.fn.time (length (packet_bytes l.mbufs.store.buffers k)) ++ flat_map (segment_bytes l.mbufs.store.buffers) (take l.index k)));
+      + length (head_text l.fn.unit l.fn.time (length (packet_bytes l.mbufs.store.buffers k)) ++ flat_map (segment_bytes l.mbufs.store.buffers)
+      (take l.index k)));
 }

@@ -8,33 +8,37 @@ overflow_add-self g c =
     let e = c.self.inside in
     let long = ap (λ (x : EngineState). length x.setting.env.ports) c.self.view_is in
     let here : c.args.port < length e.plan.setting.env.ports = omega (arith, c.requires.exists, long) in
-    let (packets, box) = box_at e.plan e.machine e.space e.turns e.tallies e.left c.args.port c.self.invariant here in
-    let lt = port_within e.plan e.machine e.space e.turns e.tallies e.left c.args.port c.self.invariant here in
-    omega (arith, sent_fits e.plan e.machine e.space e.turns e.tallies e.left c.args.port c.in-Ok.sent packets c.self.invariant lt box (c.in-Ok.ensures.most packets box))
+    let (packets, box) = box_at e.plan e.machine e.space e.turns e.tallies e.left c.self.invariant c.args.port here in
+    let lt = port_within e.plan e.machine e.space e.turns e.tallies e.left c.self.invariant c.args.port here in
+    omega (arith, sent_fits e.plan e.machine e.space e.turns e.tallies e.left c.self.invariant c.args.port c.in-Ok.sent packets lt box
+    (c.in-Ok.ensures.most packets box))
 
 pub overflow_add-self-in-Err : goal.overflow_add-self-in-Err
 overflow_add-self-in-Err g c =
     let e = c.self.inside in
     let long = ap (λ (x : EngineState). length x.setting.env.ports) c.self.view_is in
     let here : c.args.port < length e.plan.setting.env.ports = omega (arith, c.requires.exists, long) in
-    let (packets, box) = box_at e.plan e.machine e.space e.turns e.tallies e.left c.args.port c.self.invariant here in
-    let lt = port_within e.plan e.machine e.space e.turns e.tallies e.left c.args.port c.self.invariant here in
-    omega (arith, sent_fits e.plan e.machine e.space e.turns e.tallies e.left c.args.port c.in-Err.sent packets c.self.invariant lt box (c.in-Err.ensures.most packets box))
+    let (packets, box) = box_at e.plan e.machine e.space e.turns e.tallies e.left c.self.invariant c.args.port here in
+    let lt = port_within e.plan e.machine e.space e.turns e.tallies e.left c.self.invariant c.args.port here in
+    omega (arith, sent_fits e.plan e.machine e.space e.turns e.tallies e.left c.self.invariant c.args.port c.in-Err.sent packets lt box
+    (c.in-Err.ensures.most packets box))
 
 pub invariant_of-self : goal.invariant_of-self
 invariant_of-self g c =
     let e = c.self.inside in
     let long = ap (λ (x : EngineState). length x.setting.env.ports) c.self.view_is in
     let here : c.args.port < length e.plan.setting.env.ports = omega (arith, c.requires.exists, long) in
-    let (packets, box) = box_at e.plan e.machine e.space e.turns e.tallies e.left c.args.port c.self.invariant here in
-    let lt = port_within e.plan e.machine e.space e.turns e.tallies e.left c.args.port c.self.invariant here in
-    rw c.clear_sent.ensures (sent_kept e.plan e.machine e.space e.turns e.tallies e.left c.args.port c.in-Ok.sent packets c.self.invariant lt box (c.in-Ok.ensures.most packets box))
+    let (packets, box) = box_at e.plan e.machine e.space e.turns e.tallies e.left c.self.invariant c.args.port here in
+    let lt = port_within e.plan e.machine e.space e.turns e.tallies e.left c.self.invariant c.args.port here in
+    rw c.clear_sent.ensures (sent_kept e.plan e.machine e.space e.turns e.tallies e.left c.self.invariant c.args.port c.in-Ok.sent packets lt box
+    (c.in-Ok.ensures.most packets box))
 
 pub invariant_of-self-in-Err : goal.invariant_of-self-in-Err
 invariant_of-self-in-Err g c =
     let e = c.self.inside in
     let long = ap (λ (x : EngineState). length x.setting.env.ports) c.self.view_is in
     let here : c.args.port < length e.plan.setting.env.ports = omega (arith, c.requires.exists, long) in
-    let (packets, box) = box_at e.plan e.machine e.space e.turns e.tallies e.left c.args.port c.self.invariant here in
-    let lt = port_within e.plan e.machine e.space e.turns e.tallies e.left c.args.port c.self.invariant here in
-    rw c.clear_sent.ensures (sent_kept e.plan e.machine e.space e.turns e.tallies e.left c.args.port c.in-Err.sent packets c.self.invariant lt box (c.in-Err.ensures.most packets box))
+    let (packets, box) = box_at e.plan e.machine e.space e.turns e.tallies e.left c.self.invariant c.args.port here in
+    let lt = port_within e.plan e.machine e.space e.turns e.tallies e.left c.self.invariant c.args.port here in
+    rw c.clear_sent.ensures (sent_kept e.plan e.machine e.space e.turns e.tallies e.left c.self.invariant c.args.port c.in-Err.sent packets lt box
+    (c.in-Err.ensures.most packets box))
