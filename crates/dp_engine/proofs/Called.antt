@@ -30,8 +30,12 @@ front_less : {A : Type 0} (f : A → List ℕ) (xs : List A) (i : ℕ) → lengt
 front_less f [] zero = omega arith
 front_less f [] (suc i) = omega arith
 front_less f (x ∷ xs) zero = omega arith
-front_less f (x ∷ xs) (suc i) = let more = front_less f xs i in omega (arith, more, length-append (f x) (flat_map f (take i xs)), 
-    length-append (f x) (flat_map f xs))
+front_less f (x ∷ xs) (suc i) = let more = front_less f xs i in omega (
+  arith,
+  more,
+  length-append (f x) (flat_map f (take i xs)),
+  length-append (f x) (flat_map f xs),
+)
 
 front_twice : {A : Type 0} (xs : List A) (i : ℕ) → take i (take (suc i) xs) ≡ take i xs
 front_twice xs zero = refl

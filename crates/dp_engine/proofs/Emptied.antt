@@ -95,16 +95,28 @@ module _ (s : Scheme) (core : Core) (space : SpaceView) (turns : ℕ) (tallies :
         records = omega (arith, is.records, is.ports, lt, over_set records_of tallies port t (omega (arith, is.ports, lt)));
         calls = is.calls;
         cuts = is.cuts;
-        packets = omega (arith, is.packets, le, listed_less core.state.world.outboxes port packets box,
-        over_set sent_by tallies port t (omega (arith, is.ports, lt)));
+        packets = omega (
+          arith,
+          is.packets,
+          le,
+          listed_less core.state.world.outboxes port packets box,
+          over_set sent_by tallies port t (omega (arith, is.ports, lt)),
+        );
       }
 
   -- the sum of what a port wrote has room for its transmit list
   pub sent_fits : (port sent : ℕ) (packets : List Packet) → port < 8 → slice_get core.state.world.outboxes port ≡ Some packets → sent ≤ length packets
       → (tallies_at tallies port).sent + sent ≤ 134217728 * 8684545
   sent_fits port sent packets lt box le =
-      omega (arith, is.packets, is.calls, is.limit, le, listed_less core.state.world.outboxes port packets box,
-      over_at sent_by tallies port (omega (arith, is.ports, lt)))
+      omega (
+        arith,
+        is.packets,
+        is.calls,
+        is.limit,
+        le,
+        listed_less core.state.world.outboxes port packets box,
+        over_at sent_by tallies port (omega (arith, is.ports, lt)),
+      )
 
   -- a ring is emptied, and what was in it is counted
   pub left_kept : (ring : ℕ) (packets : List Packet) → ring < 8 → slice_get core.state.world.rings ring ≡ Some packets
@@ -224,8 +236,11 @@ dropped_to n e = record e { world = record e.world { outboxes = emptied_to n e.w
 
 pub left_next : (n : ℕ) (e : EngineState) → n < length e.world.rings → left_at n (left_to n e) ≡ left_to (suc n) e
 left_next n e lt =
-    ap (λ l. record e { world = record e.world { rings = l }; left = slice_set (added_to n e.left e.world.rings) n
-    (slice_index_or (added_to n e.left e.world.rings) n 0 + slice_index_or (map length (emptied_to n e.world.rings)) n 0) }) (emptied_next n e.world.rings)
+    ap (λ l. record e {
+      world = record e.world { rings = l };
+      left = slice_set (added_to n e.left e.world.rings) n
+          (slice_index_or (added_to n e.left e.world.rings) n 0 + slice_index_or (map length (emptied_to n e.world.rings)) n 0);
+    }) (emptied_next n e.world.rings)
     ∙ ap (λ l. record e { world = record e.world { rings = emptied_to (suc n) e.world.rings }; left = l }) (added_next n e.left e.world.rings lt)
 
 pub dropped_next : (n : ℕ) (e : EngineState) → drained n 0 (dropped_to n e) ≡ dropped_to (suc n) e

@@ -29,8 +29,12 @@ fewer_listed : (test : Segment → Bool) (lists : List (List Packet)) (i : ℕ)
 fewer_listed test [] i = omega arith
 fewer_listed test (l ∷ lists) zero = omega (arith, tally-append test (flat_map (λ k. k) l) (segments_listed lists))
 fewer_listed test (l ∷ lists) (suc i) =
-    omega (arith, fewer_listed test lists i, tally-append test (flat_map (λ k. k) l) (segments_listed lists),
-    tally-append test (flat_map (λ k. k) l) (segments_listed (slice_set lists i [])))
+    omega (
+      arith,
+      fewer_listed test lists i,
+      tally-append test (flat_map (λ k. k) l) (segments_listed lists),
+      tally-append test (flat_map (λ k. k) l) (segments_listed (slice_set lists i [])),
+    )
 
 -- what holds of all their segments still does
 all_listed : (P : Segment → Type 0) (lists : List (List Packet)) (i : ℕ) → AllByRecursion P (segments_listed lists)

@@ -48,5 +48,10 @@ returns-clause-counted g c k has =
     let bytes = one_segment _ k _ (omega (arith, c.segments.ensures k has, c.if-segments-ne1.false)) (c.segment_bytes.ensures k has) in
     subst (λ bytes. g.W.Sink.calls c.put_record.new.w ≤ g.W.Sink.calls c.args.w.now + length
     (record_text c.args.unit (record { time = c.args.time; bytes = bytes }))) bytes
-    (omega (arith, c.put_record.ensures.counted, length_head c.args.unit c.args.time (length c.segment_bytes.result.now), length-append
-    (head_text c.args.unit c.args.time (length c.segment_bytes.result.now)) c.segment_bytes.result.now))
+    (omega (
+      arith,
+      c.put_record.ensures.counted,
+      length_head c.args.unit c.args.time (length c.segment_bytes.result.now),
+      length-append
+          (head_text c.args.unit c.args.time (length c.segment_bytes.result.now)) c.segment_bytes.result.now,
+    ))

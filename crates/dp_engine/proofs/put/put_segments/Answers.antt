@@ -39,7 +39,7 @@ pub loop-index-preserved : goal.loop-index-preserved
 loop-index-preserved g c = record {
   wrote = λ k has.
       let b = c.args.mbufs.now.store.buffers in
-    let lt : c.loop-index.index < length k = omega (arith, c.segments-index-end.ensures k has) in
+      let lt : c.loop-index.index < length k = omega (arith, c.segments-index-end.ensures k has) in
       let (s, here) = at_place k c.loop-index.index lt in
       appends_piece _ _ _ _ (segment_bytes b) k c.loop-index.index s c.segment_bytes.result.now here (c.segment_bytes.ensures k has s here)
       (c.loop-index.invariant.wrote k has) c.in_ok-put_bytes.ensures.ok;
@@ -48,7 +48,7 @@ loop-index-preserved g c = record {
   failures = search rules;
   counted = λ k has.
       let b = c.args.mbufs.now.store.buffers in
-    let lt : c.loop-index.index < length k = omega (arith, c.segments-index-end.ensures k has) in
+      let lt : c.loop-index.index < length k = omega (arith, c.segments-index-end.ensures k has) in
       let (s, here) = at_place k c.loop-index.index lt in
       called_piece _ _ _ _ (segment_bytes b) k c.loop-index.index s c.segment_bytes.result.now here (c.segment_bytes.ensures k has s here)
       (c.loop-index.invariant.counted k has) c.in_ok-put_bytes.ensures.counted;

@@ -10,8 +10,11 @@ overflow_add-self g c =
     let here : c.args.port < length e.plan.setting.env.ports = omega (arith, c.requires.exists, long) in
     let (packets, box) = box_at e.plan e.machine e.space e.turns e.tallies e.left c.self.invariant c.args.port here in
     let lt = port_within e.plan e.machine e.space e.turns e.tallies e.left c.self.invariant c.args.port here in
-    omega (arith, sent_fits e.plan e.machine e.space e.turns e.tallies e.left c.self.invariant c.args.port c.in-Ok.sent packets lt box
-    (c.in-Ok.ensures.most packets box))
+    omega (
+      arith,
+      sent_fits e.plan e.machine e.space e.turns e.tallies e.left c.self.invariant c.args.port c.in-Ok.sent packets lt box
+          (c.in-Ok.ensures.most packets box),
+    )
 
 pub overflow_add-self-in-Err : goal.overflow_add-self-in-Err
 overflow_add-self-in-Err g c =
@@ -20,8 +23,11 @@ overflow_add-self-in-Err g c =
     let here : c.args.port < length e.plan.setting.env.ports = omega (arith, c.requires.exists, long) in
     let (packets, box) = box_at e.plan e.machine e.space e.turns e.tallies e.left c.self.invariant c.args.port here in
     let lt = port_within e.plan e.machine e.space e.turns e.tallies e.left c.self.invariant c.args.port here in
-    omega (arith, sent_fits e.plan e.machine e.space e.turns e.tallies e.left c.self.invariant c.args.port c.in-Err.sent packets lt box
-    (c.in-Err.ensures.most packets box))
+    omega (
+      arith,
+      sent_fits e.plan e.machine e.space e.turns e.tallies e.left c.self.invariant c.args.port c.in-Err.sent packets lt box
+          (c.in-Err.ensures.most packets box),
+    )
 
 pub invariant_of-self : goal.invariant_of-self
 invariant_of-self g c =
