@@ -59,3 +59,6 @@ returns-clause-never_stuck c =
     → NeverStuck v.setting b.program b.packet b.number b.world) c.self.view_is
     (λ b of. safe_never_stuck engine.plan.setting b
     (turn_runs_safe engine.plan.setting engine.plan.nodes port bytes engine.machine.state.world b c.env-env.ensures.pipeline c.self.invariant.rests.rest of))
+
+pub returns-clause-lists : goal.returns-clause-lists
+returns-clause-lists c = c.serve-served.ensures.rests.rest.ready.world.outboxes
