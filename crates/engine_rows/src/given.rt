@@ -1,5 +1,5 @@
 //! Environments, programs, engines and records that the tests share.
-ghost use Rattle.std.specs.Prelude.{◌≡◌, ◌+◌, ◌<◌, [], length, IfOk};
+ghost use Rattle.std.specs.Prelude.{◌≡◌, ◌+◌, ◌-◌, ◌<◌, ◌≤◌, [], length, IfOk};
 ghost use Rattle.dp_engine.specs.Schemes.{AreNodes};
 
 use dp_check::{Checked, check};
@@ -60,6 +60,23 @@ pub fn checked(rt: &HostRuntime, text: &str, env: &Env, entry: Entry) -> Result<
     }
 }
 
+// Whom the program at a place serves, where the ports come before the rings.
+fn entry_of(ports: usize, k: usize) -> Result<Entry, Fail>
+    ensures port { IfOk result (λ entry. k < ports → entry ≡ Entry.Port k) }
+    ensures ring { IfOk result (λ entry. ports ≤ k → entry ≡ Entry.Ring (k - ports)) }
+{
+    if k < ports {
+        let Ok(number) = u8::try_from(k) else {
+            return Err(Fail::from("ports"));
+        };
+        return Ok(Entry::Port(number));
+    }
+    let Ok(number) = u8::try_from(k - ports) else {
+        return Err(Fail::from("rings"));
+    };
+    Ok(Entry::Ring(number))
+}
+
 /// The programs of the ports and then of the rings, checked.
 pub fn nodes(rt: &HostRuntime, env: &Env, texts: &[&str]) -> Result<Vec<Checked>, Fail>
     requires { length texts.now ≡ length env.now.ports + length env.now.rings }
@@ -68,11 +85,7 @@ pub fn nodes(rt: &HostRuntime, env: &Env, texts: &[&str]) -> Result<Vec<Checked>
     let ports = env.ports().len();
     let mut nodes = Vec::new(rt.alloc());
     for (k, text) in texts.iter().enumerate() {
-        let entry = if k < ports {
-            Entry::Port(k as u8)
-        } else {
-            Entry::Ring((k - ports) as u8)
-        };
+        let entry = entry_of(ports, k)?;
         nodes.push(checked(rt, text, env, entry)?)?;
     }
     Ok(nodes)

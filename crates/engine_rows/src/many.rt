@@ -1,5 +1,5 @@
 //! Engines of many pools, ports, rings and tables.
-ghost use Rattle.std.specs.Prelude.{◌≡◌, length, IfOk};
+ghost use Rattle.std.specs.Prelude.{◌≡◌, ◌≤◌, length, IfOk};
 
 use crate::given::{ANY, Act, FORWARD, opened, play, run, written};
 use dp_engine::PoolReport;
@@ -86,7 +86,7 @@ fn a_cache_changes_no_capture(rt: HostRuntime) -> Result<(), Fail> {
 fn eight(count: u32, room: u32, places: u32) -> Result<Env, Fail>
     ensures { IfOk result (λ env. (length env.ports ≡ 8) × (length env.rings ≡ 8) × (env.tables ≡ 4)) }
 {
-    let cache = count * 2 / 3 % 512;
+    let cache = count / 2 % 512;
     let mut pools = [PoolSpec { count, cache, room }; 8];
     pools[7].cache = 0;
     let ring = RingSpec {
@@ -104,17 +104,26 @@ fn eight(count: u32, room: u32, places: u32) -> Result<Env, Fail>
     Ok(Env::new(&pools, 4, &[ring; 8], &ports)?)
 }
 
+// A table with one route.
+fn one_route(rt: &HostRuntime, hop: u32) -> Result<Lpm, Fail>
+    requires { hop ≤ 4 }
+{
+    let mut table = Lpm::new(rt.alloc(), 1, 0)?;
+    table.add(0x0a00_0000, 8, hop)?;
+    Ok(table)
+}
+
 // Four tables with one route each.
 fn four_tables(rt: &HostRuntime) -> Result<Vec<Lpm>, Fail>
     ensures { IfOk result (λ tables. length tables.items ≡ 4) }
 {
-    let mut tables = Vec::new(rt.alloc());
-    for hop in 1..5 {
-        let mut table = Lpm::new(rt.alloc(), 1, 0)?;
-        table.add(0x0a00_0000, 8, hop)?;
-        tables.push(table)?;
-    }
-    Ok(tables)
+    let tables = [
+        one_route(rt, 1)?,
+        one_route(rt, 2)?,
+        one_route(rt, 3)?,
+        one_route(rt, 4)?,
+    ];
+    Ok(Vec::from_array(rt.alloc(), tables)?)
 }
 
 // Each port writes the hop of a table and puts the packet into a ring of its own; that ring's program sends it back.
