@@ -8,11 +8,15 @@ use Rattle.dp_model.specs.declared.env.PoolSpec.{PoolSpec}
 use Rattle.dp_model.specs.Environments.{count_at}
 use Rattle.dp_model.specs.Buffers.{Number, same_number}
 use Rattle.dp_model.specs.Packets.{Segment, Packet, refs, is_free, free_below, available, IsHeadSole, IsTailSole, IsFresh, AreFresh}
-use Rattle.dp_model.specs.Machine.{segments_held}
+use Rattle.dp_model.specs.Machine.{segments_held, segments_listed}
 use Rattle.dp_model.proofs.Refs.{get_set_other, get_set_same, one_if, refs-cons}
-use Rattle.dp_engine.specs.Handles.{held_of, packet_at, register_at, handles_held, once, occurs, in_slot, StandOnce}
-use Rattle.dp_engine.specs.Plain.{tally}
-use Rattle.dp_engine.proofs.Handles.{is_one, in_slot_some, in_slot_few}
+use Rattle.dp_engine.specs.Handles.{held_of, packet_at, register_at, handles_held, once, occurs, in_slot, joined, waiting, packets_in, Lists, StandOnce}
+use Rattle.dp_engine.proofs.Handles.{is_one, in_slot_some, in_slot_few, occurs-append}
+
+-- how many of the segments are such
+abbrev pub tally : (Segment → Bool) → List Segment → ℕ
+tally f [] = 0
+tally f (s ∷ rest) = once (f s) + tally f rest
 
 pub tally-append : (f : Segment → Bool) (xs ys : List Segment) → tally f (xs ++ ys) ≡ tally f xs + tally f ys
 tally-append f [] ys = omega arith
@@ -119,46 +123,56 @@ idle_handles slots [] all = refl
 idle_handles slots (None ∷ registers) all = idle_handles slots registers all.1
 idle_handles slots (Some h ∷ registers) all = let no : Some (packet_at slots h) ≡ None = all.0 in cc
 
-listed : (slots : List (Option Packet)) (outbox : List ℕ) → flat_map (λ k. k) (map (packet_at slots) outbox) ≡ segments_at slots outbox
-listed slots [] = refl
-listed slots (h ∷ outbox) = ap (λ l. packet_at slots h ++ l) (listed slots outbox)
+tally_at : (f : Segment → Bool) (slots : List (Option Packet)) (xs ys : List ℕ) → tally f (segments_at slots (xs ++ ys)) ≡ tally f (segments_at slots xs) + tally f (segments_at slots ys)
+tally_at f slots [] ys = omega arith
+tally_at f slots (h ∷ xs) ys =
+    omega (arith, tally_at f slots xs ys, tally-append f (packet_at slots h) (segments_at slots xs), tally-append f (packet_at slots h) (segments_at slots (xs ++ ys)))
 
--- the list's packets are all that there are
-pub idle_counts : (slots : List (Option Packet)) (outbox : List ℕ) → ((h : ℕ) → occurs h outbox ≡ in_slot (slice_get slots h)) → CountSame (flat_map (λ k. k) (map (packet_at slots) outbox) ++ []) (segments_held slots)
-idle_counts slots outbox each f =
-    let e : tally f (flat_map (λ k. k) (map (packet_at slots) outbox)) ≡ tally f (segments_at slots outbox) = ap (tally f) (listed slots outbox) in
-    omega (arith, e, spread f outbox slots each, tally-append f (flat_map (λ k. k) (map (packet_at slots) outbox)) [])
+listed : (slots : List (Option Packet)) (xs : List ℕ) → flat_map (λ k. k) (map (packet_at slots) xs) ≡ segments_at slots xs
+listed slots [] = refl
+listed slots (h ∷ xs) = ap (λ l. packet_at slots h ++ l) (listed slots xs)
+
+-- the segments of all that waits in these lists
+tally_in : (f : Segment → Bool) (slots : List (Option Packet)) (lists : List (List ℕ)) → tally f (segments_listed (packets_in slots lists)) ≡ tally f (segments_at slots (joined lists))
+tally_in f slots [] = refl
+tally_in f slots (xs ∷ lists) =
+    let first : tally f (flat_map (λ k. k) (map (packet_at slots) xs)) ≡ tally f (segments_at slots xs) = ap (tally f) (listed slots xs) in
+    omega (arith, first, tally_in f slots lists, tally_at f slots xs (joined lists), tally-append f (flat_map (λ k. k) (map (packet_at slots) xs)) (segments_listed (packets_in slots lists)))
+
+-- in rings and transmit lists together
+tally_waiting : (f : Segment → Bool) (slots : List (Option Packet)) (lists : Lists) → tally f (segments_listed (packets_in slots lists.rings) ++ segments_listed (packets_in slots lists.outboxes)) ≡ tally f (segments_at slots (waiting lists))
+tally_waiting f slots lists =
+    omega (
+      arith,
+      tally_in f slots lists.rings,
+      tally_in f slots lists.outboxes,
+      tally_at f slots (joined lists.rings) (joined lists.outboxes),
+      tally-append f (segments_listed (packets_in slots lists.rings)) (segments_listed (packets_in slots lists.outboxes)),
+    )
+
+-- what waits is all that there is
+pub idle_counts : (slots : List (Option Packet)) (lists : Lists) → ((h : ℕ) → occurs h (waiting lists) ≡ in_slot (slice_get slots h)) → CountSame (segments_listed (packets_in slots lists.rings) ++ segments_listed (packets_in slots lists.outboxes)) (segments_held slots)
+idle_counts slots lists each f = tally_waiting f slots lists ∙ spread f (waiting lists) slots each
 
 -- ---- at any time
-
-occurs-append : (h : ℕ) (xs ys : List ℕ) → occurs h (xs ++ ys) ≡ occurs h xs + occurs h ys
-occurs-append h [] ys = omega arith
-occurs-append h (x ∷ xs) ys = let more = occurs-append h xs ys in omega (arith, more)
 
 held_at : (slots : List (Option Packet)) (registers : List (Option ℕ)) → segments_held (map (register_at slots) registers) ≡ segments_at slots (handles_held registers)
 held_at slots [] = refl
 held_at slots (None ∷ registers) = held_at slots registers
 held_at slots (Some h ∷ registers) = ap (λ l. packet_at slots h ++ l) (held_at slots registers)
 
-tally_at : (f : Segment → Bool) (slots : List (Option Packet)) (xs ys : List ℕ) → tally f (segments_at slots (xs ++ ys)) ≡ tally f (segments_at slots xs) + tally f (segments_at slots ys)
-tally_at f slots [] ys = omega arith
-tally_at f slots (h ∷ xs) ys =
-    omega (arith, tally_at f slots xs ys, tally-append f (packet_at slots h) (segments_at slots xs), tally-append f (packet_at slots h) (segments_at slots (xs ++ ys)))
-
--- the packets of the registers and the list are all that there are
-pub live_counts : (slots : List (Option Packet)) (registers : List (Option ℕ)) (outbox : List ℕ) → StandOnce slots registers outbox → CountSame (segments_held (map (register_at slots) registers) ++ (flat_map (λ k. k) (map (packet_at slots) outbox) ++ [])) (segments_held slots)
-live_counts slots registers outbox stand f =
+-- the packets of the registers and the lists are all that there are
+pub live_counts : (slots : List (Option Packet)) (registers : List (Option ℕ)) (lists : Lists) → StandOnce slots registers lists → CountSame (segments_held (map (register_at slots) registers) ++ (segments_listed (packets_in slots lists.rings) ++ segments_listed (packets_in slots lists.outboxes))) (segments_held slots)
+live_counts slots registers lists stand f =
     let held : tally f (segments_held (map (register_at slots) registers)) ≡ tally f (segments_at slots (handles_held registers)) = ap (tally f) (held_at slots registers) in
-    let list : tally f (flat_map (λ k. k) (map (packet_at slots) outbox)) ≡ tally f (segments_at slots outbox) = ap (tally f) (listed slots outbox) in
-    let all = spread f (handles_held registers ++ outbox) slots (λ h. occurs-append h (handles_held registers) outbox ∙ stand h) in
+    let all = spread f (handles_held registers ++ waiting lists) slots (λ h. occurs-append h (handles_held registers) (waiting lists) ∙ stand h) in
     omega (
       arith,
       held,
-      list,
       all,
-      tally_at f slots (handles_held registers) outbox,
-      tally-append f (segments_held (map (register_at slots) registers)) (flat_map (λ k. k) (map (packet_at slots) outbox) ++ []),
-      tally-append f (flat_map (λ k. k) (map (packet_at slots) outbox)) [],
+      tally_waiting f slots lists,
+      tally_at f slots (handles_held registers) (waiting lists),
+      tally-append f (segments_held (map (register_at slots) registers)) (segments_listed (packets_in slots lists.rings) ++ segments_listed (packets_in slots lists.outboxes)),
     )
 
 once_if : (b : Bool) → one_if b ≡ once b

@@ -1,135 +1,99 @@
--- Turns of an engine of one port.
-use Rattle.std.proofs.Common.{◌≡◌, ℕ, ◌+◌, ◌<◌, ◌≤◌, Bool, true, false, List, [], ◌∷◌, length, Option, Some, None, refl, sym, ap, subst, arith, append-nil}
-use Rattle.std.specs.Prelude.{slice_get, slice_set, map}
-use Rattle.dp_model.proofs.WholeRuns.{drained_ready}
-use Rattle.std.specs.List.{AllByRecursion}
-use Rattle.dp_model.specs.declared.env.PortSpec.{PortSpec}
-use Rattle.dp_model.specs.Environments.{room_at}
-use Rattle.dp_model.specs.Packets.{Packet, needed, received}
-use Rattle.dp_model.specs.Rules.{Question, IsCertified}
-use Rattle.dp_model.specs.Machine.{Setting, World, State, At, is_denied, with_outbox}
-use Rattle.dp_model.specs.Runs.{Outcome, Got, first_state, between, Serves, Arrives, Turn, runs_of}
-use Rattle.dp_model.specs.Laws.{Ready, Begins}
-use Rattle.dp_model.proofs.Begin.{received_begins}
-use Rattle.dp_model.proofs.NodeRuns.{goes_known, begins_known, accepted_is_sound}
-use Rattle.dp_model.proofs.Soundness.{acts_place}
-use Rattle.dp_engine.specs.Handles.{Core, moved}
-use Rattle.dp_engine.specs.Steps.{setting_of, CanRun, Runs}
+-- Turns of an engine.
+use Rattle.std.proofs.Common.{◌≡◌, ℕ, zero, suc, ◌+◌, ◌*◌, ◌<◌, ◌≤◌, Bool, List, [], ◌∷◌, ◌++◌, length, refl, sym, ◌∙◌, ap, subst, arith}
+use Rattle.std.specs.Prelude.{slice_set}
+use Rattle.dp_model.specs.Machine.{World}
+use Rattle.dp_model.specs.Runs as runs
+use Rattle.dp_model.specs.Runs.{Serves, Turn}
+use Rattle.dp_model.specs.Safety.{IsPipeline}
+use Rattle.dp_model.proofs.EnvLemmas.{numbers_known, numbers_pass}
 use Rattle.dp_engine.specs.declared.report.Tallies.{Tallies}
-use Rattle.dp_engine.specs.Tallies.{held_count, listed_count, packet_count}
-use Rattle.dp_engine.specs.Turns.{IsReceived, IsEngine}
+use Rattle.dp_engine.specs.Handles.{Core}
+use Rattle.dp_engine.specs.Schemes.{Scheme}
+use Rattle.dp_engine.specs.Serving.{ArrivesAt, Rests}
+use Rattle.dp_engine.specs.Spaces.{SpaceView}
+use Rattle.dp_engine.specs.Tallies.{counted, packet_count}
+use Rattle.dp_engine.specs.Engines.{over_ports, records_of, sent_by, StandIn, IsEngine, tallies_at, counted_at}
 
-abbrev pub spec_at : (ports : List PortSpec) (spec : PortSpec) → ports ≡ spec ∷ [] → slice_get ports 0 ≡ Some spec
-spec_at ports spec e = ap (λ l. slice_get l 0) e
+-- ---- a turn
 
--- no ring has a packet
-serves_none : (c : Setting) (w : World) → w.rings ≡ [] → Serves c [] 32 w [] 0 w
-serves_none c w none = rw none (refl, refl, refl)
+-- a record's part and the rings' part make a turn
+pub turn_is : (s : Scheme) (port : ℕ) (bytes : List ℕ) (w mid w' : World) (outcome : runs.Outcome) (more all : ℕ) → all ≡ runs.runs_of outcome + more
+    → (now : List Bool) × ArrivesAt s port bytes w outcome now mid → (later : List Bool) × Serves s.setting s.nodes.rings 32 mid later more w'
+    → (told : List Bool) × Turn s.setting s.nodes port bytes w outcome all told w'
+turn_is s port bytes w mid w' outcome more all sum (now, (spec, program, is_spec, is_program, arrives)) (later, serves) = (
+  now ++ later,
+  record {
+    spec = spec;
+    program = program;
+    spec_is = is_spec;
+    program_is = is_program;
+    mid = mid;
+    now = now;
+    arrives = arrives;
+    later = later;
+    more = more;
+    serves = serves;
+    told_is = refl;
+    runs_is = sum;
+  },
+)
 
-pub turn_is : {turns : ℕ} {t : Tallies} (q : Question) (pattern : List ℕ) (core : Core) (bytes : List ℕ) (outcome : Outcome) (told : List Bool) (w' : World) (e : IsEngine q pattern core turns t) → w'.rings ≡ [] → Arrives (setting_of q.env pattern) q.program 0 e.spec bytes core.state.world outcome told w'
-    → Turn (setting_of q.env pattern) (record { ports = q.program ∷ []; rings = [] }) 0 bytes core.state.world outcome (runs_of outcome) told w'
-turn_is q pattern core bytes outcome told w' e none a = record {
-  spec = e.spec;
-  program = q.program;
-  spec_is = spec_at q.env.ports e.spec e.port;
-  program_is = refl;
-  mid = w';
-  now = told;
-  arrives = a;
-  later = [];
-  more = 0;
-  serves = serves_none (setting_of q.env pattern) w' none;
-  told_is = sym (append-nil told);
-  runs_is = omega arith;
-}
+-- a port that exists is one of eight
+pub port_small : (s : Scheme) (port : ℕ) → IsPipeline s.setting s.nodes → port < length s.setting.env.ports → port < 8
+port_small s port pipeline less =
+    let (_, _, few) = numbers_known s.setting.env (numbers_pass s.setting.env pipeline.limits) in
+    omega (arith, few, less)
 
--- the run of a received packet
-pub record Received (q : Question) (pattern : List ℕ) (core : Core) (spec : PortSpec) (bytes : List ℕ) (s : State) : Type 0 where
-  pub can_run : CanRun (setting_of q.env pattern) q.program s
-  pub ready : (s' : State) → Runs (setting_of q.env pattern) q.program s s' → Ready (setting_of q.env pattern) s'.world
-  pub arrives : is_denied (setting_of q.env pattern) (between core.state.world) spec.pool (needed q.env.pools spec.pool (length bytes)) ≡ false → (s' : State) → Runs (setting_of q.env pattern) q.program s s' → (told : List Bool) × Arrives (setting_of q.env pattern) q.program 0 spec bytes core.state.world Got told s'.world
+-- ---- counts
 
-pub received_is : {turns : ℕ} {t : Tallies} (q : Question) (pattern : List ℕ) (core : Core) (e : IsEngine q pattern core turns t) (bytes : List ℕ) (s : State) → IsCertified q → needed q.env.pools e.spec.pool (length bytes) ≤ e.spec.segs → IsReceived (setting_of q.env pattern) e.spec.pool 0 bytes core.state.world s → Received q pattern core e.spec bytes s
-received_is q pattern core e bytes s accepted fits r =
-    let c = setting_of q.env pattern in
-    let w = core.state.world in
-    let w1 : World = record w { buffers = r.buffers; calls = w.calls + 1 } in
-    let k = received (room_at q.env.pools e.spec.pool) r.numbers (length bytes) in
-    let begins : Begins c q k 0 w1 = received_begins c q 0 e.spec bytes w r.numbers r.buffers refl e.entry (spec_at q.env.ports e.spec e.port) e.has_room e.ready fits r.fresh r.filled in
-    let sound = accepted_is_sound c q k 0 w1 accepted begins in
-    let start = begins_known c q k 0 w1 accepted begins in
-    subst (Received q pattern core e.spec bytes) (sym r.state) (record {
-      can_run = record {
-        first = refl;
-        eight = refl;
-        never_stuck = sound.never_stuck;
-        leads = λ n label told s' i m goes here acts.
-            let (at, within, place) = goes_known c q refl accepted n 0 (first_state k 0 w1) told (At label) s' start goes in
-            acts_place c q label at.0 s' refl accepted at.1 at.2 within i m here acts;
-      };
-      ready = λ s' (n, told, goes). sound.ends told s'.world (n, s', goes, refl);
-      arrives = λ allowed s' (n, told, goes). (
-        true ∷ told,
-        record {
-          fits = fits;
-          given = allowed;
-          numbers = r.numbers;
-          buffers = r.buffers;
-          fresh = r.fresh;
-          packet = k;
-          packet_is = refl;
-          filled = r.filled;
-          later = told;
-          told_is = refl;
-          run = (n, s', goes, refl);
-        },
-      );
-    })
+-- one port's count is part of the sum
+pub one_of_all : (f : Tallies → ℕ) (tallies : List Tallies) (port : ℕ) → port < length tallies → f (tallies_at tallies port) ≤ over_ports f tallies
+one_of_all f [] port less = absurd (omega (arith, less))
+one_of_all f (t ∷ tallies) zero less = omega arith
+one_of_all f (t ∷ tallies) (suc port) less = omega (arith, one_of_all f tallies port (omega (arith, less)))
 
--- the transmit list is emptied, and of its packets at most so many are counted as sent
-pub cleared : {turns : ℕ} {t : Tallies} (q : Question) (pattern : List ℕ) (core : Core) (packets : List Packet) (t' : Tallies) → core.state.world.outboxes ≡ packets ∷ [] → IsEngine q pattern core turns t → t'.received ≡ t.received → t'.nobuf ≡ t.nobuf → t'.oversize ≡ t.oversize → t'.sent ≤ t.sent + listed_count core.state.world.outboxes → IsEngine q pattern (moved (with_outbox 0 [] core.state) core) turns t'
-cleared q pattern core packets t' box e received nobuf oversize sent =
-    let c = setting_of q.env pattern in
-    let w = core.state.world in
-    let P : List (List Packet) → Type 0 = λ o. map (λ _. []) o ≡ slice_set o 0 [] in
-    let same : map (λ _. []) w.outboxes ≡ slice_set w.outboxes 0 [] = subst P (sym box) refl in
-    let none : (os : List (List Packet)) → Type 0 = λ os. Ready c (record w { outboxes = os }) in
-    let count : listed_count (slice_set w.outboxes 0 []) ≡ 0 = ap (λ o. listed_count (slice_set o 0 [])) box in
+-- where one port counts anew
+pub one_changed : (f : Tallies → ℕ) (tallies : List Tallies) (port : ℕ) (t' : Tallies) → port < length tallies
+    → over_ports f (slice_set tallies port t') + f (tallies_at tallies port) ≡ over_ports f tallies + f t'
+one_changed f [] port t' less = absurd (omega (arith, less))
+one_changed f (t ∷ tallies) zero t' less = omega arith
+one_changed f (t ∷ tallies) (suc port) t' less = omega (arith, one_changed f tallies port t' (omega (arith, less)))
+
+pub still_all : (tallies : List Tallies) (port : ℕ) (t' : Tallies) → length (slice_set tallies port t') ≡ length tallies
+still_all [] port t' = refl
+still_all (t ∷ tallies) zero t' = refl
+still_all (t ∷ tallies) (suc port) t' = ap suc (still_all tallies port t')
+
+counted_records : (outcome : runs.Outcome) (t : Tallies) → records_of (counted outcome t) ≡ records_of t + 1
+counted_records runs.Outcome.Got t = omega arith
+counted_records runs.Outcome.NoBuffer t = omega arith
+counted_records runs.Outcome.Oversize t = omega arith
+
+counted_sent : (outcome : runs.Outcome) (t : Tallies) → sent_by (counted outcome t) ≡ sent_by t
+counted_sent runs.Outcome.Got t = refl
+counted_sent runs.Outcome.NoBuffer t = refl
+counted_sent runs.Outcome.Oversize t = refl
+
+-- ---- what is true of an engine
+
+-- behind a turn
+pub turned : (s : Scheme) (m m' : Core) (space : SpaceView) (turns : ℕ) (tallies : List Tallies) (left : List ℕ) (port : ℕ) (outcome : runs.Outcome)
+    → IsEngine s m space turns tallies left → turns < 134217728 → port < 8 → Rests s m' → m'.frames ≡ m.frames
+    → m'.state.world.calls ≤ m.state.world.calls + 8684545
+    → m'.state.world.cuts ≤ m.state.world.cuts + 33 → packet_count m'.state + m.state.world.calls ≤ packet_count m.state + m'.state.world.calls
+    → IsEngine s m' space (turns + 1) (counted_at port outcome tallies) left
+turned s m m' space turns tallies left port outcome e limit less rests frames calls cuts packets =
+    let t = tallies_at tallies port in
+    let there : port < length tallies = omega (arith, less, e.ports) in
     record {
-      entry = e.entry;
-      spec = e.spec;
-      port = e.port;
-      has_room = e.has_room;
-      segs = e.segs;
-      idle = e.idle;
-      no_rings = e.no_rings;
-      pools = e.pools;
-      pool = e.pool;
-      pool_is = e.pool_is;
-      room = e.room;
-      least_room = e.least_room;
-      limit = e.limit;
-      all_counted = omega (arith, e.all_counted, received, nobuf, oversize);
-      calls = e.calls;
-      cuts = e.cuts;
-      sent = omega (arith, e.sent, sent, count);
-      ready = subst none same (drained_ready c w e.ready);
+      within = e.within;
+      rests = rests;
+      stand = subst (StandIn space) (sym frames) e.stand;
+      limit = omega (arith, limit);
+      ports = still_all tallies port (counted outcome t) ∙ e.ports;
+      rings = e.rings;
+      records = omega (arith, e.records, one_changed records_of tallies port (counted outcome t) there, counted_records outcome t);
+      calls = omega (arith, e.calls, calls);
+      cuts = omega (arith, e.cuts, cuts);
+      packets = omega (arith, e.packets, packets, one_changed sent_by tallies port (counted outcome t) there, counted_sent outcome t);
     }
-
-idle_count : (packets : List (Option Packet)) → AllByRecursion (λ o. o ≡ None) packets → held_count packets ≡ 0
-idle_count [] all = refl
-idle_count (None ∷ packets) all = idle_count packets all.1
-idle_count (Some k ∷ packets) all = let never = all.0 in cc
-
-pub received_count : (c : Setting) (pool port : ℕ) (bytes : List ℕ) (w : World) (s : State) → IsReceived c pool port bytes w s → packet_count s ≡ listed_count w.outboxes + 1
-received_count c pool port bytes w s r = let e = ap packet_count r.state in omega (arith, e)
-
--- receiving counts no step and no cut
-pub received_steps : (c : Setting) (pool port : ℕ) (bytes : List ℕ) (w : World) (s : State) → IsReceived c pool port bytes w s → s.world.steps ≡ w.steps
-received_steps c pool port bytes w s r = ap (λ (x : State). x.world.steps) r.state
-
-pub received_cuts : (c : Setting) (pool port : ℕ) (bytes : List ℕ) (w : World) (s : State) → IsReceived c pool port bytes w s → s.world.cuts ≡ w.cuts
-received_cuts c pool port bytes w s r = ap (λ (x : State). x.world.cuts) r.state
-
-pub only_port : (ports : List PortSpec) (spec : PortSpec) (port : ℕ) → ports ≡ spec ∷ [] → port < length ports → port ≡ 0
-only_port ports spec port e lt = let n : length ports ≡ 1 = ap length e in omega (arith, n, lt)

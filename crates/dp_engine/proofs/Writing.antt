@@ -1,5 +1,5 @@
 -- What is written, piece by piece.
-use Rattle.std.proofs.Common.{◌≡◌, ℕ, zero, suc, ◌+◌, ◌<◌, ◌≤◌, Bool, true, false, List, [], ◌∷◌, ◌++◌, length, take, drop, map, Option, Some, refl, sym, ◌∙◌, ap, subst, arith, append_assoc, append-nil, length-append, get_or, add-one}
+use Rattle.std.proofs.Common.{◌≡◌, ℕ, zero, suc, ◌+◌, ◌<◌, ◌≤◌, Bool, true, false, List, [], ◌∷◌, ◌++◌, length, take, drop, map, Option, Some, refl, sym, ◌∙◌, ap, subst, arith, append_assoc, append-nil, length-append, add-one}
 use Rattle.std.specs.Prelude.{slice_get, Result, Ok, Err, is_err, OnOk, OnErr}
 use Rattle.std.specs.List.{flat_map}
 use Rattle.std.specs.Io.KnownBytes.{Appends}
@@ -17,10 +17,14 @@ use Rattle.dp_model.specs.Buffers.{Buffers}
 use Rattle.dp_model.specs.Packets.{Packet, packet_bytes}
 use Rattle.dp_model.specs.Machine.{World}
 use Rattle.dp_model.specs.Runs.{drained}
-use Rattle.dp_model.specs.Stores.{Store, Has}
-use Rattle.dp_engine.specs.Handles.{held_of, packet_at, occurs, StandOnce, Core, core_of, Ran}
+use Rattle.dp_model.specs.Stores.{Store}
+use Rattle.dp_ring.specs.Rings.{RingView}
+use Rattle.dp_pool.specs.Pools.{PoolZones}
+use Rattle.dp_engine.specs.Queues.{ring_at}
+use Rattle.dp_engine.specs.Handles.{held_of, packet_at, in_slot, occurs, joined, packets_in, StandOnce, Core, core_of, Ran, frames_of, lists_of, without_entries, entries_of}
+use Rattle.dp_engine.proofs.Rings.{entries_at, frames_length}
 use Rattle.dp_engine.specs.Drains.{record_of, captured, WrotePart, Written}
-use Rattle.dp_engine.proofs.Handles.{get_map, in_slot_some, is_one}
+use Rattle.dp_engine.proofs.Handles.{map_get, get_map, in_slot_some, is_one, occurs-append, waits}
 
 -- ---- lists, element by element
 
@@ -41,7 +45,8 @@ take_all (x ∷ xs) zero le = absurd (omega arith)
 take_all (x ∷ xs) (suc n) le = ap (λ l. x ∷ l) (take_all xs n (omega arith))
 
 -- the pieces before one, it, and those behind
-pieces : {A : Type 0} (f : A → List ℕ) (xs : List A) (i : ℕ) (x : A) → slice_get xs i ≡ Some x → flat_map f xs ≡ (flat_map f (take i xs) ++ f x) ++ flat_map f (drop (suc i) xs)
+pieces : {A : Type 0} (f : A → List ℕ) (xs : List A) (i : ℕ) (x : A) → slice_get xs i ≡ Some x
+    → flat_map f xs ≡ (flat_map f (take i xs) ++ f x) ++ flat_map f (drop (suc i) xs)
 pieces f [] i x e = cc
 pieces f (y ∷ xs) zero x e = ap (λ z. f z ++ flat_map f xs) (same_Some y x e)
 pieces f (y ∷ xs) (suc i) x e =
@@ -50,11 +55,15 @@ pieces f (y ∷ xs) (suc i) x e =
 
 -- ---- one piece more
 
-pub piece_more : {A : Type 0} (head : List ℕ) (f : A → List ℕ) (xs : List A) (i : ℕ) (x : A) → slice_get xs i ≡ Some x → (head ++ flat_map f (take i xs)) ++ f x ≡ head ++ flat_map f (take (i + 1) xs)
+pub piece_more : {A : Type 0} (head : List ℕ) (f : A → List ℕ) (xs : List A) (i : ℕ) (x : A) → slice_get xs i ≡ Some x
+    → (head ++ flat_map f (take i xs)) ++ f x ≡ head ++ flat_map f (take (i + 1) xs)
 piece_more head f xs i x here =
-    append_assoc head (flat_map f (take i xs)) (f x) ∙ ap (λ l. head ++ l) (ap (λ l. flat_map f (take i xs) ++ l) (sym (append-nil (f x))) ∙ sym (flat_map-append f (take i xs) (x ∷ [])) ∙ ap (flat_map f) (sym (take_more xs i x here))) ∙ ap (λ n. head ++ flat_map f (take n xs)) (sym (add-one i))
+    append_assoc head (flat_map f (take i xs)) (f x) ∙ ap (λ l. head ++ l) (ap (λ l. flat_map f (take i xs) ++ l) (sym (append-nil (f x)))
+    ∙ sym (flat_map-append f (take i xs) (x ∷ [])) ∙ ap (flat_map f) (sym (take_more xs i x here))) ∙ ap (λ n. head ++ flat_map f (take n xs)) (sym (add-one i))
 
-pub appends_piece : {A : Type 0} (a b d : Option (List ℕ)) (head : List ℕ) (f : A → List ℕ) (xs : List A) (i : ℕ) (x : A) (bytes : List ℕ) → slice_get xs i ≡ Some x → bytes ≡ f x → Appends a b (head ++ flat_map f (take i xs)) → Appends b d bytes → Appends a d (head ++ flat_map f (take (i + 1) xs))
+pub appends_piece : {A : Type 0} (a b d : Option (List ℕ)) (head : List ℕ) (f : A → List ℕ) (xs : List A) (i : ℕ) (x : A) (bytes : List ℕ)
+    → slice_get xs i ≡ Some x → bytes ≡ f x → Appends a b (head ++ flat_map f (take i xs)) → Appends b d bytes
+    → Appends a d (head ++ flat_map f (take (i + 1) xs))
 appends_piece a b d head f xs i x bytes here is before now =
     subst (Appends a d) (piece_more head f xs i x here) (Appends-trans a b d (head ++ flat_map f (take i xs)) (f x) before (subst (Appends b d) is now))
 
@@ -67,40 +76,57 @@ part_before : (a b : Option (List ℕ)) (xs ys : List ℕ) → AppendsPart a b x
 part_before a b xs ys (n, less, appends) = (n, omega (arith, less, length-append xs ys), rw (take-append-le n xs ys (omega (arith, less))) appends)
 
 -- a piece was written in part
-pub part_piece : {A : Type 0} (a b d : Option (List ℕ)) (head : List ℕ) (f : A → List ℕ) (xs : List A) (i : ℕ) (x : A) (bytes : List ℕ) → slice_get xs i ≡ Some x → bytes ≡ f x → Appends a b (head ++ flat_map f (take i xs)) → AppendsPart b d bytes → AppendsPart a d (head ++ flat_map f xs)
+pub part_piece : {A : Type 0} (a b d : Option (List ℕ)) (head : List ℕ) (f : A → List ℕ) (xs : List A) (i : ℕ) (x : A) (bytes : List ℕ)
+    → slice_get xs i ≡ Some x → bytes ≡ f x → Appends a b (head ++ flat_map f (take i xs)) → AppendsPart b d bytes → AppendsPart a d (head ++ flat_map f xs)
 part_piece a b d head f xs i x bytes here is before now =
     let e : ((head ++ flat_map f (take i xs)) ++ f x) ++ flat_map f (drop (suc i) xs) ≡ head ++ flat_map f xs =
-    ap (λ l. l ++ flat_map f (drop (suc i) xs)) (append_assoc head (flat_map f (take i xs)) (f x)) ∙ append_assoc head (flat_map f (take i xs) ++ f x) (flat_map f (drop (suc i) xs)) ∙ ap (λ l. head ++ l) (sym (pieces f xs i x here)) in
-    subst (AppendsPart a d) e (part_before a d _ (flat_map f (drop (suc i) xs)) (AppendsPart-after a b d (head ++ flat_map f (take i xs)) (f x) before (subst (AppendsPart b d) is now)))
+    ap (λ l. l ++ flat_map f (drop (suc i) xs)) (append_assoc head (flat_map f (take i xs)) (f x)) ∙ append_assoc head (flat_map f (take i xs) ++ f x)
+    (flat_map f (drop (suc i) xs)) ∙ ap (λ l. head ++ l) (sym (pieces f xs i x here)) in
+    subst (AppendsPart a d) e (part_before a d _ (flat_map f (drop (suc i) xs))
+    (AppendsPart-after a b d (head ++ flat_map f (take i xs)) (f x) before (subst (AppendsPart b d) is now)))
 
 -- a device that took a piece is sound behind it, if it was before
-pub sound_after : {W : Type 0} (is_broken : W → Bool) (w w' : W) (bytes : List ℕ) → is_broken w ≡ false → (0 < length bytes → is_broken w' ≡ false) → (length bytes ≡ 0 → w' ≡ w) → is_broken w' ≡ false
+pub sound_after : {W : Type 0} (is_broken : W → Bool) (w w' : W) (bytes : List ℕ) → is_broken w ≡ false → (0 < length bytes → is_broken w' ≡ false)
+    → (length bytes ≡ 0 → w' ≡ w) → is_broken w' ≡ false
 sound_after is_broken w w' [] sound some none = ap is_broken (none refl) ∙ sound
 sound_after is_broken w w' (x ∷ bytes) sound some none = some (omega arith)
 
--- ---- the packets of the transmit list
+-- ---- the packets of a transmit list
 
-pub listed_at : (s : Store) (room : ℕ) (registers : List (Option ℕ)) (numbers outbox : List ℕ) (calls : ℕ) (steps : Ran) (core : Core) (i h d : ℕ) (packets : List Packet) (k : Packet) → core_of s room registers numbers outbox calls steps ≡ core → StandOnce s.slots registers outbox → core.state.world.outboxes ≡ packets ∷ [] → slice_get packets i ≡ Some k → h ≡ get_or outbox i d → Has s h k
-listed_at s room registers numbers outbox calls steps core i h d packets k is stand box here at =
-    let same : map (packet_at s.slots) outbox ≡ packets = same_first _ _ (ap (λ (c : Core). c.state.world.outboxes) is ∙ box) in
-    let (x, there, becomes) = get_map (packet_at s.slots) outbox i k (ap (λ l. slice_get l i) same ∙ here) in
-    let x_is : h ≡ x = at ∙ read outbox i x there in
-    let (k', has) = in_slot_some (slice_get s.slots x) (omega (arith, stand x, listed outbox i x there)) in
-    let k_is : k' ≡ k = sym (ap held_of has) ∙ becomes in
-    ap (slice_get s.slots) x_is ∙ has ∙ ap (λ k. Some (Some k)) k_is
-  where
-    same_first : (x y : List Packet) → x ∷ [] ≡ y ∷ [] → x ≡ y
-    same_first x y e = cc
+in_list : (xs : List ℕ) (i x : ℕ) → slice_get xs i ≡ Some x → 1 ≤ occurs x xs
+in_list [] i x e = cc
+in_list (y ∷ xs) zero x e = omega (arith, is_one y x (same_Some y x e))
+in_list (y ∷ xs) (suc i) x e = let more = in_list xs i x e in omega (arith, more)
 
-    read : (xs : List ℕ) (i x : ℕ) → slice_get xs i ≡ Some x → get_or xs i d ≡ x
-    read [] i x e = cc
-    read (y ∷ xs) zero x e = same_Some y x e
-    read (y ∷ xs) (suc i) x e = read xs i x e
+in_lists : (lists : List (List ℕ)) (j x : ℕ) (xs : List ℕ) → slice_get lists j ≡ Some xs → 1 ≤ occurs x xs → 1 ≤ occurs x (joined lists)
+in_lists [] j x xs e one = cc
+in_lists (ys ∷ lists) zero x xs e one =
+    let same : occurs x ys ≡ occurs x xs = ap (occurs x) (same_Some ys xs e) in
+    omega (arith, one, same, occurs-append x ys (joined lists))
+in_lists (ys ∷ lists) (suc j) x xs e one =
+    let more = in_lists lists j x xs e one in omega (arith, more, occurs-append x ys (joined lists))
 
-    listed : (xs : List ℕ) (i x : ℕ) → slice_get xs i ≡ Some x → 1 ≤ occurs x xs
-    listed [] i x e = cc
-    listed (y ∷ xs) zero x e = omega (arith, is_one y x (same_Some y x e))
-    listed (y ∷ xs) (suc i) x e = let more = listed xs i x e in omega (arith, more)
+-- a slot that is filled has the packet of its handle
+slot_of : (slots : List (Option Packet)) (h : ℕ) (k : Packet) → 1 ≤ in_slot (slice_get slots h) → packet_at slots h ≡ k → slice_get slots h ≡ Some (Some k)
+slot_of slots h k one named =
+    let (k', has) = in_slot_some (slice_get slots h) one in has ∙ ap (λ k. Some (Some k)) (sym (ap held_of has) ∙ named)
+
+-- a packet in a transmit list has a handle at its place
+pub waits_at : (s : Store) (zones : List PoolZones) (registers : List (Option ℕ)) (numbers : List ℕ) (rings boxes : List RingView) (calls : ℕ) (steps : Ran)
+    (core : Core) (port i : ℕ) (packets : List Packet) (k : Packet)
+    → core_of s (frames_of zones rings boxes) registers numbers (lists_of rings boxes) calls steps ≡ core
+    → StandOnce s.slots registers (lists_of rings boxes) → port < length core.frames.outboxes → slice_get core.state.world.outboxes port ≡ Some packets
+    → slice_get packets i ≡ Some k → (h : ℕ) × (slice_get (ring_at boxes port).entries i ≡ Some h) × (slice_get s.slots h ≡ Some (Some k))
+waits_at s zones registers numbers rings boxes calls steps core port i packets k is stand lt box here =
+    let long : length (map without_entries boxes) ≡ length core.frames.outboxes = ap (λ (c : Core). length c.frames.outboxes) is in
+    let there = entries_at boxes port (omega (arith, lt, long, frames_length boxes)) in
+    let listed : slice_get (packets_in s.slots (map entries_of boxes)) port ≡ Some packets =
+    ap (λ (c : Core). slice_get c.state.world.outboxes port) is ∙ box in
+    let same : map (packet_at s.slots) (ring_at boxes port).entries ≡ packets =
+    same_Some _ _ (sym (map_get (map (packet_at s.slots)) (map entries_of boxes) port _ there) ∙ listed) in
+    let (h, at, named) = get_map (packet_at s.slots) (ring_at boxes port).entries i k (ap (λ l. slice_get l i) same ∙ here) in
+    let one = in_lists (map entries_of boxes) port h (ring_at boxes port).entries there (in_list (ring_at boxes port).entries i h at) in
+    (h, at, slot_of s.slots h k (omega (arith, stand h, one, waits h (lists_of rings boxes))) named)
 
 -- ---- records
 
@@ -108,7 +134,8 @@ listed_at s room registers numbers outbox calls steps core i h d packets k is st
 abbrev pub packet_record : Time → Buffers → Packet → capture.PacketRecord
 packet_record time buffers k = record { time = time; bytes = packet_bytes buffers k }
 
-timed : (time : Time) (buffers : Buffers) (packets : List Packet) → map captured (map (λ bytes. (time, bytes)) (drained buffers packets)) ≡ map (packet_record time buffers) packets
+timed : (time : Time) (buffers : Buffers) (packets : List Packet)
+    → map captured (map (λ bytes. (time, bytes)) (drained buffers packets)) ≡ map (packet_record time buffers) packets
 timed time buffers [] = refl
 timed time buffers (k ∷ packets) = ap (λ l. packet_record time buffers k ∷ l) (timed time buffers packets)
 
@@ -121,36 +148,50 @@ map_take f zero xs = refl
 map_take f (suc n) [] = refl
 map_take f (suc n) (x ∷ xs) = ap (λ l. f x ∷ l) (map_take f n xs)
 
-get_mapped : {A B : Type 0} (f : A → B) (xs : List A) (i : ℕ) (x : A) → slice_get xs i ≡ Some x → slice_get (map f xs) i ≡ Some (f x)
-get_mapped f [] i x e = cc
-get_mapped f (y ∷ xs) zero x e = ap (λ z. Some (f z)) (same_Some y x e)
-get_mapped f (y ∷ xs) (suc i) x e = get_mapped f xs i x e
+-- the texts of so many packets' records
+pub taken_records : (unit : TimeUnit) (time : Time) (buffers : Buffers) (packets : List Packet) (m n : ℕ) → m ≡ n
+    → flat_map (record_of unit time buffers) (take n packets) ≡ flat_map (record_text unit) (take m (map (packet_record time buffers) packets))
+taken_records unit time buffers packets m n is =
+    let g = packet_record time buffers in
+    sym (flat_map-map (record_text unit) g (take n packets)) ∙ ap (flat_map (record_text unit)) (sym (map_take g n packets))
+    ∙ ap (λ m. flat_map (record_text unit) (take m (map g packets))) (sym is)
 
--- what the drain writes is the records of these packets
-pub written_of : (unit : TimeUnit) (time : Time) (w : World) (packets : List Packet) (P : List capture.PacketRecord → Type 0) → w.outboxes ≡ packets ∷ [] → P (map (packet_record time w.buffers) packets) → Written unit time w P
-written_of unit time w packets P box p =
-    (map (λ bytes. (time, bytes)) (drained w.buffers packets), ap (map (λ packets. map (λ bytes. (time, bytes)) (drained w.buffers packets))) box, subst P (sym (timed time w.buffers packets)) p)
+-- what the drain of a port writes is the records of its packets
+pub written_of : (unit : TimeUnit) (time : Time) (port : ℕ) (w : World) (packets : List Packet) (P : List capture.PacketRecord → Type 0)
+    → slice_get w.outboxes port ≡ Some packets → P (map (packet_record time w.buffers) packets) → Written unit time port w P
+written_of unit time port w packets P box p = (
+  map (λ bytes. (time, bytes)) (drained w.buffers packets),
+  map_get (λ packets. map (λ bytes. (time, bytes)) (drained w.buffers packets)) w.outboxes port packets box,
+  subst P (sym (timed time w.buffers packets)) p,
+)
 
-pub all_written : (unit : TimeUnit) (time : Time) (w : World) (a b : Option (List ℕ)) (sent n : ℕ) (packets : List Packet) → w.outboxes ≡ packets ∷ [] → sent ≡ n → length packets ≤ n → n ≤ length packets → Appends a b (flat_map (record_of unit time w.buffers) (take n packets)) → Written unit time w (λ records. (sent ≡ length records) × Appends a b (flat_map (record_text unit) records))
-all_written unit time w a b sent n packets box is least most wrote =
+pub all_written : (unit : TimeUnit) (time : Time) (port : ℕ) (w : World) (a b : Option (List ℕ)) (sent n : ℕ) (packets : List Packet)
+    → slice_get w.outboxes port ≡ Some packets → sent ≡ n → length packets ≤ n → n ≤ length packets
+    → Appends a b (flat_map (record_of unit time w.buffers) (take n packets))
+    → Written unit time port w (λ records. (sent ≡ length records) × Appends a b (flat_map (record_text unit) records))
+all_written unit time port w a b sent n packets box is least most wrote =
     let g = packet_record time w.buffers in
     let P : List capture.PacketRecord → Type 0 = λ records. (sent ≡ length records) × Appends a b (flat_map (record_text unit) records) in
-    written_of unit time w packets P box (
-      omega (arith, is, least, most, length_map g packets),
-      subst (Appends a b) (ap (flat_map (record_of unit time w.buffers)) (take_all packets n least) ∙ sym (flat_map-map (record_text unit) g packets)) wrote,
-    )
+    let all : flat_map (record_of unit time w.buffers) (take n packets) ≡ flat_map (record_text unit) (map g packets) =
+    ap (flat_map (record_of unit time w.buffers)) (take_all packets n least) ∙ sym (flat_map-map (record_text unit) g packets) in
+    written_of unit time port w packets P box (omega (arith, is, least, most, length_map g packets), subst (Appends a b) all wrote)
 
-pub part_written : (unit : TimeUnit) (time : Time) (w : World) (a b d : Option (List ℕ)) (sent n : ℕ) (packets : List Packet) (k : Packet) → w.outboxes ≡ packets ∷ [] → sent ≡ n → slice_get packets n ≡ Some k → Appends a b (flat_map (record_of unit time w.buffers) (take n packets)) → AppendsPart b d (record_of unit time w.buffers k) → Written unit time w (λ records. WrotePart a d unit records sent)
-part_written unit time w a b d sent n packets k box is here wrote part =
+-- the records before one, and a part of its bytes
+pub part_written : (unit : TimeUnit) (time : Time) (port : ℕ) (w : World) (a b d : Option (List ℕ)) (sent n : ℕ) (packets : List Packet) (k : Packet)
+    → slice_get w.outboxes port ≡ Some packets → sent ≡ n → slice_get packets n ≡ Some k
+    → Appends a b (flat_map (record_of unit time w.buffers) (take n packets)) → AppendsPart b d (record_of unit time w.buffers k)
+    → Written unit time port w (λ records. WrotePart a d unit records sent)
+part_written unit time port w a b d sent n packets k box is here wrote (bytes, less, part) =
     let g = packet_record time w.buffers in
-    let same : flat_map (record_text unit) (take sent (map g packets)) ≡ flat_map (record_of unit time w.buffers) (take n packets) =
-    ap (λ m. flat_map (record_text unit) (take m (map g packets))) is ∙ ap (flat_map (record_text unit)) (map_take g n packets) ∙ flat_map-map (record_text unit) g (take n packets) in
+    let same : flat_map (record_of unit time w.buffers) (take n packets) ≡ flat_map (record_text unit) (take sent (map g packets)) =
+    taken_records unit time w.buffers packets sent n is in
     let P : List capture.PacketRecord → Type 0 = λ records. WrotePart a d unit records sent in
-    written_of unit time w packets P box (record {
+    written_of unit time port w packets P box (record {
       next = g k;
-      next_is = ap (slice_get (map g packets)) is ∙ get_mapped g packets n k here;
-      whole = subst (λ l. AppendsPart a d (l ++ record_text unit (g k))) (sym same) (AppendsPart-after a b d (flat_map (record_of unit time w.buffers) (take n packets)) (record_of unit time w.buffers k) wrote part);
-      part = subst (AppendsPart a d) (sym (flat_map-map (record_text unit) g packets)) (part_piece a b d [] (record_of unit time w.buffers) packets n k (record_of unit time w.buffers k) here refl wrote part);
+      next_is = ap (slice_get (map g packets)) is ∙ map_get g packets n k here;
+      bytes = bytes;
+      part = less;
+      wrote = Appends-trans a b d _ _ (subst (Appends a b) same wrote) part;
     })
 
 pub on_err_at : {T E P : Type 0} (r : Result T E) → true ≡ is_err r → OnErr r P → P

@@ -1,9 +1,11 @@
 -- The packets that handles name, and that each handle stands once.
-use Rattle.std.specs.Prelude.{◌≡◌, ℕ, ◌+◌, ◌==◌, Bool, true, false, List, [], ◌∷◌, map, Option, Some, None, slice_get}
+use Rattle.std.specs.Prelude.{◌≡◌, ℕ, ◌+◌, ◌==◌, Bool, true, false, List, [], ◌∷◌, ◌++◌, map, Option, Some, None, slice_get}
 use Rattle.dp_model.specs.declared.env.PoolSpec.{PoolSpec}
 use Rattle.dp_model.specs.Packets.{Packet}
 use Rattle.dp_model.specs.Machine.{State}
 use Rattle.dp_model.specs.Stores.{Store}
+use Rattle.dp_ring.specs.Rings.{RingView}
+use Rattle.dp_pool.specs.Pools.{PoolZones}
 
 abbrev pub held_of : Option (Option Packet) → Packet
 held_of (Some (Some k)) = k
@@ -38,15 +40,52 @@ in_slot (Some (Some k)) = 1
 in_slot (Some None) = 0
 in_slot None = 0
 
--- each packet of the layer stands once in a register or a list, and nothing else stands there
-abbrev pub StandOnce : List (Option Packet) → List (Option ℕ) → List ℕ → Type 0
-StandOnce slots registers outbox =
-    (h : ℕ) → occurs h (handles_held registers) + occurs h outbox ≡ in_slot (slice_get slots h)
+-- ---- what waits
 
--- what a machine is: its pools, how many packets its transmit list can take, and a state
+-- the handles that wait: in each ring, and in each transmit list
+pub record Lists : Type 0 where
+  pub rings : List (List ℕ)
+  pub outboxes : List (List ℕ)
+
+abbrev pub joined : List (List ℕ) → List ℕ
+joined [] = []
+joined (handles ∷ lists) = handles ++ joined lists
+
+-- all of them
+abbrev pub waiting : Lists → List ℕ
+waiting lists = joined lists.rings ++ joined lists.outboxes
+
+-- the packets that they name
+abbrev pub packets_in : List (Option Packet) → List (List ℕ) → List (List Packet)
+packets_in slots lists = map (map (packet_at slots)) lists
+
+-- what a machine's packets stand in: the zones of its pools, and its rings and transmit lists apart from what waits in them
+pub record Frames : Type 0 where
+  pub zones : List PoolZones
+  pub rings : List RingView
+  pub outboxes : List RingView
+
+abbrev pub without_entries : RingView → RingView
+without_entries r = record r { entries = [] }
+
+abbrev pub entries_of : RingView → List ℕ
+entries_of r = r.entries
+
+abbrev pub frames_of : List PoolZones → List RingView → List RingView → Frames
+frames_of zones rings outboxes = record { zones = zones; rings = map without_entries rings; outboxes = map without_entries outboxes }
+
+abbrev pub lists_of : List RingView → List RingView → Lists
+lists_of rings outboxes = record { rings = map entries_of rings; outboxes = map entries_of outboxes }
+
+-- each packet of the layer stands once in a register or a list, and nothing else stands there
+abbrev pub StandOnce : List (Option Packet) → List (Option ℕ) → Lists → Type 0
+StandOnce slots registers lists =
+    (h : ℕ) → occurs h (handles_held registers) + occurs h (waiting lists) ≡ in_slot (slice_get slots h)
+
+-- what a machine is: its pools, its rings and transmit lists apart from what waits there, and a state
 pub record Core : Type 0 where
   pub pools : List PoolSpec
-  pub room : ℕ
+  pub frames : Frames
   pub state : State
 
 -- what a machine counts beside its allocation calls: steps, cut node runs, and the backward jumps of the node run
@@ -59,18 +98,18 @@ abbrev pub ran : ℕ → ℕ → ℕ → Ran
 ran steps cuts jumps = record { steps = steps; cuts = cuts; jumps = jumps }
 
 -- a machine of these parts
-abbrev pub core_of : Store → ℕ → List (Option ℕ) → List ℕ → List ℕ → ℕ → Ran → Core
-core_of store room registers numbers outbox calls steps = record {
+abbrev pub core_of : Store → Frames → List (Option ℕ) → List ℕ → Lists → ℕ → Ran → Core
+core_of store frames registers numbers lists calls steps = record {
   pools = store.pools;
-  room = room;
+  frames = frames;
   state = record {
     packets = map (register_at store.slots) registers;
     numbers = numbers;
     jumps = steps.jumps;
     world = record {
       buffers = store.buffers;
-      rings = [];
-      outboxes = map (packet_at store.slots) outbox ∷ [];
+      rings = packets_in store.slots lists.rings;
+      outboxes = packets_in store.slots lists.outboxes;
       calls = calls;
       steps = steps.steps;
       cuts = steps.cuts;

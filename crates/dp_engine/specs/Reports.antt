@@ -1,5 +1,5 @@
 -- What engines report.
-use Rattle.std.specs.Prelude.{◌≡◌, ℕ, [], ◌∷◌}
+use Rattle.std.specs.Prelude.{◌≡◌, ℕ, suc, List, [], ◌∷◌, length, map, take}
 use Rattle.dp_model.specs.declared.env.PoolSpec.{PoolSpec}
 use Rattle.dp_model.specs.Environments.{Environment}
 use Rattle.dp_model.specs.Packets.{available}
@@ -12,35 +12,25 @@ use Rattle.dp_engine.specs.declared.report.PoolReport.{PoolReport}
 use Rattle.dp_engine.specs.declared.report.Report.{Report}
 use Rattle.dp_engine.specs.declared.report.Tallies.{Tallies}
 use Rattle.dp_engine.specs.Tallies.{refused_of}
-use Rattle.dp_engine.specs.Turns.{EngineState}
+use Rattle.dp_engine.specs.Engines.{EngineState}
 
-abbrev pub port_report : Tallies → InputState → PortReport
-port_report t state = record { received = t.received; nobuf = t.nobuf; oversize = t.oversize; sent = t.sent; state = state }
+abbrev pub port_report : InputState → Tallies → PortReport
+port_report state t = record { received = t.received; nobuf = t.nobuf; oversize = t.oversize; sent = t.sent; state = state }
 
-abbrev pub no_tallies : Tallies
-no_tallies = record { received = 0; nobuf = 0; oversize = 0; sent = 0 }
+-- so many are free of each pool from one on
+abbrev pub pool_reports : (ℕ → ℕ) → ℕ → List PoolSpec → List PoolReport
+pool_reports free k [] = []
+pool_reports free k (p ∷ pools) = record { free = free k; count = p.count } ∷ pool_reports free (suc k) pools
 
-abbrev pub pool_report : ℕ → ℕ → PoolReport
-pool_report free count = record { free = free; count = count }
-
--- the numbers of an engine of one port and one pool, whose input was read so far
-pub record IsReport (e : EngineState) (state : InputState) (r : Report) : Type 0 where
-  pub ports : r.ports.items ≡ port_report e.tallies state ∷ []
-  pub rings : r.rings.items ≡ []
-  pub pools : (p : PoolSpec) → e.setting.env.pools ≡ p ∷ [] → r.pools.items ≡ pool_report (available e.setting.env.pools (live (between e.world)) 0) p.count ∷ []
+-- the numbers of an engine, none of whose inputs is read to its end
+pub record IsReport (e : EngineState) (r : Report) : Type 0 where
+  pub ports : r.ports.items ≡ map (port_report Open) (take (length e.setting.env.ports) e.tallies)
+  pub rings : r.rings.items ≡ take (length e.setting.env.rings) e.left
+  pub pools : r.pools.items ≡ pool_reports (available e.setting.env.pools (live (between e.world))) 0 e.setting.env.pools
   pub calls : r.calls ≡ e.world.calls
   pub refused : r.refused ≡ refused_of e.setting.pattern e.world.calls
   pub cut : r.cut ≡ e.world.cuts
 
--- all buffers of the only pool are free
+-- all buffers of each pool are free
 abbrev pub IsWhole : Environment → Report → Type 0
-IsWhole env r = (p : PoolSpec) → env.pools ≡ p ∷ [] → r.pools.items ≡ pool_report p.count p.count ∷ []
-
--- nothing was done
-pub record IsUnopened (env : Environment) (r : Report) : Type 0 where
-  pub ports : r.ports.items ≡ port_report no_tallies Open ∷ []
-  pub rings : r.rings.items ≡ []
-  pub whole : IsWhole env r
-  pub calls : r.calls ≡ 0
-  pub refused : r.refused ≡ 0
-  pub cut : r.cut ≡ 0
+IsWhole env r = r.pools.items ≡ map (λ (p : PoolSpec). record { free = p.count; count = p.count }) env.pools

@@ -49,9 +49,9 @@ abbrev pub listed_count : List (List Packet) → ℕ
 listed_count [] = 0
 listed_count (packets ∷ lists) = length packets + listed_count lists
 
--- in registers and transmit lists
+-- in registers, rings and transmit lists
 abbrev pub packet_count : State → ℕ
-packet_count s = held_count s.packets + listed_count s.world.outboxes
+packet_count s = held_count s.packets + (listed_count s.world.rings + listed_count s.world.outboxes)
 
 -- how many of the calls that are to be refused were made
 abbrev pub refused_of : List ℕ → ℕ → ℕ

@@ -1,18 +1,22 @@
-//! Turns of packets: a record is received, its program runs, and what it sent is written. Over any layer of packets.
+//! Turns of packets: a record is received, programs run, and what they send is written. All buffers, rings and transmit lists
+//! stand in one region.
 #![tactic(auto)]
 
 mod engine;
 mod machine;
+mod names;
+mod needs;
 mod numbers;
-mod one;
 mod packets;
-mod parts;
-mod plain;
+mod plan;
 mod put;
+mod queues;
 mod report;
 mod run;
+mod serving;
+mod space;
+mod stack;
 
-pub use engine::{Engine, Outcome, Turn, WriteFault};
-pub use one::{OneCause, OneFault, run_one};
-pub use plain::Plain;
-pub use report::{InputState, Memory, PoolReport, PortReport, Report};
+pub use engine::{Engine, OpenFault, Outcome, Turn, WriteFault};
+pub use needs::need;
+pub use report::{InputState, PoolReport, PortReport, Report};

@@ -1,62 +1,65 @@
-//! Registers and a transmit list, over a packet layer.
-ghost use Rattle.std.specs.Prelude.{◌≡◌, ℕ, ◌+◌, ◌^◌, ◌<◌, ◌≤◌, length, slice_index, List, [], ◌∷◌, ◌++◌};
+//! Registers, rings and transmit lists, over mbufs.
+ghost use Rattle.std.specs.Prelude.{◌≡◌, ℕ, ◌+◌, ◌^◌, ◌<◌, ◌≤◌, length, slice_index, List, [], ◌∷◌, ◌++◌, nat_lt, IsSome, MatchOption};
 ghost use Rattle.dp_model.specs.Packets.{Packet, first_len, at_front, less_before};
-ghost use Rattle.dp_model.specs.Machine.{calculated, Holds, with_packet, without_packet, with_number, with_step, with_outbox};
+ghost use Rattle.dp_model.specs.Machine.{calculated, Holds, with_packet, without_packet, with_number, with_step, with_outbox, with_ring};
 ghost use Rattle.std.specs.Prelude.{not, None, Some, nat_eq, IsTrue, IsFalse};
 ghost use Rattle.std.specs.List.{list_any, AllByRecursion};
 ghost use Rattle.dp_model.specs.Environments.{room_at};
 ghost use Rattle.dp_model.specs.Packets.{needed};
 ghost use Rattle.dp_model.specs.Machine.{is_denied};
-ghost use Rattle.dp_model.specs.Runs.{between};
+ghost use Rattle.dp_model.specs.Runs.{between, first_state, first_waiting, Waiting};
 ghost use Rattle.dp_engine.specs.Handles.{moved};
-ghost use Rattle.dp_engine.specs.Steps.{setting_of, with_numbers, ShiftsWithin};
-ghost use Rattle.std.specs.Prelude.{OnOk, OnErr, IfOk, IfErr, IsOk, IsErr, ◌↔◌, false, flat_map};
-ghost use Rattle.std.specs.Io.KnownBytes.{Appends};
-ghost use Rattle.dp_pcap.specs.Text.{AppendsPart, record_text, failed_pushes};
-ghost use Rattle.dp_engine.specs.Drains.{record_of, AtPacket, Written, WrotePart};
-ghost use Rattle.dp_engine.specs.Devices.{IsCalledFor, whole_of};
+ghost use Rattle.dp_engine.specs.Steps.{setting_of, routes_of, with_numbers, ShiftsWithin};
+ghost use Rattle.std.specs.Prelude.{◌↔◌, false};
 ghost use Rattle.dp_engine.specs.Turns.{IsReceived, with_one_call};
-ghost use Rattle.dp_engine.specs.Tallies.{listed_count, packet_count};
-ghost use Rattle.std.specs.Prelude.{MatchResult, slice_get, replicate, take};
-ghost use Rattle.std.specs.Vec.{vec_capacity};
+ghost use Rattle.std.specs.Prelude.{slice_get, replicate};
 ghost use Rattle.dp_model.specs.Packets.{available};
 ghost use Rattle.dp_model.specs.Machine.{live};
-ghost use Rattle.dp_engine.specs.Handles.{in_slot, core_of, ran};
+ghost use Rattle.dp_engine.specs.Handles.{in_slot, core_of, ran, frames_of, lists_of};
 ghost use Rattle.dp_model.specs.Machine.{with_cut, without_packets};
 ghost use Rattle.dp_engine.specs.Steps.{with_jumps};
+ghost use Rattle.dp_engine.specs.Queues.{ring_at};
+ghost use Rattle.dp_ring.specs.Rings.{RingView};
+ghost use Rattle.dp_mbuf.specs.Mbufs.{HasNone};
+ghost use Rattle.std.specs.Prelude.{OnOk, OnErr, IfOk, IfErr, IsOk, IsErr, MatchResult, flat_map, take};
+ghost use Rattle.std.specs.Io.KnownBytes.{Appends};
+ghost use Rattle.dp_pcap.specs.Text.{AppendsPart, record_text, failed_pushes};
+ghost use Rattle.dp_engine.specs.Drains.{record_of, AtPacket, Written, WrotePart, whole_of, IsCalledFor};
 
 mod calls;
 mod register;
 
 use crate::numbers::calculate;
 use crate::put::put_packet;
+use crate::queues::Queues;
 use calls::{handle_in, is_held_in};
-use dp_model::{Env, Instr, NumberRegister, Packet as Handle, PacketLayer, PacketRegister};
+use dp_lpm::Lpm;
+use dp_mbuf::Mbufs;
+use dp_model::{Env, Instr, NumberRegister, Packet as Handle, PacketRegister};
 use dp_pcap::{Calls, PcapError, Sink, Time, Unit};
 use register::{Register, no_packets, one_packet};
 use std::marker::Model;
 
-#[derive(Drop)]
-pub(crate) struct Machine<P: PacketLayer> {
-    layer: P,
+pub(crate) struct Machine {
+    mbufs: Mbufs,
     registers: [Register; 8],
     numbers: [u64; 8],
-    outbox: Vec<u32>,
+    rings: Queues,
+    outboxes: Queues,
     calls: u64,
     steps: Calls,
     cuts: u64,
     jumps: u16,
 }
 
-impl<P: PacketLayer> Model for Machine<P> {
-    ghost use Rattle.std.specs.Vec.{vec_capacity};
-    ghost use Rattle.dp_engine.specs.Handles.{Core, core_of, ran, StandOnce};
+impl Model for Machine {
+    ghost use Rattle.dp_engine.specs.Handles.{Core, core_of, ran, frames_of, lists_of, StandOnce};
 
     ghost Value = { Core };
 
-    ghost view = { λ m. core_of (P.store m.layer) (vec_capacity m.outbox) m.registers m.numbers m.outbox.items m.calls (ran m.steps.count m.cuts m.jumps) };
+    ghost view = { λ m. core_of m.mbufs.store (frames_of m.mbufs.zones m.rings m.outboxes) m.registers m.numbers (lists_of m.rings m.outboxes) m.calls (ran m.steps.count m.cuts m.jumps) };
 
-    ghost invariant = { λ m. StandOnce (P.store m.layer).slots m.registers m.outbox.items };
+    ghost invariant = { λ m. StandOnce m.mbufs.store.slots m.registers (lists_of m.rings m.outboxes) };
 }
 
 // Whether the call is one of these.
@@ -66,18 +69,20 @@ fn is_listed(calls: &[u64], call: u64) -> bool
     calls.iter().any(|x| call == *x)
 }
 
-impl<P: PacketLayer> Machine<P> {
-    // A machine over a layer that has no packet, with a transmit list that is empty.
-    pub(crate) fn over(layer: P, outbox: Vec<u32>) -> Machine<P>
-        requires none { (h : ℕ) → in_slot (slice_get (P.store layer).slots h) ≡ 0 }
-        requires empty { outbox.items ≡ [] }
-        ensures { result ≡ core_of (P.store layer) (vec_capacity outbox) (replicate 8 None) (replicate 8 0) [] 0 (ran 0 0 0) }
+impl Machine {
+    // A machine over mbufs of which none is a packet, with rings and transmit lists that are empty.
+    pub(crate) fn over(mbufs: Mbufs, rings: Queues, outboxes: Queues) -> Machine
+        requires none { (h : ℕ) → in_slot (slice_get mbufs.store.slots h) ≡ 0 }
+        requires rings { AllByRecursion (λ (r : RingView). r.entries ≡ []) rings }
+        requires outboxes { AllByRecursion (λ (r : RingView). r.entries ≡ []) outboxes }
+        ensures { result ≡ core_of mbufs.store (frames_of mbufs.zones rings outboxes) (replicate 8 None) (replicate 8 0) (lists_of rings outboxes) 0 (ran 0 0 0) }
     {
         Machine {
-            layer,
+            mbufs,
             registers: no_packets(),
             numbers: [0; 8],
-            outbox,
+            rings,
+            outboxes,
             calls: 0,
             steps: Calls::new(),
             cuts: 0,
@@ -92,13 +97,13 @@ impl<P: PacketLayer> Machine<P> {
         self.calls
     }
 
-    // How many buffers of the first pool are free, between two runs.
-    pub(crate) fn free_buffers(&self) -> u32
+    // How many buffers of a pool are free, between two runs.
+    pub(crate) fn free_buffers(&self, pool: u32) -> u32
         requires idle { AllByRecursion (λ o. o ≡ None) self.now.state.packets }
-        requires pool { 0 < length self.now.pools }
-        ensures { result ≡ available self.now.pools (live (between self.now.state.world)) 0 }
+        requires pool { pool < length self.now.pools }
+        ensures { result ≡ available self.now.pools (live (between self.now.state.world)) pool }
     {
-        self.layer.available(0)
+        self.mbufs.available(pool)
     }
 
     // Receives bytes into the first register, with the port's number beside it; or the call is refused.
@@ -115,19 +120,19 @@ impl<P: PacketLayer> Machine<P> {
         requires has_room { 129 ≤ room_at env.now.pools pool }
         requires fits { needed env.now.pools pool (length bytes.now) ≤ 64 }
         requires few { self.old.state.world.calls + 1 < 2 ^ 64 }
-        ensures denied { not result ≡ is_denied (setting_of env.now pattern.now) (between self.old.state.world) pool (needed env.now.pools pool (length bytes.now)) }
+        ensures denied { not result ≡ is_denied (setting_of env.now [] pattern.now) (between self.old.state.world) pool (needed env.now.pools pool (length bytes.now)) }
         ensures refused { IsFalse result → self.new ≡ moved (record self.old.state { world = with_one_call self.old.state.world }) self.old }
         ensures calls { self.new.state.world.calls ≡ self.old.state.world.calls + 1 }
-        ensures received { IsTrue result → IsReceived (setting_of env.now pattern.now) pool port bytes.now self.old.state.world self.new.state }
+        ensures received { IsTrue result → IsReceived (setting_of env.now [] pattern.now) pool port bytes.now self.old.state.world self.new.state }
         ensures pools { self.new.pools ≡ self.old.pools }
-        ensures room { self.new.room ≡ self.old.room }
+        ensures frames { self.new.frames ≡ self.old.frames }
     {
         let _env = env;
         self.calls += 1;
         if is_listed(pattern, self.calls) {
             return false;
         }
-        match self.layer.receive(pool, bytes) {
+        match self.mbufs.receive(pool, bytes) {
             Some(packet) => {
                 self.registers = one_packet(packet.number());
                 self.numbers = [port as u64, 0, 0, 0, 0, 0, 0, 0];
@@ -144,7 +149,7 @@ impl<P: PacketLayer> Machine<P> {
         ensures { (k : Packet) → Holds self.now.state p k → result ≡ first_len k }
     {
         let packet = handle_in(&self.registers, p);
-        self.layer.first_len(packet)
+        self.mbufs.first_len(&packet)
     }
 
     pub(crate) fn adj(&mut self, p: PacketRegister, n: u16)
@@ -152,7 +157,7 @@ impl<P: PacketLayer> Machine<P> {
         ensures { (k : Packet) → Holds self.old.state p k → self.new ≡ moved (with_packet p (at_front (less_before n) k) self.old.state) self.old }
     {
         let packet = handle_in(&self.registers, p);
-        self.layer.adj(packet, n)
+        self.mbufs.adj(&packet, n);
     }
 
     pub(crate) fn free(&mut self, p: PacketRegister)
@@ -160,28 +165,42 @@ impl<P: PacketLayer> Machine<P> {
         ensures { self.new ≡ moved (without_packet p self.old.state) self.old }
     {
         let packet = handle_in(&self.registers, p);
-        self.layer.free(packet);
+        self.mbufs.free(packet);
         self.registers[p.number() as usize] = Register::empty();
     }
 
-    // To the end of the transmit list.
-    pub(crate) fn send(&mut self, p: PacketRegister)
-        requires { (k : Packet) × (packets : List Packet) × Holds self.old.state p k × (self.old.state.world.outboxes ≡ packets ∷ []) × (length packets < self.old.room) }
-        ensures { (k : Packet) (packets : List Packet) → Holds self.old.state p k → self.old.state.world.outboxes ≡ packets ∷ []
-            → self.new ≡ moved (with_outbox 0 (packets ++ k ∷ []) (without_packet p self.old.state)) self.old }
+    // To the end of a port's transmit list, or not where that is full.
+    pub(crate) fn send(&mut self, p: PacketRegister, port: u8) -> bool
+        requires holds { (k : Packet) × Holds self.old.state p k }
+        requires there { port < length self.old.frames.outboxes }
+        ensures taken { (packets : List Packet) → slice_get self.old.state.world.outboxes port ≡ Some packets → result ≡ nat_lt (length packets + 1) (ring_at self.old.frames.outboxes port).count }
+        ensures sent { IsTrue result → (k : Packet) (packets : List Packet) → Holds self.old.state p k → slice_get self.old.state.world.outboxes port ≡ Some packets
+            → self.new ≡ moved (with_outbox port (packets ++ k ∷ []) (without_packet p self.old.state)) self.old }
+        ensures full { result ≡ false → self.new ≡ self.old }
     {
         let packet = handle_in(&self.registers, p);
-        self.outbox.push_reserved(packet.number());
+        if !self.outboxes.push(port, packet.number()) {
+            return false;
+        }
         self.registers[p.number() as usize] = Register::empty();
+        true
     }
 
-    pub(crate) fn queued(&self) -> usize
-        ensures list { (packets : List Packet) × (self.now.state.world.outboxes ≡ packets ∷ []) × (result ≡ length packets) }
-        ensures rings { self.now.state.world.rings ≡ [] }
-        ensures bound { result + 1 < 2 ^ 64 }
-        ensures room { result ≤ self.now.room }
+    // To the end of a ring, or not where that is full.
+    pub(crate) fn enqueue(&mut self, p: PacketRegister, ring: u8) -> bool
+        requires holds { (k : Packet) × Holds self.old.state p k }
+        requires there { ring < length self.old.frames.rings }
+        ensures taken { (packets : List Packet) → slice_get self.old.state.world.rings ring ≡ Some packets → result ≡ nat_lt (length packets + 1) (ring_at self.old.frames.rings ring).count }
+        ensures queued { IsTrue result → (k : Packet) (packets : List Packet) → Holds self.old.state p k → slice_get self.old.state.world.rings ring ≡ Some packets
+            → self.new ≡ moved (with_ring ring (packets ++ k ∷ []) (without_packet p self.old.state)) self.old }
+        ensures full { result ≡ false → self.new ≡ self.old }
     {
-        self.outbox.len()
+        let packet = handle_in(&self.registers, p);
+        if !self.rings.push(ring, packet.number()) {
+            return false;
+        }
+        self.registers[p.number() as usize] = Register::empty();
+        true
     }
 
     pub(crate) fn number(&self, r: NumberRegister) -> u64
@@ -197,14 +216,14 @@ impl<P: PacketLayer> Machine<P> {
     }
 
     // An instruction that handles no packet. The label of the next.
-    pub(crate) fn calculate(&mut self, instr: Instr, label: u16) -> u16
-        requires some { (after : ℕ × List ℕ) × (calculated [] label self.old.state.numbers instr ≡ Some after) }
+    pub(crate) fn calculate(&mut self, tables: &[Lpm], instr: Instr, label: u16) -> u16
+        requires some { (after : ℕ × List ℕ) × (calculated (routes_of tables.now) label self.old.state.numbers instr ≡ Some after) }
         requires shifts { ShiftsWithin instr }
         requires few { label < 1024 }
-        ensures after { calculated [] label self.old.state.numbers instr ≡ Some (result, self.new.state.numbers) }
+        ensures after { calculated (routes_of tables.now) label self.old.state.numbers instr ≡ Some (result, self.new.state.numbers) }
         ensures rest { self.new ≡ moved (with_numbers self.new.state.numbers self.old.state) self.old }
     {
-        calculate(&mut self.numbers, instr, label)
+        calculate(&mut self.numbers, tables, instr, label)
     }
 
     pub(crate) fn count_step(&mut self)
@@ -266,71 +285,168 @@ impl<P: PacketLayer> Machine<P> {
         self.give_up(PacketRegister::new(7));
     }
 
-    // Gives up the last packet of the transmit list.
-    pub(crate) fn drop_last(&mut self)
-        requires { (packets : List Packet) × (k : Packet) × (self.old.state.world.outboxes ≡ (packets ++ k ∷ []) ∷ []) }
-        ensures { (packets : List Packet) (k : Packet) → self.old.state.world.outboxes ≡ (packets ++ k ∷ []) ∷ [] → self.new ≡ moved (with_outbox 0 packets self.old.state) self.old }
+    // Takes the front packet of the first ring that has one into the first register, with the ring's number beside it. The
+    // ring, if there is such a one.
+    pub(crate) fn take_waiting(&mut self) -> Option<u8>
+        requires idle { AllByRecursion (λ o. o ≡ None) self.old.state.packets }
+        ensures { MatchOption (first_waiting self.old.state.world.rings)
+            ((result ≡ None) × (self.new ≡ self.old))
+            (λ w. (result ≡ Some w.ring) × (self.new ≡ moved (first_state w.packet w.ring (record self.old.state.world { rings = w.rings })) self.old)) }
     {
-        match self.outbox.pop() {
-            Some(packet) => self.layer.free(Handle::of(packet)),
+        let ring = self.rings.first_waiting()?;
+        match self.rings.pop(ring) {
+            Some(packet) => {
+                self.registers = one_packet(packet);
+                self.numbers = [ring as u64, 0, 0, 0, 0, 0, 0, 0];
+                self.jumps = 0;
+                Some(ring)
+            }
             None => unreachable!(),
         }
     }
 
-    // Writes the record of a packet of the transmit list.
-    pub(crate) fn put<W: Sink>(
-        &self,
-        at: usize,
-        time: Time,
-        unit: Unit,
-        w: &mut W,
-    ) -> Result<(), PcapError>
-        requires there { (packets : List Packet) × (self.now.state.world.outboxes ≡ packets ∷ []) × (at < length packets) }
-        requires nano { time.nano < 1000000000 }
-        ensures ok { OnOk result (AtPacket self.now at (λ k. Appends (W.contents w.old) (W.contents w.new) (record_of unit time self.now.state.world.buffers k))) }
-        ensures err { OnErr result (AtPacket self.now at (λ k. AppendsPart (W.contents w.old) (W.contents w.new) (record_of unit time self.now.state.world.buffers k))) }
-        ensures failed { IsErr result ↔ IsTrue (W.is_broken w.new) }
-        ensures stays { IsTrue (W.is_broken w.old) → IsTrue (W.is_broken w.new) }
-        ensures write { IfErr result (λ e. e ≡ PcapError.Write) }
-        ensures counted { AtPacket self.now at (λ k. W.calls w.new ≤ W.calls w.old + length (record_of unit time self.now.state.world.buffers k)) }
-        ensures failures { W.failures w.new ≡ W.failures w.old + failed_pushes result }
+    // Gives up the first packet of a transmit list that has one.
+    pub(crate) fn drop_sent(&mut self, port: u8)
+        requires there { port < length self.old.frames.outboxes }
+        requires some { (packets : List Packet) × (k : Packet) × (slice_get self.old.state.world.outboxes port ≡ Some (k ∷ packets)) }
+        ensures { (packets : List Packet) (k : Packet) → slice_get self.old.state.world.outboxes port ≡ Some (k ∷ packets) → self.new ≡ moved (with_outbox port packets self.old.state) self.old }
     {
-        put_packet(&self.layer, Handle::of(self.outbox[at]), time, unit, w)
+        match self.outboxes.pop(port) {
+            Some(packet) => self.mbufs.free(Handle::of(packet)),
+            None => unreachable!(),
+        }
     }
 
-    // Gives up all packets of the transmit list.
-    #[inline(always)]
-    pub(crate) fn clear(&mut self)
-        ensures cleared { self.new ≡ moved (with_outbox 0 [] self.old.state) self.old }
-        ensures list { (packets : List Packet) × (self.old.state.world.outboxes ≡ packets ∷ []) }
+    // Gives up the first packet of a ring that has one.
+    pub(crate) fn drop_left(&mut self, ring: u8)
+        requires there { ring < length self.old.frames.rings }
+        requires some { (packets : List Packet) × (k : Packet) × (slice_get self.old.state.world.rings ring ≡ Some (k ∷ packets)) }
+        ensures { (packets : List Packet) (k : Packet) → slice_get self.old.state.world.rings ring ≡ Some (k ∷ packets) → self.new ≡ moved (with_ring ring packets self.old.state) self.old }
     {
-        let mut left = self.queued();
+        match self.rings.pop(ring) {
+            Some(packet) => self.mbufs.free(Handle::of(packet)),
+            None => unreachable!(),
+        }
+    }
+
+    // How many packets wait in a transmit list.
+    pub(crate) fn queued(&self, port: u8) -> u32
+        requires there { port < length self.now.frames.outboxes }
+        ensures list { (packets : List Packet) × (slice_get self.now.state.world.outboxes port ≡ Some packets) × (result ≡ length packets) }
+        ensures bound { result < (ring_at self.now.frames.outboxes port).count }
+    {
+        self.outboxes.count(port)
+    }
+
+    // How many packets wait in a ring.
+    pub(crate) fn waiting(&self, ring: u8) -> u32
+        requires there { ring < length self.now.frames.rings }
+        ensures list { (packets : List Packet) × (slice_get self.now.state.world.rings ring ≡ Some packets) × (result ≡ length packets) }
+        ensures bound { result < (ring_at self.now.frames.rings ring).count }
+    {
+        self.rings.count(ring)
+    }
+
+    // Gives up all packets of a transmit list.
+    pub(crate) fn clear_sent(&mut self, port: u8)
+        requires there { port < length self.old.frames.outboxes }
+        ensures { self.new ≡ moved (with_outbox port [] self.old.state) self.old }
+    {
+        let mut left = self.queued(port);
         while left > 0 {
-            self.drop_last();
+            self.drop_sent(port);
             left -= 1;
         }
     }
 
-    // Writes the records of the transmit list. How many were written whole, and whether all were.
-    pub(crate) fn put_all<W: Sink>(&self, time: Time, unit: Unit, w: &mut W) -> Result<u32, u32>
+    // Gives up all packets of a ring.
+    pub(crate) fn clear_left(&mut self, ring: u8)
+        requires there { ring < length self.old.frames.rings }
+        ensures { self.new ≡ moved (with_ring ring [] self.old.state) self.old }
+    {
+        let mut left = self.waiting(ring);
+        while left > 0 {
+            self.drop_left(ring);
+            left -= 1;
+        }
+    }
+
+    // Writes the record of a packet that waits in a transmit list.
+    fn put<W: Sink>(
+        &self,
+        port: u8,
+        at: u32,
+        time: Time,
+        unit: Unit,
+        w: &mut W,
+    ) -> Result<(), PcapError>
+        requires there { port < length self.now.frames.outboxes }
+        requires waits { (packets : List Packet) × (slice_get self.now.state.world.outboxes port ≡ Some packets) × (at < length packets) }
         requires nano { time.nano < 1000000000 }
-        requires few { self.now.room ≤ 65536 }
-        ensures ok { IfOk result (λ sent. Written unit time self.now.state.world (λ records. (sent ≡ length records) × Appends (W.contents w.old) (W.contents w.new) (flat_map (record_text unit) records))) }
-        ensures err { IfErr result (λ sent. Written unit time self.now.state.world (λ records. WrotePart (W.contents w.old) (W.contents w.new) unit records sent)) }
+        ensures ok { OnOk result (AtPacket self.now port at (λ k. Appends (W.contents w.old) (W.contents w.new) (record_of unit time self.now.state.world.buffers k))) }
+        ensures err { OnErr result (AtPacket self.now port at (λ k. AppendsPart (W.contents w.old) (W.contents w.new) (record_of unit time self.now.state.world.buffers k))) }
+        ensures failed { IsErr result ↔ IsTrue (W.is_broken w.new) }
+        ensures stays { IsTrue (W.is_broken w.old) → IsTrue (W.is_broken w.new) }
+        ensures write { IfErr result (λ e. e ≡ PcapError.Write) }
+        ensures counted { AtPacket self.now port at (λ k. W.calls w.new ≤ W.calls w.old + length (record_of unit time self.now.state.world.buffers k)) }
+        ensures failures { W.failures w.new ≡ W.failures w.old + failed_pushes result }
+    {
+        match self.outboxes.peek(port, at) {
+            Some(packet) => put_packet(&self.mbufs, Handle::of(packet), time, unit, w),
+            None => unreachable!(),
+        }
+    }
+
+    // Writes the records of a transmit list. How many were written whole, and whether all were.
+    pub(crate) fn put_all<W: Sink>(
+        &self,
+        port: u8,
+        time: Time,
+        unit: Unit,
+        w: &mut W,
+    ) -> Result<u32, u32>
+        requires there { port < length self.now.frames.outboxes }
+        requires nano { time.nano < 1000000000 }
+        ensures ok { IfOk result (λ sent. Written unit time port self.now.state.world (λ records. (sent ≡ length records) × Appends (W.contents w.old) (W.contents w.new) (flat_map (record_text unit) records))) }
+        ensures err { IfErr result (λ sent. Written unit time port self.now.state.world (λ records. WrotePart (W.contents w.old) (W.contents w.new) unit records sent)) }
         ensures broken { IsErr result → IsTrue (W.is_broken w.new) }
         ensures sound { IsOk result → W.is_broken w.old ≡ false → W.is_broken w.new ≡ false }
-        ensures most { MatchResult result (λ sent. sent ≤ listed_count self.now.state.world.outboxes) (λ sent. sent ≤ listed_count self.now.state.world.outboxes) }
-        ensures counted { Written unit time self.now.state.world (λ records. IsCalledFor (W.calls w.old) (W.calls w.new) unit (take (whole_of result + 1) records)) }
+        ensures most { (packets : List Packet) → slice_get self.now.state.world.outboxes port ≡ Some packets → whole_of result ≤ length packets }
+        ensures counted { Written unit time port self.now.state.world (λ records. IsCalledFor (W.calls w.old) (W.calls w.new) unit (take (whole_of result + 1) records)) }
         ensures failures { MatchResult result (λ _. W.failures w.new ≡ W.failures w.old) (λ _. W.failures w.new ≡ W.failures w.old + 1) }
     {
-        let count = self.queued();
+        let count = self.queued(port);
         let mut sent = 0u32;
         for at in 0..count {
-            if self.put(at, time, unit, w).is_err() {
+            if self.put(port, at, time, unit, w).is_err() {
                 return Err(sent);
             }
             sent += 1;
         }
         Ok(sent)
+    }
+
+    // The mbufs, the rings and the transmit lists again, where no packet is left.
+    pub(crate) fn into_parts(self) -> (Mbufs, Queues, Queues)
+        requires idle { AllByRecursion (λ o. o ≡ None) self.state.packets }
+        requires rings { AllByRecursion (λ packets. packets ≡ []) self.state.world.rings }
+        requires outboxes { AllByRecursion (λ packets. packets ≡ []) self.state.world.outboxes }
+        ensures none { HasNone result.0.store }
+        ensures pools { result.0.store.pools ≡ self.pools }
+        ensures zones { result.0.zones ≡ self.frames.zones }
+        ensures frames { frames_of result.0.zones result.1 result.2 ≡ self.frames }
+    {
+        let Machine {
+            mbufs,
+            registers: _,
+            numbers: _,
+            rings,
+            outboxes,
+            calls: _,
+            steps: _,
+            cuts: _,
+            jumps: _,
+        } = self;
+        (mbufs, rings, outboxes)
     }
 }

@@ -1,9 +1,11 @@
 //! Instructions that handle no packet.
-ghost use Rattle.std.specs.Prelude.{◌≡◌, ℕ, ◌+◌, ◌<◌, List, [], Some, slice_index, if◌then◌else◌};
+ghost use Rattle.std.specs.Prelude.{◌≡◌, ℕ, ◌+◌, ◌%◌, ◌^◌, ◌<◌, List, Some, length, option_map, slice_get, slice_index, if◌then◌else◌};
+ghost use Rattle.dp_model.specs.Prefixes.{hop_for};
 ghost use Rattle.dp_model.specs.Arithmetic.{value};
 ghost use Rattle.dp_model.specs.Machine.{calculated};
-ghost use Rattle.dp_engine.specs.Steps.{ShiftsWithin};
+ghost use Rattle.dp_engine.specs.Steps.{ShiftsWithin, routes_of};
 
+use dp_lpm::Lpm;
 use dp_model::{Instr, NumberRegister, Operand};
 
 // To that label where the test passes, and else on.
@@ -31,12 +33,20 @@ fn value(numbers: &[u64; 8], operand: Operand) -> u64
     }
 }
 
+// The hop that a table has for the address in the low 32 bits of a number.
+fn hop_in(tables: &[Lpm], table: u8, n: u64) -> Option<u32>
+    requires { table < length tables.now }
+    ensures { option_map (λ routes. hop_for routes (n % 2 ^ 32)) (slice_get (routes_of tables.now) table) ≡ Some result }
+{
+    tables[table as usize].lookup((n % 4294967296) as u32)
+}
+
 // An instruction that handles no packet. The label of the next.
-pub(crate) fn calculate(numbers: &mut [u64; 8], instr: Instr, label: u16) -> u16
-    requires some { (after : ℕ × List ℕ) × (calculated [] label numbers.old instr ≡ Some after) }
+pub(crate) fn calculate(numbers: &mut [u64; 8], tables: &[Lpm], instr: Instr, label: u16) -> u16
+    requires some { (after : ℕ × List ℕ) × (calculated (routes_of tables.now) label numbers.old instr ≡ Some after) }
     requires shifts { ShiftsWithin instr }
     requires few { label < 1024 }
-    ensures { calculated [] label numbers.old instr ≡ Some (result, numbers.new) }
+    ensures { calculated (routes_of tables.now) label numbers.old instr ≡ Some (result, numbers.new) }
 {
     let (into, n) = match instr {
         Instr::Set { into, value } => (into, value),
@@ -55,6 +65,15 @@ pub(crate) fn calculate(numbers: &mut [u64; 8], instr: Instr, label: u16) -> u16
         Instr::Jlt { left, right, below } => {
             return branch(number(numbers, left) < right, below, label);
         }
+        Instr::Lookup {
+            into,
+            table,
+            address,
+            missed,
+        } => match hop_in(tables, table, number(numbers, address)) {
+            Some(hop) => (into, hop as u64),
+            None => return missed,
+        },
         _ => unreachable!(),
     };
     numbers[into.number() as usize] = n;

@@ -1,29 +1,23 @@
 //! Instructions that handle packets.
-ghost use Rattle.std.specs.Prelude.{◌≡◌, ℕ, ◌+◌, ◌^◌, ◌<◌, ◌≤◌, Bool, List, slice_index};
+ghost use Rattle.std.specs.Prelude.{◌≡◌, ℕ, ◌+◌, ◌^◌, ◌<◌, ◌≤◌, Bool, List, [], slice_index};
 ghost use Rattle.dp_model.specs.Packets.{Packet, first_len};
 ghost use Rattle.dp_model.specs.Machine.{Move, Acts, Holds};
 ghost use Rattle.dp_engine.specs.Steps.{setting_of, move_to, Takes, Asks, Reads, Writes, Edits, MayAct, ActsTo};
 
 use crate::machine::Machine;
 use crate::numbers::branch;
-use dp_model::{Env, Instr, NumberRegister, PacketLayer, PacketRegister};
+use dp_model::{Env, Instr, NumberRegister, PacketRegister};
 
 // Takes buffers for a packet, or goes where the instruction says for a refused call.
-pub(crate) fn take<P: PacketLayer>(
-    m: &mut Machine<P>,
-    env: &Env,
-    pattern: &[u64],
-    instr: Instr,
-    label: u16,
-) -> u16
-    requires has { (move : Move) × Acts (setting_of env.now pattern.now) label m.old.state instr move }
+pub(crate) fn take(m: &mut Machine, env: &Env, pattern: &[u64], instr: Instr, label: u16) -> u16
+    requires has { (move : Move) × Acts (setting_of env.now [] pattern.now) label m.old.state instr move }
     requires takes { Takes instr }
     requires label { label < 1024 }
     requires few { m.old.state.world.calls + 1 < 2 ^ 64 }
     requires pools { m.old.pools ≡ env.now.pools }
-    ensures acts { (told : List Bool) × Acts (setting_of env.now pattern.now) label m.old.state instr (move_to (Some result) told m.new.state) }
+    ensures acts { (told : List Bool) × Acts (setting_of env.now [] pattern.now) label m.old.state instr (move_to (Some result) told m.new.state) }
     ensures pools { m.new.pools ≡ m.old.pools }
-    ensures room { m.new.room ≡ m.old.room }
+    ensures frames { m.new.frames ≡ m.old.frames }
 {
     match instr {
         Instr::Alloc {
@@ -54,7 +48,7 @@ pub(crate) fn take<P: PacketLayer>(
 }
 
 // Asks for a room or a length.
-pub(crate) fn ask<P: PacketLayer>(m: &Machine<P>, instr: Instr, label: u16) -> u16
+pub(crate) fn ask(m: &Machine, instr: Instr, label: u16) -> u16
     requires has { MayAct m.now label instr }
     requires asks { Asks instr }
     requires label { label < 1024 }
@@ -86,12 +80,7 @@ pub(crate) fn ask<P: PacketLayer>(m: &Machine<P>, instr: Instr, label: u16) -> u
 }
 
 // The place in a packet's first segment that a register and an offset make.
-fn place_of<P: PacketLayer>(
-    m: &Machine<P>,
-    packet: PacketRegister,
-    index: NumberRegister,
-    offset: u16,
-) -> u64
+fn place_of(m: &Machine, packet: PacketRegister, index: NumberRegister, offset: u16) -> u64
     requires { (k : Packet) × Holds m.now.state packet k × (slice_index m.now.state.numbers index + offset ≤ first_len k) }
     ensures { result ≡ slice_index m.now.state.numbers index + offset }
 {
@@ -101,13 +90,13 @@ fn place_of<P: PacketLayer>(
 }
 
 // Reads a number from a packet.
-pub(crate) fn read<P: PacketLayer>(m: &mut Machine<P>, instr: Instr, label: u16) -> u16
+pub(crate) fn read(m: &mut Machine, instr: Instr, label: u16) -> u16
     requires has { MayAct m.old label instr }
     requires reads { Reads instr }
     requires label { label < 1024 }
     ensures acts { ActsTo m.old label instr result m.new.state }
     ensures pools { m.new.pools ≡ m.old.pools }
-    ensures room { m.new.room ≡ m.old.room }
+    ensures frames { m.new.frames ≡ m.old.frames }
 {
     match instr {
         Instr::Load {
@@ -136,13 +125,13 @@ pub(crate) fn read<P: PacketLayer>(m: &mut Machine<P>, instr: Instr, label: u16)
 }
 
 // Writes a number into a packet.
-pub(crate) fn write<P: PacketLayer>(m: &mut Machine<P>, instr: Instr, label: u16) -> u16
+pub(crate) fn write(m: &mut Machine, instr: Instr, label: u16) -> u16
     requires has { MayAct m.old label instr }
     requires writes { Writes instr }
     requires label { label < 1024 }
     ensures acts { ActsTo m.old label instr result m.new.state }
     ensures pools { m.new.pools ≡ m.old.pools }
-    ensures room { m.new.room ≡ m.old.room }
+    ensures frames { m.new.frames ≡ m.old.frames }
 {
     match instr {
         Instr::Store {
@@ -171,13 +160,13 @@ pub(crate) fn write<P: PacketLayer>(m: &mut Machine<P>, instr: Instr, label: u16
 }
 
 // Changes a packet's bounds, joins two or gives one up.
-pub(crate) fn edit<P: PacketLayer>(m: &mut Machine<P>, instr: Instr, label: u16) -> u16
+pub(crate) fn edit(m: &mut Machine, instr: Instr, label: u16) -> u16
     requires has { MayAct m.old label instr }
     requires edits { Edits instr }
     requires label { label < 1024 }
     ensures acts { ActsTo m.old label instr result m.new.state }
     ensures pools { m.new.pools ≡ m.old.pools }
-    ensures room { m.new.room ≡ m.old.room }
+    ensures frames { m.new.frames ≡ m.old.frames }
 {
     match instr {
         Instr::Free { packet } => m.free(packet),

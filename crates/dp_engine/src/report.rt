@@ -1,10 +1,6 @@
 //! What an engine tells of its run.
 use arrayvec::ArrayVec;
 
-/// No memory was left.
-#[derive(Clone, Copy, Debug, PartialEq, Eq)]
-pub struct Memory;
-
 /// How far an input was read.
 #[derive(Clone, Copy, Debug, Default, PartialEq, Eq)]
 pub enum InputState {
@@ -58,7 +54,7 @@ pub struct Report {
     pub cut: u64,
 }
 
-/// What an engine counts of its port.
+/// What an engine counts of a port, in records.
 #[derive(Clone, Copy)]
 pub(crate) struct Tallies {
     pub received: u64,
@@ -66,3 +62,11 @@ pub(crate) struct Tallies {
     pub oversize: u64,
     pub sent: u64,
 }
+
+/// Nothing counted yet.
+pub(crate) const NO_TALLIES: Tallies = Tallies {
+    received: 0,
+    nobuf: 0,
+    oversize: 0,
+    sent: 0,
+};

@@ -1,12 +1,22 @@
-//! Programs of each form on captures that were spelled by hand.
-ghost use Rattle.std.specs.Prelude.{◌≡◌, IfOk};
-
-use crate::given::{capture, one_port, run, says};
+//! Programs of each form on records that were spelled by hand.
+use crate::given::{one_port, run, says, written};
 use std::test::Fail;
 
 const RECORD: [u8; 16] = [
     0xf0, 0xf1, 2, 3, 4, 0xf5, 0xf6, 0xf7, 0xf8, 0xf9, 10, 11, 12, 13, 14, 15,
 ];
+
+// Cuts 14 bytes off, and drops what is shorter.
+const STRIP: &str = "iflen p0,14,L4\nadj p0,14\ntx p0,r0,L4\nexit\nL4:\nfree p0\nexit\n";
+
+#[test]
+fn fourteen_bytes_are_cut_off(rt: HostRuntime) -> Result<(), Fail> {
+    let env = one_port(64, 32)?;
+    let ran = run(&rt, &env, &[STRIP], &[&RECORD, &RECORD[..13], &[]])?;
+    assert!(rt; ran.output == written(&rt, &[&RECORD[14..]])?);
+    assert!(rt; says(&ran.report, 3, 1, 64, 3));
+    Ok(())
+}
 
 // Sends the packet, and gives up its clone.
 const CLONE_FREED: &str =
@@ -19,11 +29,11 @@ const CLONE_SENT: &str =
 #[test]
 fn a_clone_is_freed_or_sent(rt: HostRuntime) -> Result<(), Fail> {
     let env = one_port(64, 32)?;
-    let wanted = capture(&rt, &[&RECORD])?;
+    let wanted = written(&rt, &[&RECORD])?;
     for text in [CLONE_FREED, CLONE_SENT] {
-        let ran = run(&rt, &env, text, &[&RECORD])?;
+        let ran = run(&rt, &env, &[text], &[&RECORD])?;
         assert!(rt; ran.output == wanted);
-        assert!(rt; says(&ran.report, 1, 1, 64, 2, 0));
+        assert!(rt; says(&ran.report, 1, 1, 64, 2));
     }
     Ok(())
 }
@@ -33,9 +43,9 @@ fn a_clone_is_freed_or_sent(rt: HostRuntime) -> Result<(), Fail> {
 fn buffers_serve_again(rt: HostRuntime) -> Result<(), Fail> {
     let env = one_port(2, 32)?;
     let records = [&RECORD[..], &RECORD[..3], &RECORD[5..]];
-    let ran = run(&rt, &env, CLONE_SENT, &records)?;
-    assert!(rt; ran.output == capture(&rt, &records)?);
-    assert!(rt; says(&ran.report, 3, 3, 2, 6, 0));
+    let ran = run(&rt, &env, &[CLONE_SENT], &records)?;
+    assert!(rt; ran.output == written(&rt, &records)?);
+    assert!(rt; says(&ran.report, 3, 3, 2, 6));
     Ok(())
 }
 
@@ -46,9 +56,9 @@ const CLONE_OR_CUT: &str =
 #[test]
 fn a_clone_without_a_buffer_is_refused(rt: HostRuntime) -> Result<(), Fail> {
     let env = one_port(1, 32)?;
-    let ran = run(&rt, &env, CLONE_OR_CUT, &[&RECORD])?;
-    assert!(rt; ran.output == capture(&rt, &[&RECORD[1..]])?);
-    assert!(rt; says(&ran.report, 1, 1, 1, 2, 0));
+    let ran = run(&rt, &env, &[CLONE_OR_CUT], &[&RECORD])?;
+    assert!(rt; ran.output == written(&rt, &[&RECORD[1..]])?);
+    assert!(rt; says(&ran.report, 1, 1, 1, 2));
     Ok(())
 }
 
@@ -58,9 +68,9 @@ fn a_full_list_keeps_the_packet(rt: HostRuntime) -> Result<(), Fail> {
     let env = one_port(64, 2)?;
     let text =
         "clone p1,p0,0,no\nadj p1,0\ntx p0,r0,full\ntx p1,r0,second\nexit\nfull: free p0\nsecond: free p1\nexit\nno: free p0\nexit\n";
-    let ran = run(&rt, &env, text, &[&RECORD])?;
-    assert!(rt; ran.output == capture(&rt, &[&RECORD])?);
-    assert!(rt; says(&ran.report, 1, 1, 64, 2, 0));
+    let ran = run(&rt, &env, &[text], &[&RECORD])?;
+    assert!(rt; ran.output == written(&rt, &[&RECORD])?);
+    assert!(rt; says(&ran.report, 1, 1, 64, 2));
     Ok(())
 }
 
@@ -70,9 +80,9 @@ fn chained_segments_are_one_record(rt: HostRuntime) -> Result<(), Fail> {
     let env = one_port(64, 32)?;
     let text =
         "alloc p1,0,no\nappend p1,4\nset r1,0x0a0b0c0d\nstore p1,0,4,r1\nchain p1,p0\ntx p1,r0,full\nexit\nno: free p0\nexit\nfull: free p1\nexit\n";
-    let ran = run(&rt, &env, text, &[&[0xf0, 0xf1, 2]])?;
-    assert!(rt; ran.output == capture(&rt, &[&[10, 11, 12, 13, 0xf0, 0xf1, 2]])?);
-    assert!(rt; says(&ran.report, 1, 1, 64, 2, 0));
+    let ran = run(&rt, &env, &[text], &[&[0xf0, 0xf1, 2]])?;
+    assert!(rt; ran.output == written(&rt, &[&[10, 11, 12, 13, 0xf0, 0xf1, 2]])?);
+    assert!(rt; says(&ran.report, 1, 1, 64, 2));
     Ok(())
 }
 
@@ -81,14 +91,14 @@ fn chained_segments_are_one_record(rt: HostRuntime) -> Result<(), Fail> {
 fn new_bytes_are_zero(rt: HostRuntime) -> Result<(), Fail> {
     let env = one_port(64, 32)?;
     let front = "iflen p0,4,no\nadj p0,4\nprepend p0,6\ntx p0,r0,no\nexit\nno: free p0\nexit\n";
-    let ran = run(&rt, &env, front, &[&RECORD[..7], &RECORD[..3]])?;
-    assert!(rt; ran.output == capture(&rt, &[&[0, 0, 0, 0, 0, 0, 4, 0xf5, 0xf6]])?);
-    assert!(rt; says(&ran.report, 2, 1, 64, 2, 0));
+    let ran = run(&rt, &env, &[front], &[&RECORD[..7], &RECORD[..3]])?;
+    assert!(rt; ran.output == written(&rt, &[&[0, 0, 0, 0, 0, 0, 4, 0xf5, 0xf6]])?);
+    assert!(rt; says(&ran.report, 2, 1, 64, 2));
     let behind =
         "iflast p0,2,no\ntrim p0,2\niftail p0,3,no\nappend p0,3\nifhead p0,129,more\nfree p0\nexit\nmore: ifhead p0,128,no\ntx p0,r0,no\nexit\nno: free p0\nexit\n";
-    let ran = run(&rt, &env, behind, &[&RECORD[..5], &RECORD[..1]])?;
-    assert!(rt; ran.output == capture(&rt, &[&[0xf0, 0xf1, 2, 0, 0, 0]])?);
-    assert!(rt; says(&ran.report, 2, 1, 64, 2, 0));
+    let ran = run(&rt, &env, &[behind], &[&RECORD[..5], &RECORD[..1]])?;
+    assert!(rt; ran.output == written(&rt, &[&[0xf0, 0xf1, 2, 0, 0, 0]])?);
+    assert!(rt; says(&ran.report, 2, 1, 64, 2));
     Ok(())
 }
 
@@ -98,12 +108,12 @@ fn places_are_reckoned(rt: HostRuntime) -> Result<(), Fail> {
     let env = one_port(64, 32)?;
     let text =
         "iflen p0,16,no\nload r1,p0,2,1\nand r1,7\nloadx r2,p0,r1,1,2\nstorex p0,r1,4,2,r2\ntx p0,r0,no\nexit\nno: free p0\nexit\n";
-    let ran = run(&rt, &env, text, &[&RECORD])?;
+    let ran = run(&rt, &env, &[text], &[&RECORD])?;
     let wanted = [
         0xf0, 0xf1, 2, 3, 4, 0xf5, 3, 4, 0xf8, 0xf9, 10, 11, 12, 13, 14, 15,
     ];
-    assert!(rt; ran.output == capture(&rt, &[&wanted])?);
-    assert!(rt; says(&ran.report, 1, 1, 64, 1, 0));
+    assert!(rt; ran.output == written(&rt, &[&wanted])?);
+    assert!(rt; says(&ran.report, 1, 1, 64, 1));
     Ok(())
 }
 
@@ -124,13 +134,13 @@ const NUMBERS: &str = "iflen p0,64,no\n\
 #[test]
 fn numbers_wrap(rt: HostRuntime) -> Result<(), Fail> {
     let env = one_port(64, 32)?;
-    let ran = run(&rt, &env, NUMBERS, &[&[7; 64], &[7; 63]])?;
+    let ran = run(&rt, &env, &[NUMBERS], &[&[7; 64], &[7; 63]])?;
     let wanted = [
         0, 0, 0, 0, 0, 0, 0, 1, 255, 255, 255, 255, 255, 255, 255, 254, 0, 0, 0, 0, 0, 0, 255, 0,
         0, 0, 0, 0, 0, 0, 255, 15, 255, 255, 255, 255, 255, 255, 0, 241, 16, 0, 0, 0, 0, 0, 0, 0,
         0, 0, 0, 0, 0, 0, 0, 1, 255, 255, 255, 255, 255, 255, 255, 255,
     ];
-    assert!(rt; ran.output == capture(&rt, &[&wanted])?);
-    assert!(rt; says(&ran.report, 2, 1, 64, 2, 0));
+    assert!(rt; ran.output == written(&rt, &[&wanted])?);
+    assert!(rt; says(&ran.report, 2, 1, 64, 2));
     Ok(())
 }

@@ -1,23 +1,36 @@
-//! Environments, programs and captures that the tests share.
-ghost use Rattle.std.specs.Prelude.{◌≡◌, IfOk};
-ghost use Rattle.dp_engine.specs.Turns.{IsPlainSetup};
+//! Environments, programs, engines and records that the tests share.
+ghost use Rattle.std.specs.Prelude.{◌≡◌, ◌+◌, ◌-◌, ◌<◌, ◌≤◌, [], length, IfOk};
+ghost use Rattle.dp_engine.specs.Schemes.{AreNodes};
 
 use dp_check::{Checked, check};
-use dp_engine::{InputState, PoolReport, PortReport, Report, run_one};
+use dp_engine::{Engine, OpenFault, PoolReport, PortReport, Report, Turn, WriteFault, need};
 use dp_infer::infer;
 use dp_lang::assemble;
-use dp_model::{Entry, Env, PoolSpec, PortSpec};
-use dp_pcap::{OfRead, OfWrite};
+use dp_lpm::Lpm;
+use dp_model::{Entry, Env, Fact, PoolSpec, PortSpec};
+use dp_pcap::{OfWrite, Sink, Time, Unit};
+use dp_region::Region;
 use std::test::Fail;
 
-/// Little endian, microseconds, version 2.4, link type 1.
-pub const HEADER: [u8; 24] = [
-    0xd4, 0xc3, 0xb2, 0xa1, 2, 0, 4, 0, 0, 0, 0, 0, 0, 0, 0, 0, 0, 0, 4, 0, 1, 0, 0, 0,
-];
+/// Sends the packet where it came from, or drops it.
+pub const FORWARD: &str = "tx p0,r0,d\nexit\nd: free p0\nexit\n";
+
+/// Where records are written: second 1, fraction 2.
+pub const TIME: Time = Time { sec: 1, nano: 2000 };
+
+/// Of a ring that takes any packet.
+pub const ANY: Fact = Fact::Held {
+    share: 0,
+    head: 0,
+    tail: 0,
+    first: 0,
+    last: 0,
+    segs: 64,
+};
 
 /// One pool of so many buffers, and one port with a transmit list of so many places.
 pub fn one_port(count: u32, queue: u32) -> Result<Env, Fail>
-    ensures { IfOk result IsPlainSetup }
+    ensures { IfOk result (λ env. (0 < length env.ports) × (env.tables ≡ 0)) }
 {
     Ok(Env::new(
         &[PoolSpec {
@@ -35,21 +48,167 @@ pub fn one_port(count: u32, queue: u32) -> Result<Env, Fail>
     )?)
 }
 
-/// The program, checked for the port with the certificate that is inferred.
-pub fn checked(rt: &HostRuntime, text: &str, env: &Env) -> Result<Checked, Fail>
-    ensures { IfOk result (λ c. (c.env ≡ env.now) × (c.entry ≡ Entry.Port 0)) }
+/// The program, checked for the entry with the certificate that is inferred.
+pub fn checked(rt: &HostRuntime, text: &str, env: &Env, entry: Entry) -> Result<Checked, Fail>
+    ensures { IfOk result (λ c. (c.env ≡ env.now) × (c.entry ≡ entry)) }
 {
     let program = assemble(rt.alloc(), text.as_bytes())?;
-    let cert = infer(rt.alloc(), &program, env, Entry::Port(0))?;
-    match check(program, cert, env, Entry::Port(0)) {
+    let cert = infer(rt.alloc(), &program, env, entry)?;
+    match check(program, cert, env, entry) {
         Ok(checked) => Ok(checked),
         Err(_) => Err(Fail::from("refused")),
     }
 }
 
-/// A capture of these records, of less than 256 bytes each, at second 1 and fraction 2.
-pub fn capture(rt: &HostRuntime, records: &[&[u8]]) -> Result<Vec<u8>, Fail> {
-    let mut bytes = HEADER.to_vec(rt.alloc())?;
+// Whom the program at a place serves, where the ports come before the rings.
+fn entry_of(ports: usize, k: usize) -> Result<Entry, Fail>
+    ensures port { IfOk result (λ entry. k < ports → entry ≡ Entry.Port k) }
+    ensures ring { IfOk result (λ entry. ports ≤ k → entry ≡ Entry.Ring (k - ports)) }
+{
+    if k < ports {
+        let Ok(number) = u8::try_from(k) else {
+            return Err(Fail::from("ports"));
+        };
+        return Ok(Entry::Port(number));
+    }
+    let Ok(number) = u8::try_from(k - ports) else {
+        return Err(Fail::from("rings"));
+    };
+    Ok(Entry::Ring(number))
+}
+
+/// The programs of the ports and then of the rings, checked.
+pub fn nodes(rt: &HostRuntime, env: &Env, texts: &[&str]) -> Result<Vec<Checked>, Fail>
+    requires { length texts.now ≡ length env.now.ports + length env.now.rings }
+    ensures { IfOk result (λ nodes. AreNodes env.now nodes.items) }
+{
+    let ports = env.ports().len();
+    let mut nodes = Vec::new(rt.alloc());
+    for (k, text) in texts.iter().enumerate() {
+        let entry = entry_of(ports, k)?;
+        nodes.push(checked(rt, text, env, entry)?)?;
+    }
+    Ok(nodes)
+}
+
+/// A region that is as large as an engine of the environment needs, and no larger than it has to be.
+pub fn region(rt: &HostRuntime, env: &Env) -> Result<Region, Fail>
+    ensures { IfOk result (λ r. r.lent ≡ []) }
+{
+    let size = need(env).max(4096);
+    if size > 1 << 30 || size % 64 != 0 {
+        return Err(Fail::from("no region"));
+    }
+    Ok(Region::new(rt.alloc(), size as u32)?)
+}
+
+/// An engine in a region that is just large enough.
+pub fn opened(rt: &HostRuntime, env: &Env, tables: Vec<Lpm>, texts: &[&str]) -> Result<Engine, Fail>
+    requires nodes { length texts.now ≡ length env.now.ports + length env.now.rings }
+    requires tables { length tables.items ≡ env.now.tables }
+    ensures { IfOk result (λ e. (e.setting.env ≡ env.now) × (e.turns ≡ 0)) }
+{
+    let nodes = nodes(rt, env, texts)?;
+    let region = region(rt, env)?;
+    match Engine::open(region, env, tables, nodes) {
+        Ok(engine) => Ok(engine),
+        Err(
+            OpenFault {
+                region,
+                tables: _,
+                nodes: _,
+            },
+        ) => {
+            region.close();
+            Err(Fail::from("not opened"))
+        }
+    }
+}
+
+/// What is done to an engine.
+#[derive(Clone, Copy)]
+pub enum Act<'a> {
+    /// A turn of a port with a record of at most 4,096 bytes.
+    Turn(u8, &'a [u8]),
+    /// A drain of a port at second 1, fraction 2.
+    Drain(u8),
+}
+
+/// What became of an engine: the last turn, what the last drain answered, how many packets the port of the last act had to
+/// send then, and the numbers at the end.
+#[derive(Drop)]
+pub struct Played {
+    pub turn: Option<Turn>,
+    pub drain: Option<Result<u32, WriteFault>>,
+    pub queued: usize,
+    pub report: Report,
+}
+
+// One of them. What is beyond the limits is left out.
+fn done<W: Sink>(
+    engine: &mut Engine,
+    env: &Env,
+    act: Act<'_>,
+    w: &mut W,
+) -> (Option<Turn>, Option<Result<u32, WriteFault>>, usize)
+    requires { engine.old.setting.env ≡ env.now }
+    ensures { engine.new.setting ≡ engine.old.setting }
+{
+    let ports = env.ports().len();
+    match act {
+        Act::Turn(port, record) => {
+            if port as usize >= ports || record.len() > 4096 || engine.turns() > 1000 {
+                return (None, None, 0);
+            }
+            let turn = engine.turn(port, record);
+            (Some(turn), None, engine.queued(port))
+        }
+        Act::Drain(port) => {
+            if port as usize >= ports {
+                return (None, None, 0);
+            }
+            let drain = engine.drain(port, TIME, Unit::Micro, w);
+            (None, Some(drain), engine.queued(port))
+        }
+    }
+}
+
+/// Does this to an engine, and ends it. What it drains goes to the writer.
+pub fn play_to<W: Sink>(engine: Engine, env: &Env, acts: &[Act<'_>], w: &mut W) -> Played
+    requires { engine.setting.env ≡ env.now }
+{
+    let mut engine = engine;
+    let mut last = None;
+    let mut answer = None;
+    let mut waiting = 0;
+    for one in acts {
+        let (turn, drain, queued) = done(&mut engine, env, *one, w);
+        last = turn.or(last);
+        answer = drain.or(answer);
+        waiting = queued;
+    }
+    let (report, region) = engine.finish();
+    region.close();
+    Played {
+        turn: last,
+        drain: answer,
+        queued: waiting,
+        report,
+    }
+}
+
+/// The same, and what was written.
+pub fn play(rt: &HostRuntime, engine: Engine, env: &Env, acts: &[Act<'_>]) -> (Played, Vec<u8>)
+    requires { engine.setting.env ≡ env.now }
+{
+    let mut w = OfWrite::new(Vec::new(rt.alloc()));
+    let played = play_to(engine, env, acts, &mut w);
+    (played, w.into_inner())
+}
+
+/// These records, of less than 256 bytes each, as they are written at second 1 and fraction 2.
+pub fn written(rt: &HostRuntime, records: &[&[u8]]) -> Result<Vec<u8>, Fail> {
+    let mut bytes = Vec::new(rt.alloc());
     for record in records {
         let Ok(len) = u8::try_from(record.len()) else {
             return Err(Fail::from("long"));
@@ -60,46 +219,38 @@ pub fn capture(rt: &HostRuntime, records: &[&[u8]]) -> Result<Vec<u8>, Fail> {
     Ok(bytes)
 }
 
-/// What a run wrote, and its numbers.
+/// What port 0 wrote, and the numbers.
 #[derive(Drop)]
 pub struct Ran {
     pub output: Vec<u8>,
     pub report: Report,
 }
 
-/// Runs the program on a capture of the records.
-pub fn run(rt: &HostRuntime, env: &Env, text: &str, records: &[&[u8]]) -> Result<Ran, Fail>
-    requires { IsPlainSetup env.now }
+/// Each record has a turn at port 0 and is drained there. No tables.
+pub fn run(rt: &HostRuntime, env: &Env, texts: &[&str], records: &[&[u8]]) -> Result<Ran, Fail>
+    requires nodes { length texts.now ≡ length env.now.ports + length env.now.rings }
+    requires tables { env.now.tables ≡ 0 }
 {
-    let checked = checked(rt, text, env)?;
-    let input = capture(rt, records)?;
-    let mut r = OfRead::new(input.as_slice());
-    let mut w = OfWrite::new(Vec::new(rt.alloc()));
-    match run_one(rt.alloc(), env, checked, &mut r, &mut w) {
-        Ok(report) => Ok(Ran {
-            output: w.into_inner(),
-            report,
-        }),
-        Err(_) => Err(Fail::from("stopped")),
+    let mut acts = Vec::new(rt.alloc());
+    for record in records {
+        acts.push(Act::Turn(0, record))?;
+        acts.push(Act::Drain(0))?;
     }
+    let engine = opened(rt, env, Vec::new(rt.alloc()), texts)?;
+    let (played, output) = play(rt, engine, env, acts.as_slice());
+    Ok(Ran {
+        output,
+        report: played.report,
+    })
 }
 
-/// Whether the report says this: how many records were received, all of them with buffers, and sent, how many buffers
-/// the pool has, all of them free, and how many allocation calls there were, of which the pattern refused so many.
-pub fn says(
-    report: &Report,
-    received: u64,
-    sent: u64,
-    buffers: u64,
-    calls: u64,
-    refused: u64,
-) -> bool {
+/// Whether the report says this of one port and one pool: how many records were received, all of them with buffers, and
+/// sent, how many buffers the pool has, all of them free, and how many allocation calls there were, none of them refused.
+pub fn says(report: &Report, received: u64, sent: u64, buffers: u64, calls: u64) -> bool {
     let port = PortReport {
         received,
-        nobuf: 0,
-        oversize: 0,
         sent,
-        state: InputState::Whole,
+        ..PortReport::default()
     };
     let pool = PoolReport {
         free: buffers,
@@ -109,5 +260,5 @@ pub fn says(
         && report.rings.is_empty()
         && report.pools.as_slice() == [pool].as_slice()
         && report.calls == calls
-        && report.refused == refused
+        && report.refused == 0
 }

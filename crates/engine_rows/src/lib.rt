@@ -1,4 +1,4 @@
-//! Runs of one port on captures that were spelled by hand, as tests of the engine.
+//! Engines over regions, and what they write, as tests.
 #![tactic(auto)]
 
 #[cfg(test)]
@@ -8,6 +8,8 @@ mod given;
 #[cfg(test)]
 mod loops;
 #[cfg(test)]
+mod many;
+#[cfg(test)]
 mod refusals;
 #[cfg(test)]
-mod runs;
+mod rows;

@@ -1,6 +1,6 @@
 //! Node runs that come back to labels.
-use crate::given::{checked, one_port, run, says};
-use dp_engine::{Engine, Outcome, Turn};
+use crate::given::{Act, one_port, opened, play, run, says};
+use dp_engine::{Outcome, Turn};
 use std::test::Fail;
 
 const SPIN: &str = "a: jmp a\n";
@@ -17,22 +17,20 @@ const HELD_BACK: &str =
 #[test]
 fn backward_jumps_have_a_budget(rt: HostRuntime) -> Result<(), Fail> {
     let env = one_port(64, 32)?;
+    let acts = [Act::Turn(0, &[7; 60]); 3];
     for (text, steps, cuts) in [(SPIN, 257, 1), (COUNT, 517, 0), (COUNT_ON, 515, 1)] {
-        let checked = checked(&rt, text, &env)?;
-        let Ok(mut engine) = Engine::open_plain(rt.alloc(), &env, checked) else {
-            return Err(Fail::from("memory"));
-        };
         // each node run has a budget of its own
-        for k in 1..4u64 {
-            let turn = engine.turn(0, &[7; 60]);
+        for k in 1..4usize {
+            let engine = opened(&rt, &env, Vec::new(rt.alloc()), &[text])?;
+            let (played, _) = play(&rt, engine, &env, &acts[..k]);
             let wanted = Turn {
                 outcome: Outcome::Got,
                 runs: 1,
                 cuts,
                 steps,
             };
-            assert_eq!(&rt; turn, wanted, "{text}");
-            assert_eq!(&rt; engine.report().cut, cuts as u64 * k, "{text}");
+            assert!(&rt; played.turn == Some(wanted), "{text}");
+            assert_eq!(&rt; played.report.cut, cuts as u64 * k as u64, "{text}");
         }
     }
     Ok(())
@@ -48,10 +46,10 @@ fn cut_runs_free_their_packets(rt: HostRuntime) -> Result<(), Fail> {
         (COUNT_ON, 0, 1, 1),
         (HELD_BACK, 0, 3, 1),
     ] {
-        let ran = run(&rt, &env, text, &[record])?;
-        assert!(&rt; says(&ran.report, 1, sent, 64, calls, 0), "{text}");
+        let ran = run(&rt, &env, &[text], &[record])?;
+        assert!(&rt; says(&ran.report, 1, sent, 64, calls), "{text}");
         assert_eq!(&rt; ran.report.cut, cut, "{text}");
-        assert_eq!(&rt; ran.output.len(), 24 + sent as usize * 76, "{text}");
+        assert_eq!(&rt; ran.output.len(), sent as usize * 76, "{text}");
     }
     Ok(())
 }

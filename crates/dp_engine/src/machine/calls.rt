@@ -1,5 +1,5 @@
 //! The calls on the packets of registers.
-ghost use Rattle.std.specs.Prelude.{◌≡◌, ◌≢◌, ℕ, ◌+◌, ◌^◌, ◌<◌, ◌≤◌, true, false, not, List, ◌++◌, length, slice_get, Some, option_map, is_some};
+ghost use Rattle.std.specs.Prelude.{◌≡◌, ◌≢◌, ℕ, ◌+◌, ◌^◌, ◌<◌, ◌≤◌, true, false, not, List, [], ◌++◌, length, slice_get, Some, option_map, is_some};
 ghost use Rattle.dp_model.specs.Arithmetic.{bytes_in};
 ghost use Rattle.dp_model.specs.Buffers.{Number, Buffers, ChangesOnly};
 ghost use Rattle.dp_model.specs.Packets.{Packet, AreFresh, allocated, cloned, headroom, tailroom, last_len, first_len, IsHeadSole, IsTailSole, at_front, at_end, more_before, more_behind, less_behind, zeroed_before, zeroed_behind, loaded, stored};
@@ -9,7 +9,7 @@ ghost use Rattle.dp_engine.specs.Steps.{setting_of};
 
 use crate::machine::register::Register;
 use crate::machine::{Machine, is_listed};
-use dp_model::{Env, Packet as Handle, PacketLayer, PacketRegister, Width};
+use dp_model::{Env, Packet as Handle, PacketRegister, Width};
 
 // The handle in a register, which holds a packet.
 pub(super) fn handle_in(registers: &[Register; 8], p: PacketRegister) -> Handle
@@ -26,14 +26,14 @@ pub(super) fn is_held_in(registers: &[Register; 8], p: PacketRegister) -> bool
     registers[p.number() as usize].is_held()
 }
 
-impl<P: PacketLayer> Machine<P> {
+impl Machine {
     // The room in front of the first segment's bytes.
     pub(crate) fn headroom(&self, p: PacketRegister) -> u16
         requires { (k : Packet) × Holds self.now.state p k }
         ensures { (k : Packet) → Holds self.now.state p k → result ≡ headroom k }
     {
         let packet = handle_in(&self.registers, p);
-        self.layer.headroom(packet)
+        self.mbufs.headroom(&packet)
     }
 
     // The room behind the last segment's bytes.
@@ -42,7 +42,7 @@ impl<P: PacketLayer> Machine<P> {
         ensures { (k : Packet) → Holds self.now.state p k → result ≡ tailroom self.now.pools k }
     {
         let packet = handle_in(&self.registers, p);
-        self.layer.tailroom(packet)
+        self.mbufs.tailroom(&packet)
     }
 
     // The length of the last segment.
@@ -51,7 +51,7 @@ impl<P: PacketLayer> Machine<P> {
         ensures { (k : Packet) → Holds self.now.state p k → result ≡ last_len k }
     {
         let packet = handle_in(&self.registers, p);
-        self.layer.last_len(packet)
+        self.mbufs.last_len(&packet)
     }
 
     // That many bytes less behind.
@@ -60,7 +60,7 @@ impl<P: PacketLayer> Machine<P> {
         ensures { (k : Packet) → Holds self.old.state p k → self.new ≡ moved (with_packet p (at_end (less_behind n) k) self.old.state) self.old }
     {
         let packet = handle_in(&self.registers, p);
-        self.layer.trim(packet, n)
+        self.mbufs.trim(&packet, n);
     }
 
     // That many zero bytes in front.
@@ -69,7 +69,7 @@ impl<P: PacketLayer> Machine<P> {
         ensures { (k : Packet) → Holds self.old.state p k → self.new ≡ moved (with_packet p (at_front (more_before n) k) (with_buffers (zeroed_before n k self.old.state.world.buffers) self.old.state)) self.old }
     {
         let packet = handle_in(&self.registers, p);
-        self.layer.prepend(packet, n)
+        self.mbufs.prepend(&packet, n);
     }
 
     // That many zero bytes behind.
@@ -78,7 +78,7 @@ impl<P: PacketLayer> Machine<P> {
         ensures { (k : Packet) → Holds self.old.state p k → self.new ≡ moved (with_packet p (at_end (more_behind n) k) (with_buffers (zeroed_behind n k self.old.state.world.buffers) self.old.state)) self.old }
     {
         let packet = handle_in(&self.registers, p);
-        self.layer.append(packet, n)
+        self.mbufs.append(&packet, n);
     }
 
     // The number at a place of the first segment, the highest byte first.
@@ -87,7 +87,7 @@ impl<P: PacketLayer> Machine<P> {
         ensures { (k : Packet) → Holds self.now.state p k → result ≡ loaded place (bytes_in width) k self.now.state.world.buffers }
     {
         let packet = handle_in(&self.registers, p);
-        self.layer.load(packet, place, width)
+        self.mbufs.load(&packet, place, width)
     }
 
     // Writes the low bytes of a number at a place of the first segment.
@@ -96,7 +96,7 @@ impl<P: PacketLayer> Machine<P> {
         ensures { (k : Packet) → Holds self.old.state p k → self.new ≡ moved (with_buffers (stored place (bytes_in width) n k self.old.state.world.buffers) self.old.state) self.old }
     {
         let packet = handle_in(&self.registers, p);
-        self.layer.store_at(packet, place, width, n)
+        self.mbufs.store(&packet, place, width, n);
     }
 
     // The second packet behind the first. Its register is empty then.
@@ -106,7 +106,7 @@ impl<P: PacketLayer> Machine<P> {
     {
         let head = handle_in(&self.registers, front);
         let tail = handle_in(&self.registers, back);
-        self.layer.chain(head, tail);
+        self.mbufs.chain(&head, tail);
         self.registers[back.number() as usize] = Register::empty();
     }
 
@@ -122,7 +122,7 @@ impl<P: PacketLayer> Machine<P> {
         requires exists { pool < length env.now.pools }
         requires pools { self.old.pools ≡ env.now.pools }
         requires few { self.old.state.world.calls + 1 < 2 ^ 64 }
-        ensures denied { not result ≡ is_denied (setting_of env.now pattern.now) self.old.state pool 1 }
+        ensures denied { not result ≡ is_denied (setting_of env.now [] pattern.now) self.old.state pool 1 }
         ensures refused { result ≡ false → self.new ≡ moved (with_call self.old.state) self.old }
         ensures given { result ≡ true → (ns : List Number) × (buffers : Buffers) × AreFresh env.now.pools (live self.old.state) pool 1 ns × ChangesOnly ns self.old.state.world.buffers buffers
             × (self.new ≡ moved (with_call (with_packet into (allocated env.now.pools ns) (with_buffers buffers self.old.state))) self.old) }
@@ -132,7 +132,7 @@ impl<P: PacketLayer> Machine<P> {
         if is_listed(pattern, self.calls) {
             return false;
         }
-        match self.layer.alloc(pool as u32) {
+        match self.mbufs.alloc(pool as u32) {
             Some(packet) => {
                 self.registers[into.number() as usize] = Register::of(packet.number());
                 true
@@ -155,7 +155,7 @@ impl<P: PacketLayer> Machine<P> {
         requires exists { pool < length env.now.pools }
         requires pools { self.old.pools ≡ env.now.pools }
         requires few { self.old.state.world.calls + 1 < 2 ^ 64 }
-        ensures denied { (k : Packet) → Holds self.old.state from k → not result ≡ is_denied (setting_of env.now pattern.now) self.old.state pool (length k) }
+        ensures denied { (k : Packet) → Holds self.old.state from k → not result ≡ is_denied (setting_of env.now [] pattern.now) self.old.state pool (length k) }
         ensures refused { result ≡ false → self.new ≡ moved (with_call self.old.state) self.old }
         ensures given { result ≡ true → (k : Packet) → Holds self.old.state from k → (ns : List Number) × AreFresh env.now.pools (live self.old.state) pool (length k) ns
             × (self.new ≡ moved (with_call (with_packet into (cloned ns k) self.old.state)) self.old) }
@@ -166,7 +166,7 @@ impl<P: PacketLayer> Machine<P> {
             return false;
         }
         let source = handle_in(&self.registers, from);
-        match self.layer.clone_of(source, pool as u32) {
+        match self.mbufs.clone_of(&source, pool as u32) {
             Some(packet) => {
                 self.registers[into.number() as usize] = Register::of(packet.number());
                 true

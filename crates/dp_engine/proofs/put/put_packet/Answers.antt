@@ -6,11 +6,12 @@ use Rattle.std.proofs.lemmas.Result.{on_err_weaker, on_ok_weaker}
 use Rattle.dp_model.specs.Buffers.{Buffers}
 use Rattle.dp_model.specs.Packets.{Packet, Segment, packet_bytes, segment_bytes}
 use Rattle.dp_pcap.specs.Text.{head_text, record_text, AppendsPart}
-use Rattle.dp_engine.proofs.Devices.{length_head}
+use Rattle.dp_engine.proofs.Called.{length_head}
 use Rattle.dp_engine.proofs.put.put_packet.Goals as goal
 
 -- its bytes are those of the segment
-one_segment : (buffers : Buffers) (k : Packet) (bytes : List ℕ) → length k ≡ 1 → ((s : Segment) → slice_get k 0 ≡ Some s → bytes ≡ segment_bytes buffers s) → bytes ≡ packet_bytes buffers k
+one_segment : (buffers : Buffers) (k : Packet) (bytes : List ℕ) → length k ≡ 1 → ((s : Segment) → slice_get k 0 ≡ Some s → bytes ≡ segment_bytes buffers s)
+    → bytes ≡ packet_bytes buffers k
 one_segment buffers [] bytes one at = absurd (omega (arith, one))
 one_segment buffers (s ∷ []) bytes one at = at s refl ∙ sym (append-nil (segment_bytes buffers s))
 one_segment buffers (s ∷ t ∷ rest) bytes one at = absurd (omega (arith, one))
@@ -29,19 +30,28 @@ put_record-requires-clause-len g c =
 pub returns-clause-ok : goal.returns-clause-ok
 returns-clause-ok g c =
     on_ok_weaker c.put_record.result (λ wrote k has.
-    subst (λ bytes. Appends (g.W.Sink.contents c.args.w.now) (g.W.Sink.contents c.put_record.new.w) (record_text c.args.unit (record { time = c.args.time; bytes = bytes })))
+    subst (λ bytes. Appends (g.W.Sink.contents c.args.w.now) (g.W.Sink.contents c.put_record.new.w)
+    (record_text c.args.unit (record { time = c.args.time; bytes = bytes })))
     (one_segment _ k _ (omega (arith, c.segments.ensures k has, c.if-segments-ne1.false)) (c.segment_bytes.ensures k has)) wrote)
     c.put_record.ensures.ok
 
 pub returns-clause-err : goal.returns-clause-err
 returns-clause-err g c =
     on_err_weaker c.put_record.result (λ part k has.
-    subst (λ bytes. AppendsPart (g.W.Sink.contents c.args.w.now) (g.W.Sink.contents c.put_record.new.w) (record_text c.args.unit (record { time = c.args.time; bytes = bytes })))
+    subst (λ bytes. AppendsPart (g.W.Sink.contents c.args.w.now) (g.W.Sink.contents c.put_record.new.w)
+    (record_text c.args.unit (record { time = c.args.time; bytes = bytes })))
     (one_segment _ k _ (omega (arith, c.segments.ensures k has, c.if-segments-ne1.false)) (c.segment_bytes.ensures k has)) part)
     c.put_record.ensures.err
 
 pub returns-clause-counted : goal.returns-clause-counted
 returns-clause-counted g c k has =
     let bytes = one_segment _ k _ (omega (arith, c.segments.ensures k has, c.if-segments-ne1.false)) (c.segment_bytes.ensures k has) in
-    subst (λ bytes. g.W.Sink.calls c.put_record.new.w ≤ g.W.Sink.calls c.args.w.now + length (record_text c.args.unit (record { time = c.args.time; bytes = bytes }))) bytes
-    (omega (arith, c.put_record.ensures.counted, length_head c.args.unit c.args.time (length c.segment_bytes.result.now), length-append (head_text c.args.unit c.args.time (length c.segment_bytes.result.now)) c.segment_bytes.result.now))
+    subst (λ bytes. g.W.Sink.calls c.put_record.new.w ≤ g.W.Sink.calls c.args.w.now + length
+    (record_text c.args.unit (record { time = c.args.time; bytes = bytes }))) bytes
+    (omega (
+      arith,
+      c.put_record.ensures.counted,
+      length_head c.args.unit c.args.time (length c.segment_bytes.result.now),
+      length-append
+          (head_text c.args.unit c.args.time (length c.segment_bytes.result.now)) c.segment_bytes.result.now,
+    ))

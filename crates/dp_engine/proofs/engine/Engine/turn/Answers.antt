@@ -1,121 +1,64 @@
-use Rattle.std.proofs.Common.{◌≡◌, ◌≤◌, ◌<◌, Bool, false, List, [], ◌∷◌, length, sym, ap, ◌∙◌, subst, arith, refl}
-use Rattle.std.specs.Prelude.{slice_index_or}
-use Rattle.dp_model.specs.declared.env.PortSpec.{PortSpec}
-use Rattle.dp_model.specs.Environments.{Environment}
-use Rattle.dp_model.specs.Packets.{needed as segments_needed}
-use Rattle.dp_model.specs.Machine.{World}
-use Rattle.dp_model.specs.Runs.{Turn as IsTurn, Took, Got, NoBuffer, Oversize}
-use Rattle.dp_engine.specs.Handles.{Core}
-use Rattle.dp_engine.specs.Steps.{setting_of, Runs}
-use Rattle.dp_engine.specs.Turns.{EngineState, IsReceived}
-use Rattle.dp_engine.proofs.Turning.{turn_is, received_is, received_count, received_steps, received_cuts, only_port}
+use Rattle.std.proofs.Common.{◌≡◌, ◌+◌, ◌*◌, ◌<◌, ◌≤◌, Bool, List, length, refl, sym, ◌∙◌, ap, subst, arith}
+use Rattle.dp_model.specs.Runs.{Turn as IsTurn, NeverStuck}
+use Rattle.dp_model.specs.Safety.{Beginning, IsOfTurn}
+use Rattle.dp_model.proofs.SafeTurns.{turn_runs_safe, safe_never_stuck}
+use Rattle.dp_engine.specs.Outcomes.{outcome_of}
+use Rattle.dp_engine.specs.declared.report.Tallies.{Tallies}
+use Rattle.dp_engine.specs.Engines.{EngineState, IsEngine, records_of}
+use Rattle.dp_engine.proofs.Turning.{turn_is, port_small, one_of_all, turned}
 use Rattle.dp_engine.proofs.engine.Engine.turn.Goals as goal
 
-pub returns-then-needed-spec-clause-turn : goal.returns-then-needed-spec-clause-turn
-returns-then-needed-spec-clause-turn g c =
-    let e = c.self.invariant in
-    let env_is = c.env-env.ensures in
-    let d : PortSpec = record { pool = 0; segs = 0; queue = 0 } in
-    let read : slice_index_or c.ports.result.now 0 d ≡ e.spec = ap (λ l. slice_index_or l 0 d) (c.ports.ensures ∙ ap (λ (x : Environment). x.ports) env_is ∙ e.port) in
-    let pools = c.pools.ensures ∙ ap (λ (x : Environment). x.pools) env_is in
-    let need : c.needed.result ≡ segments_needed c.self.inside.checked.env.pools e.spec.pool (length c.args.bytes.now) = rw (pools, read) at c.needed.ensures in
-    let more : e.spec.segs < segments_needed c.self.inside.checked.env.pools e.spec.pool (length c.args.bytes.now) = rw (need, read) at c.if-needed-spec.true in
-    let p0 = only_port c.self.inside.checked.env.ports e.spec c.args.port e.port (subst (λ (v : EngineState). c.args.port < length v.setting.env.ports) (sym c.self.view_is) c.requires.exists) in
-    rw p0 (subst (λ (v : EngineState). (told : List Bool) × IsTurn v.setting v.nodes 0 c.args.bytes.now v.world Oversize 0 told c.self.inside.machine.state.world) c.self.view_is
-    ([], turn_is c.self.inside.checked c.self.inside.pattern.items c.self.inside.machine c.args.bytes.now Oversize [] _ e e.no_rings (more, refl, refl)))
+pub count-requires-clause-there : goal.count-requires-clause-there
+count-requires-clause-there c =
+    let exists = subst (λ (v : EngineState). c.args.port < length v.setting.env.ports) (sym c.self.view_is) c.requires.exists in
+    port_small c.self.inside.plan c.args.port c.env-env.ensures.pipeline exists
 
-pub returns-then-not-receive-clause-turn : goal.returns-then-not-receive-clause-turn
-returns-then-not-receive-clause-turn g c =
+pub count-requires-clause-few : goal.count-requires-clause-few
+count-requires-clause-few c =
     let e = c.self.invariant in
-    let env_is = c.env-env.ensures in
-    let d : PortSpec = record { pool = 0; segs = 0; queue = 0 } in
-    let read : slice_index_or c.ports.result.now 0 d ≡ e.spec = ap (λ l. slice_index_or l 0 d) (c.ports.ensures ∙ ap (λ (x : Environment). x.ports) env_is ∙ e.port) in
-    let pools = c.pools.ensures ∙ ap (λ (x : Environment). x.pools) env_is in
-    let need : c.needed.result ≡ segments_needed c.self.inside.checked.env.pools e.spec.pool (length c.args.bytes.now) = rw (pools, read) at c.needed.ensures in
-    let fits : segments_needed c.self.inside.checked.env.pools e.spec.pool (length c.args.bytes.now) ≤ e.spec.segs = rw (need, read) at c.if-needed-spec.false in
-    let no = rw (env_is, c.as_slice.ensures.value, read) at (c.if-not-receive.ensures.denied) in
-    let world = ap (λ (x : Core). x.state.world) (c.if-not-receive.ensures.refused refl) in
-    let p0 = only_port c.self.inside.checked.env.ports e.spec c.args.port e.port (subst (λ (v : EngineState). c.args.port < length v.setting.env.ports) (sym c.self.view_is) c.requires.exists) in
-    rw p0 (subst (λ (v : EngineState). (told : List Bool) × IsTurn v.setting v.nodes 0 c.args.bytes.now v.world NoBuffer 0 told c.receive.new.self.state.world) c.self.view_is
-    (false ∷ [], turn_is c.self.inside.checked c.self.inside.pattern.items c.self.inside.machine c.args.bytes.now NoBuffer (false ∷ []) _ e (ap (λ (w : World). w.rings) world ∙ e.no_rings) (fits, sym no, refl, world)))
+    let exists = subst (λ (v : EngineState). c.args.port < length v.setting.env.ports) (sym c.self.view_is) c.requires.exists in
+    let turns = ap (λ (v : EngineState). v.turns) c.self.view_is in
+    let less = port_small c.self.inside.plan c.args.port c.env-env.ensures.pipeline exists in
+    omega (arith, turns, c.requires.limit, e.records, one_of_all records_of c.self.inside.tallies c.args.port (omega (arith, less, e.ports)))
 
-pub run-steps-requires-clause-sound : goal.run-steps-requires-clause-sound
-run-steps-requires-clause-sound g c =
+pub invariant_of-self : goal.invariant_of-self
+invariant_of-self c =
+    let engine = c.self.inside in
+    let port = c.args.port in
+    let m2 = c.serve-served.new.m in
+    let outcome = outcome_of c.arrive-outcome.result.0 in
     let e = c.self.invariant in
-    let env_is = c.env-env.ensures in
-    let d : PortSpec = record { pool = 0; segs = 0; queue = 0 } in
-    let read : slice_index_or c.ports.result.now 0 d ≡ e.spec = ap (λ l. slice_index_or l 0 d) (c.ports.ensures ∙ ap (λ (x : Environment). x.ports) env_is ∙ e.port) in
-    let pools = c.pools.ensures ∙ ap (λ (x : Environment). x.pools) env_is in
-    let need : c.needed.result ≡ segments_needed c.self.inside.checked.env.pools e.spec.pool (length c.args.bytes.now) = rw (pools, read) at c.needed.ensures in
-    let fits : segments_needed c.self.inside.checked.env.pools e.spec.pool (length c.args.bytes.now) ≤ e.spec.segs = rw (need, read) at c.if-needed-spec.false in
-    let got : IsReceived (setting_of c.self.inside.checked.env c.self.inside.pattern.items) e.spec.pool 0 c.args.bytes.now c.self.inside.machine.state.world c.receive.new.self.state = rw (env_is, c.as_slice.ensures.value, read) at (c.if-not-receive.ensures.received refl) in
-    let r = received_is c.self.inside.checked c.self.inside.pattern.items c.self.inside.machine e c.args.bytes.now c.receive.new.self.state (record { accepted = c.program.ensures.accepted; well_formed = c.program.ensures.well_formed }) fits got in
-    rw (env_is, c.as_slice-2.ensures.value, (c.instrs.ensures.same ∙ c.program.ensures.same)) r.can_run
-
-pub invariant_of-self-2 : goal.invariant_of-self-2
-invariant_of-self-2 g c =
-    let e = c.self.invariant in
-    let env_is = c.env-env.ensures in
-    let d : PortSpec = record { pool = 0; segs = 0; queue = 0 } in
-    let read : slice_index_or c.ports.result.now 0 d ≡ e.spec = ap (λ l. slice_index_or l 0 d) (c.ports.ensures ∙ ap (λ (x : Environment). x.ports) env_is ∙ e.port) in
-    let pools = c.pools.ensures ∙ ap (λ (x : Environment). x.pools) env_is in
-    let need : c.needed.result ≡ segments_needed c.self.inside.checked.env.pools e.spec.pool (length c.args.bytes.now) = rw (pools, read) at c.needed.ensures in
-    let fits : segments_needed c.self.inside.checked.env.pools e.spec.pool (length c.args.bytes.now) ≤ e.spec.segs = rw (need, read) at c.if-needed-spec.false in
-    let got : IsReceived (setting_of c.self.inside.checked.env c.self.inside.pattern.items) e.spec.pool 0 c.args.bytes.now c.self.inside.machine.state.world c.receive.new.self.state = rw (env_is, c.as_slice.ensures.value, read) at (c.if-not-receive.ensures.received refl) in
-    let r = received_is c.self.inside.checked c.self.inside.pattern.items c.self.inside.machine e c.args.bytes.now c.receive.new.self.state (record { accepted = c.program.ensures.accepted; well_formed = c.program.ensures.well_formed }) fits got in
-    let runs : Runs (setting_of c.self.inside.checked.env c.self.inside.pattern.items) c.self.inside.checked.program c.receive.new.self.state c.run-steps.new.m.state = rw (env_is, c.as_slice-2.ensures.value, (c.instrs.ensures.same ∙ c.program.ensures.same)) at c.run-steps.ensures.runs in
-    record {
-      entry = e.entry;
-      spec = e.spec;
-      port = e.port;
-      has_room = e.has_room;
-      segs = e.segs;
-      idle = c.run-steps.ensures.idle;
-      no_rings = c.run-steps.ensures.rings;
-      pools = c.run-steps.ensures.pools ∙ c.receive.ensures.pools ∙ e.pools;
-      pool = e.pool;
-      pool_is = e.pool_is;
-      least_room = omega (arith, c.run-steps.ensures.room, c.receive.ensures.room, e.least_room);
-      limit = omega (arith, c.requires.limit, ap (λ (v : EngineState). v.turns) c.self.view_is);
-      all_counted = omega (arith, e.all_counted);
-      calls = omega (arith, e.calls, c.run-steps.ensures.calls, c.receive.ensures.calls, c.instrs.ensures.few);
-      cuts = omega (arith, e.cuts, c.run-steps.ensures.took.cuts_are, c.run-steps.ensures.one, received_cuts (setting_of c.self.inside.checked.env c.self.inside.pattern.items) e.spec.pool 0 c.args.bytes.now c.self.inside.machine.state.world c.receive.new.self.state got);
-      sent = omega (arith, e.sent, c.run-steps.ensures.calls, c.receive.ensures.calls, c.run-steps.ensures.packets, received_count (setting_of c.self.inside.checked.env c.self.inside.pattern.items) e.spec.pool 0 c.args.bytes.now c.self.inside.machine.state.world c.receive.new.self.state got);
-      room = rw (c.run-steps.ensures.room, c.receive.ensures.room) e.room;
-      ready = r.ready c.run-steps.new.m.state runs;
-    }
+    let a = c.arrive-outcome.ensures in
+    let r = c.serve-served.ensures in
+    let exists = subst (λ (v : EngineState). port < length v.setting.env.ports) (sym c.self.view_is) c.requires.exists in
+    let turns = ap (λ (v : EngineState). v.turns) c.self.view_is in
+    subst (λ (tallies : List Tallies). IsEngine engine.plan m2 engine.space (engine.turns + 1) tallies engine.left) (sym c.count.ensures)
+    (turned engine.plan engine.machine m2 engine.space engine.turns engine.tallies engine.left port outcome e
+    (omega (arith, turns, c.requires.limit)) (port_small engine.plan port c.env-env.ensures.pipeline exists) r.rests (r.frames ∙ a.frames)
+    (omega (arith, a.calls, r.calls)) (omega (arith, a.took.cuts_are, a.few_cuts, r.took.cuts_are, r.few_cuts)) (omega (arith, a.packets, r.packets)))
 
 pub returns-clause-turn : goal.returns-clause-turn
-returns-clause-turn g c =
-    let e = c.self.invariant in
-    let env_is = c.env-env.ensures in
-    let d : PortSpec = record { pool = 0; segs = 0; queue = 0 } in
-    let read : slice_index_or c.ports.result.now 0 d ≡ e.spec = ap (λ l. slice_index_or l 0 d) (c.ports.ensures ∙ ap (λ (x : Environment). x.ports) env_is ∙ e.port) in
-    let pools = c.pools.ensures ∙ ap (λ (x : Environment). x.pools) env_is in
-    let need : c.needed.result ≡ segments_needed c.self.inside.checked.env.pools e.spec.pool (length c.args.bytes.now) = rw (pools, read) at c.needed.ensures in
-    let fits : segments_needed c.self.inside.checked.env.pools e.spec.pool (length c.args.bytes.now) ≤ e.spec.segs = rw (need, read) at c.if-needed-spec.false in
-    let got : IsReceived (setting_of c.self.inside.checked.env c.self.inside.pattern.items) e.spec.pool 0 c.args.bytes.now c.self.inside.machine.state.world c.receive.new.self.state = rw (env_is, c.as_slice.ensures.value, read) at (c.if-not-receive.ensures.received refl) in
-    let r = received_is c.self.inside.checked c.self.inside.pattern.items c.self.inside.machine e c.args.bytes.now c.receive.new.self.state (record { accepted = c.program.ensures.accepted; well_formed = c.program.ensures.well_formed }) fits got in
-    let runs : Runs (setting_of c.self.inside.checked.env c.self.inside.pattern.items) c.self.inside.checked.program c.receive.new.self.state c.run-steps.new.m.state = rw (env_is, c.as_slice-2.ensures.value, (c.instrs.ensures.same ∙ c.program.ensures.same)) at c.run-steps.ensures.runs in
-    let given = sym (rw (env_is, c.as_slice.ensures.value, read) at (c.if-not-receive.ensures.denied)) in
-    let (told, arrives) = r.arrives given c.run-steps.new.m.state runs in
-    let p0 = only_port c.self.inside.checked.env.ports e.spec c.args.port e.port (subst (λ (v : EngineState). c.args.port < length v.setting.env.ports) (sym c.self.view_is) c.requires.exists) in
-    rw p0 (subst (λ (v : EngineState). (told : List Bool) × IsTurn v.setting v.nodes 0 c.args.bytes.now v.world Got 1 told c.run-steps.new.m.state.world) c.self.view_is
-    (told, turn_is c.self.inside.checked c.self.inside.pattern.items c.self.inside.machine c.args.bytes.now Got told _ e c.run-steps.ensures.rings arrives))
+returns-clause-turn c =
+    let engine = c.self.inside in
+    let port = c.args.port in
+    let bytes = c.args.bytes.now in
+    let m2 = c.serve-served.new.m in
+    let outcome = outcome_of c.arrive-outcome.result.0 in
+    let more = c.serve-served.result.runs in
+    subst (λ (v : EngineState). (told : List Bool) × IsTurn v.setting v.nodes port bytes v.world outcome
+    (c.runs_of.result + more) told m2.state.world) c.self.view_is
+    (turn_is engine.plan port bytes engine.machine.state.world c.arrive-outcome.new.m.state.world m2.state.world outcome more (c.runs_of.result + more)
+    (ap (λ n. n + more) c.runs_of.ensures.value) c.arrive-outcome.ensures.arrives c.serve-served.ensures.serves)
 
-pub returns-clause-took : goal.returns-clause-took
-returns-clause-took g c =
-    let e = c.self.invariant in
-    let env_is = c.env-env.ensures in
-    let d : PortSpec = record { pool = 0; segs = 0; queue = 0 } in
-    let read : slice_index_or c.ports.result.now 0 d ≡ e.spec = ap (λ l. slice_index_or l 0 d) (c.ports.ensures ∙ ap (λ (x : Environment). x.ports) env_is ∙ e.port) in
-    let pools = c.pools.ensures ∙ ap (λ (x : Environment). x.pools) env_is in
-    let need : c.needed.result ≡ segments_needed c.self.inside.checked.env.pools e.spec.pool (length c.args.bytes.now) = rw (pools, read) at c.needed.ensures in
-    let fits : segments_needed c.self.inside.checked.env.pools e.spec.pool (length c.args.bytes.now) ≤ e.spec.segs = rw (need, read) at c.if-needed-spec.false in
-    let got : IsReceived (setting_of c.self.inside.checked.env c.self.inside.pattern.items) e.spec.pool 0 c.args.bytes.now c.self.inside.machine.state.world c.receive.new.self.state = rw (env_is, c.as_slice.ensures.value, read) at (c.if-not-receive.ensures.received refl) in
-    let took = c.run-steps.ensures.took in
-    subst (λ (v : EngineState). Took v.world c.run-steps.new.m.state.world c.run-steps.result.steps c.run-steps.result.cuts) c.self.view_is
-    (record {
-      steps_are = omega (arith, took.steps_are, received_steps (setting_of c.self.inside.checked.env c.self.inside.pattern.items) e.spec.pool 0 c.args.bytes.now c.self.inside.machine.state.world c.receive.new.self.state got);
-      cuts_are = omega (arith, took.cuts_are, received_cuts (setting_of c.self.inside.checked.env c.self.inside.pattern.items) e.spec.pool 0 c.args.bytes.now c.self.inside.machine.state.world c.receive.new.self.state got);
-    })
+pub returns-clause-never_stuck : goal.returns-clause-never_stuck
+returns-clause-never_stuck c =
+    let engine = c.self.inside in
+    let port = c.args.port in
+    let bytes = c.args.bytes.now in
+    subst (λ (v : EngineState). (b : Beginning) → IsOfTurn v.setting v.nodes port bytes v.world b
+    → NeverStuck v.setting b.program b.packet b.number b.world) c.self.view_is
+    (λ b of. safe_never_stuck engine.plan.setting b
+    (turn_runs_safe engine.plan.setting engine.plan.nodes port bytes engine.machine.state.world b c.env-env.ensures.pipeline c.self.invariant.rests.rest of))
+
+pub returns-clause-lists : goal.returns-clause-lists
+returns-clause-lists c = c.serve-served.ensures.rests.rest.ready.world.outboxes

@@ -1,26 +1,27 @@
-use Rattle.std.proofs.Common.{sym}
+use Rattle.std.proofs.Common.{[], sym}
 use Rattle.dp_model.specs.Buffers.{ChangesOnly}
 use Rattle.dp_model.specs.Packets.{allocated}
 use Rattle.dp_engine.specs.Steps.{setting_of}
 use Rattle.dp_engine.specs.Handles.{ran}
 use Rattle.dp_engine.proofs.Registers.{allocated_taken, too_few}
+use Rattle.dp_engine.specs.Handles.{lists_of}
 use Rattle.dp_engine.proofs.machine.Machine.alloc.Goals as goal
 
 pub invariant_of-self-in-Some : goal.invariant_of-self-in-Some
-invariant_of-self-in-Some g c =
-    let given = allocated_taken (setting_of c.args.env.now c.args.pattern.now) _ _ _ c.self.inside.registers c.self.inside.numbers c.self.inside.outbox.items c.self.inside.calls (ran c.self.inside.steps.count c.self.inside.cuts c.self.inside.jumps) c.args.self.now c.args.into c.args.pool c.in-Some.packet c.self.view_is c.self.invariant c.requires.empty c.requires.pools c.in-Some.ensures in
+invariant_of-self-in-Some c =
+    let given = allocated_taken (setting_of c.args.env.now [] c.args.pattern.now) _ _ _ c.self.inside.registers c.self.inside.numbers (lists_of c.self.inside.rings c.self.inside.outboxes) c.self.inside.calls (ran c.self.inside.steps.count c.self.inside.cuts c.self.inside.jumps) c.args.self.now c.args.into c.args.pool c.in-Some.packet c.self.view_is c.self.invariant c.requires.empty c.requires.pools c.in-Some.ensures.packets in
     rw (c.of.ensures, c.number.ensures, c.number-in-Some.ensures.same) given.stand
 
 pub returns-in-Some-clause-denied : goal.returns-in-Some-clause-denied
-returns-in-Some-clause-denied g c =
-    let given = allocated_taken (setting_of c.args.env.now c.args.pattern.now) _ _ _ c.self.inside.registers c.self.inside.numbers c.self.inside.outbox.items c.self.inside.calls (ran c.self.inside.steps.count c.self.inside.cuts c.self.inside.jumps) c.args.self.now c.args.into c.args.pool c.in-Some.packet c.self.view_is c.self.invariant c.requires.empty c.requires.pools c.in-Some.ensures in
+returns-in-Some-clause-denied c =
+    let given = allocated_taken (setting_of c.args.env.now [] c.args.pattern.now) _ _ _ c.self.inside.registers c.self.inside.numbers (lists_of c.self.inside.rings c.self.inside.outboxes) c.self.inside.calls (ran c.self.inside.steps.count c.self.inside.cuts c.self.inside.jumps) c.args.self.now c.args.into c.args.pool c.in-Some.packet c.self.view_is c.self.invariant c.requires.empty c.requires.pools c.in-Some.ensures.packets in
     sym (given.allowed (sym c.if-is_listed.ensures))
 
 pub returns-in-Some-clause-given : goal.returns-in-Some-clause-given
-returns-in-Some-clause-given g c _ =
-    let given = allocated_taken (setting_of c.args.env.now c.args.pattern.now) _ _ _ c.self.inside.registers c.self.inside.numbers c.self.inside.outbox.items c.self.inside.calls (ran c.self.inside.steps.count c.self.inside.cuts c.self.inside.jumps) c.args.self.now c.args.into c.args.pool c.in-Some.packet c.self.view_is c.self.invariant c.requires.empty c.requires.pools c.in-Some.ensures in
-    rw (c.of.ensures, c.number.ensures, c.number-in-Some.ensures.same) (given.ns, given.buffers, given.fresh, given.changes, given.state)
+returns-in-Some-clause-given c _ =
+    let given = allocated_taken (setting_of c.args.env.now [] c.args.pattern.now) _ _ _ c.self.inside.registers c.self.inside.numbers (lists_of c.self.inside.rings c.self.inside.outboxes) c.self.inside.calls (ran c.self.inside.steps.count c.self.inside.cuts c.self.inside.jumps) c.args.self.now c.args.into c.args.pool c.in-Some.packet c.self.view_is c.self.invariant c.requires.empty c.requires.pools c.in-Some.ensures.packets in
+    rw (c.of.ensures, c.number.ensures, c.number-in-Some.ensures.same, c.alloc.ensures.zones) (given.ns, given.buffers, given.fresh, given.changes, given.state)
 
 pub returns-in-None-clause-denied : goal.returns-in-None-clause-denied
-returns-in-None-clause-denied g c =
-    sym (too_few (setting_of c.args.env.now c.args.pattern.now) _ _ _ c.self.inside.registers c.self.inside.numbers c.self.inside.outbox.items c.self.inside.calls (ran c.self.inside.steps.count c.self.inside.cuts c.self.inside.jumps) c.args.self.now c.args.pool 1 (allocated (g.P.PacketLayer.store c.self.inside.layer).pools) ChangesOnly c.self.view_is c.self.invariant c.requires.pools (sym c.if-is_listed.ensures) c.in-None.ensures)
+returns-in-None-clause-denied c =
+    sym (too_few (setting_of c.args.env.now [] c.args.pattern.now) _ _ _ c.self.inside.registers c.self.inside.numbers (lists_of c.self.inside.rings c.self.inside.outboxes) c.self.inside.calls (ran c.self.inside.steps.count c.self.inside.cuts c.self.inside.jumps) c.args.self.now c.args.pool 1 (allocated (c.self.inside.mbufs.store).pools) ChangesOnly c.self.view_is c.self.invariant c.requires.pools (sym c.if-is_listed.ensures) c.in-None.ensures.packets)

@@ -4,23 +4,23 @@ use Rattle.dp_engine.proofs.Registers.{handle, held, stand_becomes, becomes}
 use Rattle.dp_engine.proofs.machine.Machine.trim.Goals as goal
 
 pub handle_in-packet-requires : goal.handle_in-packet-requires
-handle_in-packet-requires g c =
+handle_in-packet-requires c =
     let (k, holds, le) = c.requires in
     handle _ _ _ _ _ _ _ _ c.args.p k c.self.view_is holds
 
 pub trim-requires : goal.trim-requires
-trim-requires g c =
+trim-requires c =
     let (k, holds, le) = c.requires in
     let there = held _ _ _ _ _ _ _ _ c.args.p c.handle_in-packet.result k c.self.view_is c.self.invariant c.handle_in-packet.ensures holds in
     (k, there.has, le)
 
 pub invariant_of-self : goal.invariant_of-self
-invariant_of-self g c =
+invariant_of-self c =
     let (k, holds, le) = c.requires in
     let there = held _ _ _ _ _ _ _ _ c.args.p c.handle_in-packet.result k c.self.view_is c.self.invariant c.handle_in-packet.ensures holds in
-    stand_becomes _ _ _ _ c.args.p c.handle_in-packet.result k (at_end (less_behind c.args.n)) unwritten c.self.invariant there c.trim.ensures
+    stand_becomes _ _ _ _ c.args.p c.handle_in-packet.result k (at_end (less_behind c.args.n)) unwritten c.self.invariant there c.trim.ensures.packets
 
 pub returns : goal.returns
-returns g c k holds =
+returns c k holds =
     let there = held _ _ _ _ _ _ _ _ c.args.p c.handle_in-packet.result k c.self.view_is c.self.invariant c.handle_in-packet.ensures holds in
-    becomes _ _ _ _ _ _ _ _ _ c.args.p c.handle_in-packet.result k (at_end (less_behind c.args.n)) unwritten c.self.view_is there c.trim.ensures
+    rw (c.trim.ensures.zones) (becomes _ _ _ _ _ _ _ _ _ c.args.p c.handle_in-packet.result k (at_end (less_behind c.args.n)) unwritten c.self.view_is there c.trim.ensures.packets)

@@ -1,0 +1,263 @@
+-- Engines of which rings and transmit lists are emptied.
+use Rattle.std.proofs.Common.{◌≡◌, ℕ, zero, suc, ◌+◌, ◌*◌, ◌<◌, ◌≤◌, List, [], ◌∷◌, length, map, Some, refl, sym, ◌∙◌, ap, subst, arith, add-zero}
+use Rattle.std.specs.Prelude.{slice_get, slice_set, slice_index_or}
+use Rattle.std.specs.List.{AllZip}
+use Rattle.std.proofs.lemmas.Option.{same_Some}
+use Rattle.dp_model.specs.Packets.{Packet}
+use Rattle.dp_model.specs.Machine.{live, segments_listed, with_ring, with_outbox}
+use Rattle.dp_model.specs.Runs.{between, left_in_rings}
+use Rattle.dp_model.proofs.WholeRuns.{nothing_listed}
+use Rattle.dp_engine.specs.declared.report.Tallies.{Tallies}
+use Rattle.dp_engine.specs.Handles.{Core, moved}
+use Rattle.dp_engine.specs.Schemes.{Scheme}
+use Rattle.dp_engine.specs.Spaces.{SpaceView}
+use Rattle.dp_engine.specs.Tallies.{listed_count}
+use Rattle.dp_engine.specs.Engines.{EngineState, engine_of, IsEngine, over_ports, sent_by, records_of, sum, tallies_at, sent_at, drained, left_at, with_left, flushed}
+use Rattle.dp_engine.proofs.Writing.{at_place}
+use Rattle.dp_engine.proofs.Resting.{length_set, left_rests, sent_rests}
+use Rattle.dp_engine.proofs.Envs.{known}
+
+-- ---- sums
+
+-- a list emptied
+listed_less : (lists : List (List Packet)) (i : ℕ) (packets : List Packet) → slice_get lists i ≡ Some packets
+    → listed_count (slice_set lists i []) + length packets ≡ listed_count lists
+listed_less [] i packets e = cc
+listed_less (l ∷ lists) zero packets e = let same : length l ≡ length packets = ap length (same_Some l packets e) in omega (arith, same)
+listed_less (l ∷ lists) (suc i) packets e = let more = listed_less lists i packets e in omega (arith, more)
+
+-- a count set
+sum_set : (counts : List ℕ) (i n : ℕ) → i < length counts → sum (slice_set counts i n) + slice_index_or counts i 0 ≡ sum counts + n
+sum_set [] i n lt = absurd (omega (arith, lt))
+sum_set (x ∷ counts) zero n lt = omega arith
+sum_set (x ∷ counts) (suc i) n lt = let more = sum_set counts i n (omega (arith, lt)) in omega (arith, more)
+
+pub sum_at : (counts : List ℕ) (i : ℕ) → slice_index_or counts i 0 ≤ sum counts
+sum_at [] i = omega arith
+sum_at (x ∷ counts) zero = omega arith
+sum_at (x ∷ counts) (suc i) = let more = sum_at counts i in omega (arith, more)
+
+over_set : (f : Tallies → ℕ) (tallies : List Tallies) (i : ℕ) (t : Tallies) → i < length tallies
+    → over_ports f (slice_set tallies i t) + f (tallies_at tallies i) ≡ over_ports f tallies + f t
+over_set f [] i t lt = absurd (omega (arith, lt))
+over_set f (x ∷ tallies) zero t lt = omega arith
+over_set f (x ∷ tallies) (suc i) t lt = let more = over_set f tallies i t (omega (arith, lt)) in omega (arith, more)
+
+pub over_at : (f : Tallies → ℕ) (tallies : List Tallies) (i : ℕ) → i < length tallies → f (tallies_at tallies i) ≤ over_ports f tallies
+over_at f [] i lt = absurd (omega (arith, lt))
+over_at f (x ∷ tallies) zero lt = omega arith
+over_at f (x ∷ tallies) (suc i) lt = let more = over_at f tallies i (omega (arith, lt)) in omega (arith, more)
+
+-- ---- places
+
+length_zip : {A B : Type 0} (R : A → B → Type 0) (xs : List A) (ys : List B) → AllZip R xs ys → length ys ≡ length xs
+length_zip R [] [] all = refl
+length_zip R [] (y ∷ ys) all = absurd all
+length_zip R (x ∷ xs) [] all = absurd all
+length_zip R (x ∷ xs) (y ∷ ys) all = ap suc (length_zip R xs ys all.1)
+
+-- it has the environment's rings and ports
+pub record HasAll (e : EngineState) : Type 0 where
+  pub rings : length e.world.rings ≡ length e.setting.env.rings
+  pub ports : length e.world.outboxes ≡ length e.setting.env.ports
+
+module _ (s : Scheme) (core : Core) (space : SpaceView) (turns : ℕ) (tallies : List Tallies) (left : List ℕ)
+    (is : IsEngine s core space turns tallies left) where
+  -- each ring and each port of the environment has a place among the engine's
+  pub ring_within : (i : ℕ) → i < length s.setting.env.rings → i < 8
+  ring_within i lt = omega (arith, lt, (known s.setting.env is.within).rings)
+
+  pub port_within : (i : ℕ) → i < length s.setting.env.ports → i < 8
+  port_within i lt = omega (arith, lt, (known s.setting.env is.within).ports.1)
+
+  pub has_all : (e : EngineState) → engine_of s core space turns tallies left ≡ e → HasAll e
+  has_all e same = subst HasAll same (record {
+    rings = length_zip _ s.setting.env.rings core.state.world.rings is.rests.rest.ready.world.rings;
+    ports = is.rests.rest.ready.world.outboxes;
+  })
+
+  -- each port has its list of packets
+  pub box_at : (i : ℕ) → i < length s.setting.env.ports → (packets : List Packet) × (slice_get core.state.world.outboxes i ≡ Some packets)
+  box_at i lt = at_place core.state.world.outboxes i (omega (arith, lt, is.rests.rest.ready.world.outboxes))
+
+  -- a transmit list is emptied, and so many of its packets are counted as written
+  pub sent_kept : (port sent : ℕ) (packets : List Packet) → port < 8 → slice_get core.state.world.outboxes port ≡ Some packets → sent ≤ length packets
+      → IsEngine s (moved (with_outbox port [] core.state) core) space turns (sent_at port sent tallies) left
+  sent_kept port sent packets lt box le =
+      let t : Tallies = record (tallies_at tallies port) { sent = (tallies_at tallies port).sent + sent } in
+      record {
+        within = is.within;
+        rests = sent_rests s core port is.rests;
+        stand = is.stand;
+        limit = is.limit;
+        ports = length_set tallies port t ∙ is.ports;
+        rings = is.rings;
+        records = omega (arith, is.records, is.ports, lt, over_set records_of tallies port t (omega (arith, is.ports, lt)));
+        calls = is.calls;
+        cuts = is.cuts;
+        packets = omega (
+          arith,
+          is.packets,
+          le,
+          listed_less core.state.world.outboxes port packets box,
+          over_set sent_by tallies port t (omega (arith, is.ports, lt)),
+        );
+      }
+
+  -- the sum of what a port wrote has room for its transmit list
+  pub sent_fits : (port sent : ℕ) (packets : List Packet) → port < 8 → slice_get core.state.world.outboxes port ≡ Some packets → sent ≤ length packets
+      → (tallies_at tallies port).sent + sent ≤ 134217728 * 8684545
+  sent_fits port sent packets lt box le =
+      omega (
+        arith,
+        is.packets,
+        is.calls,
+        is.limit,
+        le,
+        listed_less core.state.world.outboxes port packets box,
+        over_at sent_by tallies port (omega (arith, is.ports, lt)),
+      )
+
+  -- a ring is emptied, and what was in it is counted
+  pub left_kept : (ring : ℕ) (packets : List Packet) → ring < 8 → slice_get core.state.world.rings ring ≡ Some packets
+      → IsEngine s (moved (with_ring ring [] core.state) core) space turns tallies (slice_set left ring (slice_index_or left ring 0 + length packets))
+  left_kept ring packets lt there =
+      let n = slice_index_or left ring 0 + length packets in
+      record {
+        within = is.within;
+        rests = left_rests s core ring is.rests;
+        stand = is.stand;
+        limit = is.limit;
+        ports = is.ports;
+        rings = length_set left ring n ∙ is.rings;
+        records = is.records;
+        calls = is.calls;
+        cuts = is.cuts;
+        packets = omega (arith, is.packets, listed_less core.state.world.rings ring packets there, sum_set left ring n (omega (arith, is.rings, lt)));
+      }
+
+  pub left_fits : (ring : ℕ) (packets : List Packet) → slice_get core.state.world.rings ring ≡ Some packets
+      → slice_index_or left ring 0 + length packets ≤ 134217728 * 8684545
+  left_fits ring packets there =
+      omega (arith, is.packets, is.calls, is.limit, listed_less core.state.world.rings ring packets there, sum_at left ring)
+
+-- ---- one place
+
+counted_there : (rings : List (List Packet)) (i : ℕ) (packets : List Packet) → slice_get rings i ≡ Some packets
+    → slice_index_or (map length rings) i 0 ≡ length packets
+counted_there [] i packets e = cc
+counted_there (r ∷ rings) zero packets e = ap length (same_Some r packets e)
+counted_there (r ∷ rings) (suc i) packets e = counted_there rings i packets e
+
+pub leaves : (s : Scheme) (core core' : Core) (space : SpaceView) (turns : ℕ) (tallies : List Tallies) (left : List ℕ) (e : EngineState) (ring n : ℕ)
+    (packets : List Packet) → engine_of s core space turns tallies left ≡ e → core' ≡ moved (with_ring ring [] core.state) core
+    → slice_get core.state.world.rings ring ≡ Some packets → n ≡ length packets
+    → engine_of s core' space turns tallies (slice_set left ring (slice_index_or left ring 0 + n)) ≡ left_at ring e
+leaves s core core' space turns tallies left e ring n packets is becomes there count =
+    let same : n ≡ slice_index_or (left_in_rings core.state.world) ring 0 = count ∙ sym (counted_there core.state.world.rings ring packets there) in
+    ap (λ m. engine_of s m space turns tallies (slice_set left ring (slice_index_or left ring 0 + n))) becomes
+    ∙ ap (λ m. engine_of s (moved (with_ring ring [] core.state) core) space turns tallies (slice_set left ring (slice_index_or left ring 0 + m))) same
+    ∙ ap (left_at ring) is
+
+-- no record more that a port wrote
+sent_none : (tallies : List Tallies) (port : ℕ) → sent_at port 0 tallies ≡ tallies
+sent_none [] port = refl
+sent_none (t ∷ tallies) zero = ap (λ n. record t { sent = n } ∷ tallies) (add-zero t.sent)
+sent_none (t ∷ tallies) (suc port) = ap (λ l. t ∷ l) (sent_none tallies port)
+
+pub drops : (s : Scheme) (core core' : Core) (space : SpaceView) (turns : ℕ) (tallies : List Tallies) (left : List ℕ) (e : EngineState) (port : ℕ)
+    → engine_of s core space turns tallies left ≡ e → core' ≡ moved (with_outbox port [] core.state) core
+    → engine_of s core' space turns tallies left ≡ drained port 0 e
+drops s core core' space turns tallies left e port is becomes =
+    ap (λ m. engine_of s m space turns tallies left) becomes
+    ∙ ap (λ l. engine_of s (moved (with_outbox port [] core.state) core) space turns l left) (sym (sent_none tallies port))
+    ∙ ap (drained port 0) is
+
+pub dropped_kept : (s : Scheme) (core : Core) (space : SpaceView) (turns : ℕ) (tallies : List Tallies) (left : List ℕ) (port : ℕ)
+    → IsEngine s core space turns tallies left → port < length s.setting.env.ports
+    → IsEngine s (moved (with_outbox port [] core.state) core) space turns tallies left
+dropped_kept s core space turns tallies left port is lt =
+    let (packets, box) = box_at s core space turns tallies left is port lt in
+    subst (λ l. IsEngine s (moved (with_outbox port [] core.state) core) space turns l left) (sent_none tallies port)
+    (sent_kept s core space turns tallies left is port 0 packets (port_within s core space turns tallies left is port lt) box (omega arith))
+
+-- ---- the first places, and all
+
+-- so many lists are emptied
+abbrev pub emptied_to : ℕ → List (List Packet) → List (List Packet)
+emptied_to zero lists = lists
+emptied_to (suc n) [] = []
+emptied_to (suc n) (l ∷ lists) = [] ∷ emptied_to n lists
+
+-- and so many counts are added
+abbrev pub added_to : ℕ → List ℕ → List (List Packet) → List ℕ
+added_to zero left rings = left
+added_to (suc n) [] rings = []
+added_to (suc n) (x ∷ left) [] = x ∷ left
+added_to (suc n) (x ∷ left) (r ∷ rings) = (x + length r) ∷ added_to n left rings
+
+emptied_next : (n : ℕ) (lists : List (List Packet)) → slice_set (emptied_to n lists) n [] ≡ emptied_to (suc n) lists
+emptied_next zero [] = refl
+emptied_next zero (l ∷ lists) = refl
+emptied_next (suc n) [] = refl
+emptied_next (suc n) (l ∷ lists) = ap (λ k. [] ∷ k) (emptied_next n lists)
+
+emptied_all : (n : ℕ) (lists : List (List Packet)) → length lists ≤ n → emptied_to n lists ≡ map (λ _. []) lists
+emptied_all zero [] le = refl
+emptied_all zero (l ∷ lists) le = absurd (omega (arith, le))
+emptied_all (suc n) [] le = refl
+emptied_all (suc n) (l ∷ lists) le = ap (λ k. [] ∷ k) (emptied_all n lists (omega (arith, le)))
+
+added_next : (n : ℕ) (left : List ℕ) (rings : List (List Packet)) → n < length rings
+    → slice_set (added_to n left rings) n (slice_index_or (added_to n left rings) n 0 + slice_index_or (map length (emptied_to n rings)) n 0)
+    ≡ added_to (suc n) left rings
+added_next zero left [] lt = absurd (omega (arith, lt))
+added_next zero [] (r ∷ rings) lt = refl
+added_next zero (x ∷ left) (r ∷ rings) lt = refl
+added_next (suc n) left [] lt = absurd (omega (arith, lt))
+added_next (suc n) [] (r ∷ rings) lt = refl
+added_next (suc n) (x ∷ left) (r ∷ rings) lt = ap (λ l. (x + length r) ∷ l) (added_next n left rings (omega (arith, lt)))
+
+added_all : (n : ℕ) (left : List ℕ) (rings : List (List Packet)) → length rings ≤ n → added_to n left rings ≡ with_left left (map length rings)
+added_all zero [] [] le = refl
+added_all zero (x ∷ left) [] le = refl
+added_all zero left (r ∷ rings) le = absurd (omega (arith, le))
+added_all (suc n) [] rings le = refl
+added_all (suc n) (x ∷ left) [] le = refl
+added_all (suc n) (x ∷ left) (r ∷ rings) le = ap (λ l. (x + length r) ∷ l) (added_all n left rings (omega (arith, le)))
+
+-- an engine of which the first rings are emptied, and what was left in them counted
+abbrev pub left_to : ℕ → EngineState → EngineState
+left_to n e = record e { world = record e.world { rings = emptied_to n e.world.rings }; left = added_to n e.left e.world.rings }
+
+-- and an engine of which the first transmit lists are emptied
+abbrev pub dropped_to : ℕ → EngineState → EngineState
+dropped_to n e = record e { world = record e.world { outboxes = emptied_to n e.world.outboxes } }
+
+pub left_next : (n : ℕ) (e : EngineState) → n < length e.world.rings → left_at n (left_to n e) ≡ left_to (suc n) e
+left_next n e lt =
+    ap (λ l. record e {
+      world = record e.world { rings = l };
+      left = slice_set (added_to n e.left e.world.rings) n
+          (slice_index_or (added_to n e.left e.world.rings) n 0 + slice_index_or (map length (emptied_to n e.world.rings)) n 0);
+    }) (emptied_next n e.world.rings)
+    ∙ ap (λ l. record e { world = record e.world { rings = emptied_to (suc n) e.world.rings }; left = l }) (added_next n e.left e.world.rings lt)
+
+pub dropped_next : (n : ℕ) (e : EngineState) → drained n 0 (dropped_to n e) ≡ dropped_to (suc n) e
+dropped_next n e =
+    ap (λ l. record e { world = record e.world { outboxes = l }; tallies = sent_at n 0 e.tallies }) (emptied_next n e.world.outboxes)
+    ∙ ap (λ l. record e { world = record e.world { outboxes = emptied_to (suc n) e.world.outboxes }; tallies = l }) (sent_none e.tallies n)
+
+pub all_flushed : (rings ports : ℕ) (e : EngineState) → length e.world.rings ≤ rings → length e.world.outboxes ≤ ports
+    → dropped_to ports (left_to rings e) ≡ flushed e
+all_flushed rings ports e le lp =
+    let f = emptied_all rings e.world.rings le in
+    let g = emptied_all ports e.world.outboxes lp in
+    let h = added_all rings e.left e.world.rings le in
+    rw (f, g, h) refl
+
+pub nothing_lives : (e : EngineState) → live (between (flushed e).world) ≡ []
+nothing_lives e =
+    let r : segments_listed (map (λ _. []) e.world.rings) ≡ [] = nothing_listed e.world.rings in
+    let b : segments_listed (map (λ _. []) e.world.outboxes) ≡ [] = nothing_listed e.world.outboxes in
+    rw (r, b) refl

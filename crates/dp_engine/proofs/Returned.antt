@@ -1,0 +1,26 @@
+-- Zones come back to a space.
+use Rattle.std.proofs.Common.{◌≡◌, ℕ, ◌+◌, ap, ◌∙◌}
+use Rattle.dp_heap.specs.Elements.{merged, count_of, is_busy}
+use Rattle.dp_heap.specs.Laid.{HeapView}
+use Rattle.dp_engine.specs.Spaces.{SpaceView, Returns}
+use Rattle.dp_engine.specs.Stacks.{size_of}
+use Rattle.dp_engine.proofs.StackLemmas.{merged_size}
+
+abbrev pub seen : HeapView → SpaceView
+seen h = record { home = h.home; size = size_of h.elements; out = count_of is_busy h.elements }
+
+pub one_back : (old new : HeapView) (v : SpaceView) (place : ℕ) → seen old ≡ v → new ≡ record { home = old.home; elements = merged place old.elements }
+    → count_of is_busy new.elements + 1 ≡ count_of is_busy old.elements → Returns 1 v (seen new)
+one_back old new v place view is counted = record {
+  home = ap (λ (h : HeapView). h.home) is ∙ ap (λ (x : SpaceView). x.home) view;
+  size = ap (λ (h : HeapView). size_of h.elements) is ∙ merged_size place old.elements ∙ ap (λ (x : SpaceView). x.size) view;
+  out = counted ∙ ap (λ (x : SpaceView). x.out) view;
+}
+
+pub two_back : (old new : HeapView) (v : SpaceView) (place next : ℕ) → seen old ≡ v → new ≡ record { home = old.home; elements = merged place (merged next old.elements) }
+    → count_of is_busy new.elements + 2 ≡ count_of is_busy old.elements → Returns 2 v (seen new)
+two_back old new v place next view is counted = record {
+  home = ap (λ (h : HeapView). h.home) is ∙ ap (λ (x : SpaceView). x.home) view;
+  size = ap (λ (h : HeapView). size_of h.elements) is ∙ merged_size place (merged next old.elements) ∙ merged_size next old.elements ∙ ap (λ (x : SpaceView). x.size) view;
+  out = counted ∙ ap (λ (x : SpaceView). x.out) view;
+}

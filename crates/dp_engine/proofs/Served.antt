@@ -1,0 +1,332 @@
+-- Node runs of a plan: on a record, and on packets that wait in rings.
+use Rattle.std.proofs.Common.{◌≡◌, ℕ, zero, suc, ◌+◌, ◌-◌, ◌*◌, ◌<◌, ◌≤◌, Bool, true, false, List, [], ◌∷◌, ◌++◌, length, Option, Some, None}
+use Rattle.std.proofs.Common.{refl, sym, ◌∙◌, ap, subst, arith, append_assoc}
+use Rattle.std.specs.Prelude.{slice_get, slice_index_or, option_map, MatchOption}
+use Rattle.std.specs.List.{AllByRecursion}
+use Rattle.std.proofs.lemmas.Option.{same_Some, slice_get_within, slice_get-get_or}
+use Rattle.dp_model.specs.declared.env.Entry.{Entry}
+use Rattle.dp_model.specs.declared.env.Entry.TheVariants.{Port, Ring}
+use Rattle.dp_model.specs.declared.env.PortSpec.{PortSpec}
+use Rattle.dp_model.specs.declared.instr.Instr.{Instr}
+use Rattle.dp_model.specs.Environments.{Environment, room_at}
+use Rattle.dp_model.specs.Packets.{Packet, needed, received, Filled, AreFresh}
+use Rattle.dp_model.specs.Machine.{Setting, World, State, live, At, is_denied}
+use Rattle.dp_model.specs.Meaning.{RingHolds}
+use Rattle.dp_model.specs.Runs.{first_state, between, Took, Receives, Waiting, behind, first_waiting, Serves, Nodes}
+use Rattle.dp_model.specs.Laws.{Checked}
+use Rattle.dp_model.specs.Safety.{IsAtRest, BeginsWell, Beginning, IsPipeline}
+use Rattle.dp_model.proofs.Kept.{get_within, zip_back}
+use Rattle.dp_model.proofs.EnvLemmas.{segs_small}
+use Rattle.dp_model.proofs.Begin.{waits}
+use Rattle.dp_model.proofs.NodeRuns.{goes_known, begins_known, accepted_is_sound}
+use Rattle.dp_model.proofs.Soundness.{acts_place}
+use Rattle.dp_model.proofs.SafeTurns.{record_begins, waiting_begins, waiting_safe, safe_rests}
+use Rattle.dp_lpm.specs.Routes.{RouteTable}
+use Rattle.dp_engine.specs.declared.run.NodeRun as took
+use Rattle.dp_engine.specs.Handles.{Core, moved}
+use Rattle.dp_engine.specs.Schemes.{Scheme}
+use Rattle.dp_engine.specs.Serving.{ServesOne, Rests}
+use Rattle.dp_engine.specs.Steps.{setting_of, routes_of, CanRun, Runs}
+use Rattle.dp_engine.specs.Tallies.{held_count, listed_count, packet_count}
+use Rattle.dp_engine.specs.Turns.{IsReceived}
+
+-- ---- a setting by its parts
+
+pub setting_is : (c : Setting) (env : Environment) (tables : List RouteTable) (pattern : List ℕ) → env ≡ c.env → routes_of tables ≡ c.tables
+    → pattern ≡ c.pattern → setting_of env tables pattern ≡ c
+setting_is c env tables pattern is_env is_tables is_pattern = rw (is_env, is_tables, is_pattern) refl
+
+-- ---- a node run
+
+-- on a packet that the entry's row describes
+can_run : (c : Setting) (entry : Entry) (program : List Instr) (k : Packet) (number : ℕ) (w : World) (node : Checked c.env entry program)
+    → BeginsWell c node.question k number w → CanRun c program (first_state k number w)
+can_run c entry program k number w node well =
+    let q = node.question in
+    let env = sym node.env_is in
+    let start = begins_known c q k number w node.accepted well.begins in
+    let sound = accepted_is_sound c q k number w node.accepted well.begins in
+    subst (λ p. CanRun c p (first_state k number w)) node.program_is (record {
+      first = refl;
+      eight = refl;
+      never_stuck = sound.never_stuck;
+      leads = λ n label told s' i m goes here acts.
+          let (at, within, place) = goes_known c q env node.accepted n 0 (first_state k number w) told (At label) s' start goes in
+          acts_place c q label at.0 s' env node.accepted at.1 at.2 within i m here acts;
+    })
+
+-- ---- a record
+
+-- what is known of a port
+pub record AtPort (c : Setting) (nodes : Nodes) (port : ℕ) (spec : PortSpec) : Type 0 where
+  pub spec_is : slice_get c.env.ports port ≡ Some spec
+  pub program : List Instr
+  pub program_is : slice_get nodes.ports port ≡ Some program
+  pub room : 129 ≤ room_at c.env.pools spec.pool
+  pub segs : spec.segs ≤ 64
+
+pub at_port : (c : Setting) (nodes : Nodes) (ports : List PortSpec) (port : ℕ) (d : PortSpec) → IsPipeline c nodes → ports ≡ c.env.ports
+    → port < length c.env.ports → AtPort c nodes port (slice_index_or ports port d)
+at_port c nodes ports port d pipeline same less =
+    let spec = slice_index_or ports port d in
+    let long : length ports ≡ length c.env.ports = ap length same in
+    let is_spec : slice_get c.env.ports port ≡ Some spec = subst (λ l. slice_get l port ≡ Some spec) same
+    (slice_get-get_or ports port d (omega (arith, long, less))) in
+    let (program, is_program) = get_within nodes.ports port (omega (arith, less, pipeline.ports)) in
+    record {
+      spec_is = is_spec;
+      program = program;
+      program_is = is_program;
+      room = pipeline.checked.rooms port spec is_spec;
+      segs = segs_small c.env port spec.segs pipeline.limits (ap (option_map (λ (p : PortSpec). p.segs)) is_spec);
+    }
+
+-- what was received with one setting was received with each of the same environment
+pub received_with : (c d : Setting) (pool port : ℕ) (bytes : List ℕ) (w : World) (s : State) → d.env ≡ c.env → IsReceived d pool port bytes w s
+    → IsReceived c pool port bytes w s
+received_with c d pool port bytes w s same r = record {
+  numbers = r.numbers;
+  buffers = r.buffers;
+  fresh = subst (λ (e : Environment). AreFresh e.pools (live (between w)) pool (needed e.pools pool (length bytes)) r.numbers) same r.fresh;
+  filled = subst (λ (e : Environment). Filled r.numbers (received (room_at e.pools pool) r.numbers (length bytes)) bytes w.buffers r.buffers) same r.filled;
+  state = subst (λ (e : Environment). s ≡ first_state (received (room_at e.pools pool) r.numbers (length bytes)) port
+      (record w { buffers = r.buffers; calls = w.calls + 1 })) same r.state;
+}
+
+-- the node run of a received record
+pub record Received (c : Setting) (program : List Instr) (port : ℕ) (spec : PortSpec) (bytes : List ℕ) (w : World) (s : State) : Type 0 where
+  pub can_run : CanRun c program s
+  pub receives : is_denied c (between w) spec.pool (needed c.env.pools spec.pool (length bytes)) ≡ false → (s' : State) → Runs c program s s'
+      → (told : List Bool) × Receives c program port spec bytes w told s'.world
+
+pub received_is : (c : Setting) (nodes : Nodes) (program : List Instr) (port : ℕ) (spec : PortSpec) (bytes : List ℕ) (w : World) (s : State)
+    → IsPipeline c nodes → slice_get c.env.ports port ≡ Some spec → slice_get nodes.ports port ≡ Some program → IsAtRest c w
+    → needed c.env.pools spec.pool (length bytes) ≤ spec.segs → IsReceived c spec.pool port bytes w s → Received c program port spec bytes w s
+received_is c nodes program port spec bytes w s pipeline is_spec is_program rest fits r =
+    let node = pipeline.checked.ports port program is_program in
+    let w1 : World = record w { buffers = r.buffers; calls = w.calls + 1 } in
+    let k : Packet = received (room_at c.env.pools spec.pool) r.numbers (length bytes) in
+    let well = record_begins c node.question port spec bytes w r.numbers r.buffers (sym node.env_is) node.entry_is is_spec
+    (pipeline.checked.rooms port spec is_spec) pipeline.limits rest fits r.fresh r.filled in
+    subst (Received c program port spec bytes w) (sym r.state) (record {
+      can_run = can_run c (Port port) program k port w1 node well;
+      receives = λ allowed s' (n, told, goes). (
+        true ∷ told,
+        record {
+          fits = fits;
+          given = allowed;
+          numbers = r.numbers;
+          buffers = r.buffers;
+          fresh = r.fresh;
+          packet = k;
+          packet_is = refl;
+          filled = r.filled;
+          later = told;
+          told_is = refl;
+          run = (n, s', goes, refl);
+        },
+      );
+    })
+
+-- ---- a packet that waits
+
+-- what is served next
+pub record Next (c : Setting) (nodes : Nodes) (m m' : Core) (ring : ℕ) : Type 0 where
+  pub next : Waiting
+  pub waits : first_waiting m.state.world.rings ≡ Some next
+  pub ring_is : next.ring ≡ ring
+  pub taken : m' ≡ moved (first_state next.packet next.ring (record m.state.world { rings = next.rings })) m
+  pub there : ring < length c.env.rings
+
+-- what is told of a machine from which one is taken
+abbrev IsTaken : Core → Core → ℕ → Option Waiting → Type 0
+IsTaken m m' ring o =
+    MatchOption o ((Some ring ≡ None) × (m' ≡ m))
+    (λ (w : Waiting). (Some ring ≡ Some w.ring) × (m' ≡ moved (first_state w.packet w.ring (record m.state.world { rings = w.rings })) m))
+
+pub next_is : (c : Setting) (nodes : Nodes) (m m' : Core) (ring : ℕ) → IsAtRest c m.state.world → IsTaken m m' ring (first_waiting m.state.world.rings)
+    → Next c nodes m m' ring
+next_is c nodes m m' ring rest = go (first_waiting m.state.world.rings) refl
+  where
+    within : (next : Waiting) → first_waiting m.state.world.rings ≡ Some next → next.ring < length c.env.rings
+    within next e =
+        let w = m.state.world in
+        let (packets, there, _) = waits w.rings next e in
+        let (spec, is_ring, _) = zip_back (RingHolds c.env.pools (live (between w))) c.env.rings w.rings next.ring (next.packet ∷ packets)
+        rest.ready.world.rings there in
+        slice_get_within c.env.rings next.ring spec is_ring
+
+    go : (o : Option Waiting) → first_waiting m.state.world.rings ≡ o → IsTaken m m' ring o → Next c nodes m m' ring
+    go None e (never, _) = cc
+    go (Some next) e (same, is) =
+        let ring_is : next.ring ≡ ring = sym (same_Some ring next.ring same) in
+        record { next = next; waits = e; ring_is = ring_is; taken = is; there = omega (arith, ring_is, within next e) }
+
+-- its node can run on it
+pub next_runs : (c : Setting) (nodes : Nodes) (program : List Instr) (m m' : Core) (ring : ℕ) → IsPipeline c nodes → slice_get nodes.rings ring ≡ Some program
+    → IsAtRest c m.state.world → Next c nodes m m' ring → CanRun c program m'.state
+next_runs c nodes program m m' ring pipeline is_program rest n =
+    let here : slice_get nodes.rings n.next.ring ≡ Some program = ap (slice_get nodes.rings) n.ring_is ∙ is_program in
+    let node = pipeline.checked.rings n.next.ring program here in
+    subst (λ (x : Core). CanRun c program x.state) (sym n.taken)
+    (can_run c (Ring n.next.ring) program n.next.packet n.next.ring (record m.state.world { rings = n.next.rings }) node
+    (waiting_begins c node.question n.next m.state.world (pipeline.checked.facts n.next.ring) (sym node.env_is) node.entry_is n.waits rest))
+
+-- and that is a node run
+pub next_serves : (s : Scheme) (program : List Instr) (m m' m2 : Core) (ring : ℕ) (run : took.NodeRun) → slice_get s.nodes.rings ring ≡ Some program
+    → (n : Next s.setting s.nodes m m' ring) → Runs s.setting program m'.state m2.state → Took m'.state.world m2.state.world run.steps run.cuts
+    → ServesOne s m.state.world (Some run) m2.state.world
+next_serves s program m m' m2 ring run is_program n runs took =
+    let (k, told, goes) = subst (λ (x : Core). Runs s.setting program x.state m2.state) n.taken runs in
+    let t = subst (λ (x : Core). Took x.state.world m2.state.world run.steps run.cuts) n.taken took in (
+      n.next,
+      program,
+      told,
+      n.waits,
+      ap (slice_get s.nodes.rings) n.ring_is ∙ is_program,
+      (k, m2.state, goes, refl),
+      record { steps_are = t.steps_are; cuts_are = t.cuts_are },
+    )
+
+-- after it the next can follow
+pub served_rests : (s : Scheme) (m m' : Core) (run : took.NodeRun) → IsPipeline s.setting s.nodes → IsAtRest s.setting m.state.world
+    → ServesOne s m.state.world (Some run) m'.state.world → IsAtRest s.setting m'.state.world
+served_rests s m m' run pipeline rest (next, program, told, e, is_program, is_run, _) =
+    let w : World = record m.state.world { rings = next.rings } in
+    let b : Beginning = record { entry = Ring next.ring; program = program; packet = next.packet; number = next.ring; world = w } in
+    safe_rests s.setting b told m'.state.world (waiting_safe s.setting s.nodes next program m.state.world pipeline rest e is_program) is_run
+
+-- no packet comes or goes as it is taken
+listed_waiting : (rings : List (List Packet)) (next : Waiting) → first_waiting rings ≡ Some next → listed_count next.rings + 1 ≡ listed_count rings
+listed_waiting [] next h = cc
+listed_waiting ([] ∷ rings) next h = go (first_waiting rings) refl h (listed_waiting rings)
+  where
+    go : (o : Option Waiting) → first_waiting rings ≡ o → option_map (behind []) o ≡ Some next
+        → ((w : Waiting) → first_waiting rings ≡ Some w → listed_count w.rings + 1 ≡ listed_count rings)
+        → listed_count next.rings + 1 ≡ 0 + listed_count rings
+    go None e h others = cc
+    go (Some w) e h others =
+        let same : 0 + listed_count w.rings ≡ listed_count next.rings = ap (λ (x : Waiting). listed_count x.rings) (same_Some (behind [] w) next h) in
+        omega (arith, same, others w e)
+listed_waiting ((k ∷ packets) ∷ rings) next h =
+    let same : length packets + listed_count rings ≡ listed_count next.rings = ap (λ (x : Waiting). listed_count x.rings)
+    (same_Some (record { ring = 0; packet = k; rings = packets ∷ rings }) next h) in
+    omega (arith, same)
+
+pub idle_count : (packets : List (Option Packet)) → AllByRecursion (λ o. o ≡ None) packets → held_count packets ≡ 0
+idle_count [] all = refl
+idle_count (None ∷ packets) all = idle_count packets all.1
+idle_count (Some k ∷ packets) all = let never = all.0 in cc
+
+pub next_count : (c : Setting) (nodes : Nodes) (m m' : Core) (ring : ℕ) → AllByRecursion (λ o. o ≡ None) m.state.packets → Next c nodes m m' ring
+    → packet_count m'.state ≡ packet_count m.state
+next_count c nodes m m' ring idle n =
+    let e : packet_count m'.state ≡ packet_count (first_state n.next.packet n.next.ring
+    (record m.state.world { rings = n.next.rings })) = ap (λ (x : Core). packet_count x.state) n.taken in
+    omega (arith, e, idle_count m.state.packets idle, listed_waiting m.state.world.rings n.next n.waits)
+
+-- ---- one after the other
+
+where_none : (A : Type 0) (B : Waiting → Type 0) (o : Option Waiting) → o ≡ None → A → MatchOption o A B
+where_none A B None e a = a
+where_none A B (Some w) e a = cc
+
+where_some : (A : Type 0) (B : Waiting → Type 0) (o : Option Waiting) (next : Waiting) → o ≡ Some next → B next → MatchOption o A B
+where_some A B None next e b = cc
+where_some A B (Some w) next e b = subst B (sym (same_Some w next e)) b
+
+-- where none waits, none is served
+serves_none : (c : Setting) (programs : List (List Instr)) (n : ℕ) (w : World) → first_waiting w.rings ≡ None → Serves c programs n w [] 0 w
+serves_none c programs zero w none = (refl, refl, refl)
+serves_none c programs (suc n) w none = where_none _ _ (first_waiting w.rings) none (refl, refl, refl)
+
+-- where one waits, it is served first
+serves_one : (s : Scheme) (n : ℕ) (w mid w' : World) (run : took.NodeRun) (later : List Bool) (more : ℕ) → (o : ServesOne s w (Some run) mid)
+    → Serves s.setting s.nodes.rings n mid later more w' → Serves s.setting s.nodes.rings (suc n) w (o.2 ++ later) (more + 1) w'
+serves_one s n w mid w' run later more (next, program, now, e, is_program, is_run, _) serves =
+    where_some _ _ (first_waiting w.rings) next e (program, now, later, mid, more, is_program, is_run, serves, refl, refl)
+
+-- what was served in the first i rounds
+pub record Rounds (s : Scheme) (m0 m : Core) (i runs steps cuts : ℕ) : Type 0 where
+  pub told : List Bool
+  pub serves : (later : List Bool) (more : ℕ) (w : World) → Serves s.setting s.nodes.rings (32 - i) m.state.world later more w
+      → Serves s.setting s.nodes.rings 32 m0.state.world (told ++ later) (runs + more) w
+  pub took : Took m0.state.world m.state.world steps cuts
+  pub few_runs : runs ≤ i
+  pub few_steps : steps ≤ runs * 263168
+  pub few_cuts : cuts ≤ i
+  pub calls : m.state.world.calls ≤ m0.state.world.calls + i * 263168
+  pub packets : packet_count m.state + m0.state.world.calls ≤ packet_count m0.state + m.state.world.calls
+  pub rests : Rests s m
+  pub frames : m.frames ≡ m0.frames
+
+pub no_round : (s : Scheme) (m : Core) → Rests s m → Rounds s m m 0 0 0 0
+no_round s m rests = record {
+  told = [];
+  serves = λ later more w serves. subst (λ n. Serves s.setting s.nodes.rings 32 m.state.world later n w) (omega arith) serves;
+  took = record { steps_are = omega arith; cuts_are = omega arith };
+  few_runs = omega arith;
+  few_steps = omega arith;
+  few_cuts = omega arith;
+  calls = omega arith;
+  packets = omega arith;
+  rests = rests;
+  frames = refl;
+}
+
+-- what one round keeps
+pub record Round (s : Scheme) (m m' : Core) : Type 0 where
+  pub calls : m'.state.world.calls ≤ m.state.world.calls + 263168
+  pub packets : packet_count m'.state + m.state.world.calls ≤ packet_count m.state + m'.state.world.calls
+  pub rests : Rests s m'
+  pub frames : m'.frames ≡ m.frames
+
+pub one_round : (s : Scheme) (m0 m m' : Core) (i runs steps cuts : ℕ) (run : took.NodeRun) → i < 32 → Rounds s m0 m i runs steps cuts
+    → ServesOne s m.state.world (Some run) m'.state.world → run.steps ≤ 263168 → run.cuts ≤ 1 → Round s m m'
+    → Rounds s m0 m' (i + 1) (runs + 1) (steps + run.steps) (cuts + run.cuts)
+one_round s m0 m m' i runs steps cuts run less r o few_steps few_cuts k =
+    let t : Took m.state.world m'.state.world run.steps run.cuts = o.6 in
+    record {
+      told = r.told ++ o.2;
+      serves = λ later more w serves.
+          let one : Serves s.setting s.nodes.rings (suc (32 - (i + 1))) m.state.world (o.2 ++ later) (more + 1) w = serves_one s
+          (32 - (i + 1)) m.state.world m'.state.world w run later more o serves in
+          let left : suc (32 - (i + 1)) ≡ 32 - i = omega (arith, less) in
+          let sum : runs + (more + 1) ≡ (runs + 1) + more = omega arith in
+          let all = r.serves (o.2 ++ later) (more + 1) w (subst (λ n. Serves s.setting s.nodes.rings n m.state.world (o.2 ++ later) (more + 1) w) left one) in
+          subst (λ n. Serves s.setting s.nodes.rings 32 m0.state.world ((r.told ++ o.2) ++ later) n w) sum
+          (subst (λ l. Serves s.setting s.nodes.rings 32 m0.state.world l (runs + (more + 1)) w) (sym (append_assoc r.told o.2 later)) all);
+      took = record { steps_are = omega (arith, r.took.steps_are, t.steps_are); cuts_are = omega (arith, r.took.cuts_are, t.cuts_are) };
+      few_runs = omega (arith, r.few_runs);
+      few_steps = omega (arith, r.few_steps, few_steps);
+      few_cuts = omega (arith, r.few_cuts, few_cuts);
+      calls = omega (arith, r.calls, k.calls);
+      packets = omega (arith, r.packets, k.packets);
+      rests = k.rests;
+      frames = k.frames ∙ r.frames;
+    }
+
+-- the rounds that there were are what is served
+rounds_end : (s : Scheme) (m0 m : Core) (i runs steps cuts : ℕ) (w : World) → Rounds s m0 m i runs steps cuts
+    → Serves s.setting s.nodes.rings (32 - i) m.state.world [] 0 w → (told : List Bool) × Serves s.setting s.nodes.rings 32 m0.state.world told runs w
+rounds_end s m0 m i runs steps cuts w r last =
+    (r.told ++ [], subst (λ n. Serves s.setting s.nodes.rings 32 m0.state.world (r.told ++ []) n w) (omega arith) (r.serves [] 0 w last))
+
+-- because none waits any more
+pub rounds_none : (s : Scheme) (m0 m : Core) (i runs steps cuts : ℕ) (w : World) → Rounds s m0 m i runs steps cuts → ServesOne s m.state.world None w
+    → (told : List Bool) × Serves s.setting s.nodes.rings 32 m0.state.world told runs w
+rounds_none s m0 m i runs steps cuts w r (none, is) =
+    rounds_end s m0 m i runs steps cuts w r (subst (Serves s.setting s.nodes.rings (32 - i) m.state.world [] 0) (sym is)
+    (serves_none s.setting s.nodes.rings (32 - i) m.state.world none))
+
+pub none_of : (s : Scheme) (w w' : World) (o : Option took.NodeRun) → ((x : took.NodeRun) → o ≡ Some x → ⊥) → ServesOne s w o w' → ServesOne s w None w'
+none_of s w w' None none is = is
+none_of s w w' (Some run) none is = absurd (none run refl)
+
+-- or because there were 32
+pub rounds_all : (s : Scheme) (m0 m : Core) (i runs steps cuts : ℕ) → 32 ≤ i → Rounds s m0 m i runs steps cuts
+    → (told : List Bool) × Serves s.setting s.nodes.rings 32 m0.state.world told runs m.state.world
+rounds_all s m0 m i runs steps cuts all r =
+    let none : 0 ≡ 32 - i = omega (arith, all) in
+    rounds_end s m0 m i runs steps cuts m.state.world r (subst (λ n. Serves s.setting s.nodes.rings n m.state.world [] 0 m.state.world) none
+    (refl, refl, refl))

@@ -1,0 +1,130 @@
+-- Places for rings, and the rings that stand in them.
+use Rattle.std.proofs.Common.{◌≡◌, ℕ, zero, suc, ◌+◌, ◌<◌, ◌≤◌, cond, Bool, true, false, List, [], ◌∷◌, length, Option, Some, None, refl, sym, ◌∙◌, ap, subst, arith, get_or, set, drop, ltb}
+use Rattle.std.specs.Prelude.{is_none, unwrap_or, slice_get, IsSome, IfSome, IfNone}
+use Rattle.std.specs.List.{AllByRecursion, position, position_from, position_or_len}
+use Rattle.std.proofs.lemmas.List.{length-set, set-get_or}
+use Rattle.std.proofs.lemmas.Bool.{ltb-true}
+use Rattle.std.proofs.lemmas.List.Sums.{passes_at_first}
+use Rattle.std.proofs.lemmas.Option.{none-some}
+use Rattle.std.proofs.lemmas.Iterator.Adapters.{position_from-zero}
+use Rattle.dp_ring.specs.Rings.{RingView, without_first}
+use Rattle.dp_engine.specs.Queues.{rings_in, RingsFirst, no_ring, ring_at, is_waiting, ring_of, slot_is_waiting}
+
+pub rings_below : (slots : List (Option RingView)) → length (rings_in slots) ≤ length slots
+rings_below [] = omega arith
+rings_below (None ∷ slots) = omega arith
+rings_below (Some r ∷ slots) = let rest = rings_below slots in omega (arith, rest)
+
+pub ring_there : (slots : List (Option RingView)) (k : ℕ) (d : Option RingView) → k < length (rings_in slots) → get_or slots k d ≡ Some (ring_at (rings_in slots) k)
+ring_there [] k d there = absurd (omega arith)
+ring_there (None ∷ slots) k d there = absurd (omega arith)
+ring_there (Some r ∷ slots) zero d there = refl
+ring_there (Some r ∷ slots) (suc k) d there = ring_there slots k d (omega arith)
+
+set_in : (slots : List (Option RingView)) (k : ℕ) (r : RingView) → k < length (rings_in slots) → rings_in (set slots k (Some r)) ≡ set (rings_in slots) k r
+set_in [] k r there = absurd (omega arith)
+set_in (None ∷ slots) k r there = absurd (omega arith)
+set_in (Some q ∷ slots) zero r there = refl
+set_in (Some q ∷ slots) (suc k) r there = ap (λ rs. q ∷ rs) (set_in slots k r (omega arith))
+
+first_set : (slots : List (Option RingView)) (k : ℕ) (r : RingView) → RingsFirst slots → k < length (rings_in slots) → RingsFirst (set slots k (Some r))
+first_set [] k r first there = absurd (omega arith)
+first_set (None ∷ slots) k r first there = absurd (omega arith)
+first_set (Some q ∷ slots) zero r first there = first
+first_set (Some q ∷ slots) (suc k) r first there = first_set slots k r first (omega arith)
+
+-- ---- the first place of a kind
+
+filled_from : (slots : List (Option RingView)) (i : ℕ) → unwrap_or (position_from is_none i slots) (i + length slots) ≡ i + length (rings_in slots)
+filled_from [] i = refl
+filled_from (None ∷ slots) i = omega arith
+filled_from (Some r ∷ slots) i =
+    let more : i + suc (length slots) ≡ i + 1 + length slots = omega arith in
+    let same : i + 1 + length (rings_in slots) ≡ i + suc (length (rings_in slots)) = omega arith in
+    ap (unwrap_or (position_from is_none (i + 1) slots)) more ∙ (filled_from slots (i + 1) ∙ same)
+
+none_from : (slots : List (Option RingView)) (i : ℕ) → AllByRecursion (λ o. o ≡ None) slots → position_from slot_is_waiting i slots ≡ None
+none_from [] i all = refl
+none_from (None ∷ slots) i all = none_from slots (i + 1) all.1
+none_from (Some r ∷ slots) i all = absurd (none-some r (sym all.0))
+
+waiting_from : (slots : List (Option RingView)) (i : ℕ) → RingsFirst slots → position_from slot_is_waiting i slots ≡ position_from is_waiting i (rings_in slots)
+waiting_from [] i first = refl
+waiting_from (None ∷ slots) i first = none_from slots (i + 1) first
+waiting_from (Some r ∷ slots) i first = ap (cond (is_waiting r) (Some i)) (waiting_from slots (i + 1) first)
+
+-- ---- rings by their numbers
+
+pub set_where : (b : Bool) (rings : List RingView) (k : ℕ) (r : RingView) → set rings k (cond b r (ring_at rings k)) ≡ cond b (set rings k r) rings
+set_where true rings k r = refl
+set_where false rings k r = set-get_or rings k no_ring
+
+-- without its first entry a list without entries is as it was
+no_first : (entries : List ℕ) → slice_get entries 0 ≡ None → drop 1 entries ≡ entries
+no_first [] none = refl
+no_first (e ∷ entries) none = absurd (none-some e (sym none))
+
+pub kept : (rings : List RingView) (k : ℕ) (result : Option ℕ) (rings' : List RingView) → result ≡ slice_get (ring_at rings k).entries 0 → rings' ≡ set rings k (without_first (ring_at rings k) 1) → IfNone result (rings' ≡ rings)
+kept rings k None rings' first rest =
+    let r : RingView = ring_at rings k in
+    rest
+    ∙ (ap (λ es. set rings k (record r { entries = es })) (no_first r.entries (sym first)) ∙ set-get_or rings k no_ring)
+kept rings k (Some e) rings' first rest = tt
+
+-- the first that waits is one, and it waits
+pub waits_there : (rings : List RingView) (result : Option ℕ) → result ≡ position is_waiting rings → IfSome result (λ k. k < length rings) × IfSome result (λ k. is_waiting (ring_at rings k) ≡ true)
+waits_there rings result is = subst (λ o. IfSome o (λ k. k < length rings) × IfSome o (λ k. is_waiting (ring_at rings k) ≡ true)) (sym is) (cases (ltb (position_or_len is_waiting rings) (length rings)) refl)
+  where
+    cases : (b : Bool) → ltb (position_or_len is_waiting rings) (length rings) ≡ b → IfSome (cond b (Some (position_or_len is_waiting rings)) None) (λ k. k < length rings) × IfSome (cond b (Some (position_or_len is_waiting rings)) None) (λ k. is_waiting (ring_at rings k) ≡ true)
+    cases false not' = (tt, tt)
+    cases true there =
+        let within : position_or_len is_waiting rings < length rings = ltb-true _ _ there in
+        (within, passes_at_first is_waiting rings no_ring within)
+
+-- ---- a struct's places
+
+module _ (slots : List (Option RingView)) (rings : List RingView) (same : rings_in slots ≡ rings) (inv : (length slots ≡ 8) × RingsFirst slots) where
+  pub listed : (k : ℕ) → k < length rings → (k < length slots) × (k < 8)
+  listed k there =
+      let b : length (rings_in slots) ≤ length slots = rings_below slots in
+      let e : length (rings_in slots) ≡ length rings = ap length same in
+      (omega (arith, b, e, there), omega (arith, b, e, there, inv.0))
+
+  filled_at : (k : ℕ) (d : Option RingView) → k < length rings → get_or slots k d ≡ Some (ring_at rings k)
+  filled_at k d there =
+      subst (λ rs. get_or slots k d ≡ Some (ring_at rs k)) same (ring_there slots k d (subst (λ rs. k < length rs) (sym same) there))
+
+  pub has_ring : (k : ℕ) (d : Option RingView) → k < length rings → IsSome (get_or slots k d)
+  has_ring k d there = subst IsSome (sym (filled_at k d there)) refl
+
+  pub counted : unwrap_or (position is_none slots) 8 ≡ length rings
+  counted =
+      let long : 8 ≡ 0 + length slots = omega (arith, inv.0) in
+      let many : 0 + length (rings_in slots) ≡ length rings = omega (arith, ap length same) in
+      ap (λ o. unwrap_or o 8) (position_from-zero is_none slots)
+      ∙ (ap (unwrap_or (position_from is_none 0 slots)) long ∙ (filled_from slots 0 ∙ many))
+
+  pub at_most : length rings ≤ 8
+  at_most = omega (arith, rings_below slots, ap length same, inv.0)
+
+  pub waiting : position slot_is_waiting slots ≡ position is_waiting rings
+  waiting =
+      position_from-zero slot_is_waiting slots
+      ∙ (waiting_from slots 0 inv.1 ∙ (sym (position_from-zero is_waiting (rings_in slots)) ∙ ap (position is_waiting) same))
+
+  -- the ring of a place is the one of that number
+  pub ring_is : (k : ℕ) (d : Option RingView) → k < length rings → ring_of (get_or slots k d) ≡ ring_at rings k
+  ring_is k d there = ap ring_of (filled_at k d there)
+
+  -- what is left of the rings where one of them has changed
+  pub changed : (k : ℕ) (d o : Option RingView) (f : RingView → RingView) → k < length rings → o ≡ Some (f (ring_of (get_or slots k d))) → ((length (set slots k o) ≡ 8) × RingsFirst (set slots k o)) × (rings_in (set slots k o) ≡ set rings k (f (ring_at rings k)))
+  changed k d o f there is =
+      let inside : k < length (rings_in slots) = subst (λ rs. k < length rs) (sym same) there in
+      let now : o ≡ Some (f (ring_at rings k)) = is ∙ ap (λ r. Some (f r)) (ring_is k d there) in (
+        (
+          length-set slots k o ∙ inv.0,
+          subst (λ x. RingsFirst (set slots k x)) (sym now) (first_set slots k (f (ring_at rings k)) inv.1 inside),
+        ),
+        ap (λ x. rings_in (set slots k x)) now
+            ∙ (set_in slots k (f (ring_at rings k)) inside ∙ ap (λ rs. set rs k (f (ring_at rings k))) same),
+      )

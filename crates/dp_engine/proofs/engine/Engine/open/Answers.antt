@@ -1,0 +1,53 @@
+-- What was laid out is at its start.
+use Rattle.std.proofs.Common.{◌≡◌, ◌*◌, List, [], length, replicate, sym, ◌∙◌, ap, subst}
+use Rattle.dp_ring.specs.Rings.{RingView}
+use Rattle.dp_model.specs.Environments.{Environment}
+use Rattle.dp_engine.specs.Handles.{Core}
+use Rattle.dp_engine.specs.Queues.{rings_in}
+use Rattle.dp_engine.specs.Schemes.{Scheme, scheme_of}
+use Rattle.dp_engine.specs.Engines.{IsEngine, IsOpened, engine_of, no_tallies}
+use Rattle.dp_engine.proofs.Opening.{first_core, no_slots, engine_first, is_opened}
+use Rattle.dp_engine.proofs.Parts.{rings_first, without_entry}
+use Rattle.dp_engine.proofs.engine.Engine.open.Goals as goal
+
+pub over-requires : goal.over-requires
+over-requires c = rings_first c.args.region.home _ c.in-Ok.opened.1.rings c.in-Ok.ensures.opened.rings
+
+pub over-requires-2 : goal.over-requires-2
+over-requires-2 c = rings_first c.args.region.home _ c.in-Ok.opened.1.lists c.in-Ok.ensures.opened.lists
+
+pub over-machine-requires-clause-none : goal.over-machine-requires-clause-none
+over-machine-requires-clause-none c h = no_slots c.over-mbufs.result.store.slots (65536 * length c.over-mbufs.result.store.pools) h c.over-mbufs.ensures.empty
+
+pub over-machine-requires-clause-rings : goal.over-machine-requires-clause-rings
+over-machine-requires-clause-rings c = rw (c.over.ensures) (without_entry c.args.region.home _ c.in-Ok.opened.1.rings c.in-Ok.ensures.opened.rings)
+
+pub over-machine-requires-clause-outboxes : goal.over-machine-requires-clause-outboxes
+over-machine-requires-clause-outboxes c = rw (c.over-2.ensures) (without_entry c.args.region.home _ c.in-Ok.opened.1.lists c.in-Ok.ensures.opened.lists)
+
+pub invariant_of-result : goal.invariant_of-result
+invariant_of-result c =
+    let parts = c.in-Ok.opened.1 in
+    let core : c.over-machine.result ≡ first_core c.over-mbufs.result (rings_in parts.rings) (rings_in parts.lists) =
+    c.over-machine.ensures ∙ (ap (λ (rs : List RingView). first_core c.over-mbufs.result rs c.over-2.result) c.over.ensures ∙ ap
+    (λ (ls : List RingView). first_core c.over-mbufs.result (rings_in parts.rings) ls) c.over-2.ensures) in
+    let env : c.new-plan.result.setting.env ≡ c.args.env.now = ap (λ (s : Scheme). s.setting.env) c.new-plan.ensures ∙ c.copy.ensures in
+    subst (λ (core : Core). IsEngine c.new-plan.result core c.in-Ok.opened.0 0 (replicate 8 no_tallies) (replicate 8 0)) (sym core)
+    (engine_first c.args.region.home (length c.args.region.bytes) c.args.env.now c.in-Ok.opened.0 parts c.over-mbufs.result c.in-Ok.ensures.opened
+    c.over-mbufs.ensures c.is_well_formed.ensures.world c.new-plan.result env c.env-env.ensures.pipeline.limits c.env-env.ensures.tables)
+
+pub returns-clause-opened : goal.returns-clause-opened
+returns-clause-opened c =
+    let parts = c.in-Ok.opened.1 in
+    let first = first_core c.over-mbufs.result (rings_in parts.rings) (rings_in parts.lists) in
+    let core : c.over-machine.result ≡ first =
+    c.over-machine.ensures ∙ (ap (λ (rs : List RingView). first_core c.over-mbufs.result rs c.over-2.result) c.over.ensures ∙ ap
+    (λ (ls : List RingView). first_core c.over-mbufs.result (rings_in parts.rings) ls) c.over-2.ensures) in
+    let plan : c.new-plan.result ≡ scheme_of c.args.env.now c.args.tables.items c.args.nodes.items [] =
+    c.new-plan.ensures ∙ ap (λ (e : Environment). scheme_of e c.args.tables.items c.args.nodes.items []) c.copy.ensures in
+    let Opened : Scheme → Core → Type 0 = λ s core. IsOpened c.args.region.home (length c.args.region.bytes) c.args.env.now c.args.tables.items
+    c.args.nodes.items (engine_of s core c.in-Ok.opened.0 0 (replicate 8 no_tallies) (replicate 8 0)) in
+    subst (λ (core : Core). Opened c.new-plan.result core) (sym core)
+    (subst (λ (s : Scheme). Opened s first) (sym plan)
+    (is_opened c.args.region.home (length c.args.region.bytes) c.args.env.now c.in-Ok.opened.0 parts c.over-mbufs.result c.in-Ok.ensures.opened
+    c.over-mbufs.ensures c.is_well_formed.ensures.world c.args.tables.items c.args.nodes.items))

@@ -1,0 +1,16 @@
+use Rattle.std.proofs.Common.{[], ◌≡◌, ◌≤◌, ℕ, List, Some, subst}
+use Rattle.std.specs.Prelude.{slice_get}
+use Rattle.std.specs.List.{AllByRecursion}
+use Rattle.dp_model.specs.Prefixes.{Route}
+use Rattle.dp_model.specs.Rules.{Question}
+use Rattle.dp_lpm.specs.Routes.{RouteTable}
+use Rattle.dp_check.specs.Faults.{IsChecked}
+use Rattle.dp_engine.proofs.Pipelines.{plan_of}
+use Rattle.dp_engine.proofs.plan.Plan.new.Goals as goal
+
+pub invariant_of-result : goal.invariant_of-result
+invariant_of-result c =
+    plan_of c.args.env c.args.tables.items c.args.nodes.items [] c.within_limits.ensures c.requires.nodes c.requires.tables
+    (subst (λ (qs : List Question). (k : ℕ) (q : Question) → slice_get qs k ≡ Some q → IsChecked q) c.as_slice-2.ensures.value c.tell_checked.ensures)
+    (subst (λ (ts : List RouteTable). (k : ℕ) (t : RouteTable) → slice_get ts k ≡ Some t → AllByRecursion
+    (λ (route : Route). route.hop ≤ 16777215) t.routes) c.as_slice.ensures.value c.tell_hops.ensures)

@@ -1,0 +1,27 @@
+use Rattle.std.proofs.Common.{◌%◌, ap, refl, sym, subst, ◌∙◌, arith, List, length, ℕ}
+use Rattle.dp_heap.specs.declared.elements.Element.{Element}
+use Rattle.dp_heap.specs.Elements.{rounded, NothingFits, Taken}
+use Rattle.dp_zone.specs.Zones.{Reserved}
+use Rattle.dp_engine.proofs.Stacking.{stack_new, new_fits, table_more}
+use Rattle.dp_engine.proofs.stack.Stack.over.Goals as goal
+
+pub reserve-spare-requires-clause-room : goal.reserve-spare-requires-clause-room
+reserve-spare-requires-clause-room c = λ none.
+    new_fits (length c.args.region.bytes) c.args.len (ap (λ (n : ℕ). n % 64) (sym c.size-size.ensures.value) ∙ c.size-size.ensures.range.2) c.requires.room
+    (subst (λ (es : List Element). NothingFits (rounded c.args.len) 64 es) c.new-heap.ensures.one none)
+
+pub invariant_of-result : goal.invariant_of-result
+invariant_of-result c =
+    let r = c.reserve-spare.ensures in let none = c.new-heap.ensures.counted in let one = r.counted in let more = table_more c.new-zones.result c.reserve-spare.new.zones _ r.names in let empty = ap (λ (t : List Reserved). length t) c.new-zones.ensures in
+    (stack_new (length c.args.region.bytes) c.args.len c.reserve-spare.result.place c.reserve-spare.new.heap c.reserve-spare.new.zones c.reserve-spare.result
+    (ap (λ (n : ℕ). n % 64) (sym c.size-size.ensures.value) ∙ c.size-size.ensures.range.2) c.requires.room
+    (subst (λ (es : List Element). Taken es (rounded c.args.len) 64 c.reserve-spare.result.place c.reserve-spare.new.heap.elements) c.new-heap.ensures.one r.taken)
+    refl r.zone.1 (r.zone.0 ∙ sym r.home) (omega (arith, one, none)) (omega (arith, more, empty))).0
+
+pub returns-clause-left : goal.returns-clause-left
+returns-clause-left c =
+    let r = c.reserve-spare.ensures in let none = c.new-heap.ensures.counted in let one = r.counted in let more = table_more c.new-zones.result c.reserve-spare.new.zones _ r.names in let empty = ap (λ (t : List Reserved). length t) c.new-zones.ensures in
+    (stack_new (length c.args.region.bytes) c.args.len c.reserve-spare.result.place c.reserve-spare.new.heap c.reserve-spare.new.zones c.reserve-spare.result
+    (ap (λ (n : ℕ). n % 64) (sym c.size-size.ensures.value) ∙ c.size-size.ensures.range.2) c.requires.room
+    (subst (λ (es : List Element). Taken es (rounded c.args.len) 64 c.reserve-spare.result.place c.reserve-spare.new.heap.elements) c.new-heap.ensures.one r.taken)
+    refl r.zone.1 (r.zone.0 ∙ sym r.home) (omega (arith, one, none)) (omega (arith, more, empty))).1

@@ -1,0 +1,150 @@
+-- What an engine is, how it begins, and what its calls do.
+use Rattle.std.specs.Prelude.{◌≡◌, ℕ, ◌+◌, ◌*◌, ◌≤◌, List, [], ◌∷◌, length, map, replicate, slice_index_or, slice_set, None}
+use Rattle.std.specs.List.{AllByRecursion}
+use Rattle.dp_region.specs.Ownership.{Home}
+use Rattle.dp_region.specs.declared.region.Region.{Region}
+use Rattle.dp_pool.specs.Pools.{PoolZones}
+use Rattle.dp_ring.specs.Rings.{RingView}
+use Rattle.dp_lpm.specs.Routes.{RouteTable}
+use Rattle.dp_model.specs.Environments.{Environment, fault_of}
+use Rattle.dp_model.specs.Packets.{Packet}
+use Rattle.dp_model.specs.Rules.{Question}
+use Rattle.dp_model.specs.Machine.{Setting, World}
+use Rattle.dp_model.specs.Runs as runs
+use Rattle.dp_model.specs.Runs.{Nodes, with_empty_outboxes, with_empty_rings, left_in_rings}
+use Rattle.dp_model.specs.Starts.{IsStart}
+use Rattle.dp_engine.specs.declared.report.Tallies.{Tallies}
+use Rattle.dp_engine.specs.Handles.{Frames, Core}
+use Rattle.dp_engine.specs.Schemes.{Scheme, scheme_of}
+use Rattle.dp_engine.specs.Serving.{Rests}
+use Rattle.dp_engine.specs.Spaces.{SpaceView}
+use Rattle.dp_engine.specs.Tallies.{counted, packet_count}
+
+-- what contracts see of an engine: what stays, its programs, its world, what it has counted of each port and each ring (eight
+-- places, of which the first are in use), and its region
+pub record EngineState : Type 0 where
+  pub setting : Setting
+  pub nodes : Nodes
+  pub world : World
+  pub turns : ℕ
+  pub tallies : List Tallies
+  pub left : List ℕ
+  pub home : Home
+  pub size : ℕ
+
+abbrev pub engine_of : Scheme → Core → SpaceView → ℕ → List Tallies → List ℕ → EngineState
+engine_of s core space turns tallies left = record {
+  setting = s.setting;
+  nodes = s.nodes;
+  world = core.state.world;
+  turns = turns;
+  tallies = tallies;
+  left = left;
+  home = space.home;
+  size = space.size;
+}
+
+-- ---- what is true of every engine
+
+-- the sum of some count over the ports
+abbrev pub over_ports : (Tallies → ℕ) → List Tallies → ℕ
+over_ports f [] = 0
+over_ports f (t ∷ tallies) = f t + over_ports f tallies
+
+abbrev pub records_of : Tallies → ℕ
+records_of t = t.received + t.nobuf + t.oversize
+
+abbrev pub sent_by : Tallies → ℕ
+sent_by t = t.sent
+
+abbrev pub sum : List ℕ → ℕ
+sum [] = 0
+sum (n ∷ ns) = n + sum ns
+
+-- pools, rings and transmit lists stand in zones of the space, and in no others
+pub record StandIn (space : SpaceView) (frames : Frames) : Type 0 where
+  pub pools : AllByRecursion (λ (z : PoolZones). z.home ≡ space.home) frames.zones
+  pub rings : AllByRecursion (λ (r : RingView). r.home ≡ space.home) frames.rings
+  pub outboxes : AllByRecursion (λ (r : RingView). r.home ≡ space.home) frames.outboxes
+  pub out : 2 * length frames.zones + length frames.rings + length frames.outboxes ≡ space.out
+
+-- its environment is within the limits; a turn has 33 node runs at most, each of 257 times 1,024 steps at most; each step and
+-- each record make at most one allocation call, and each packet that was sent or left comes from one
+pub record IsEngine (s : Scheme) (core : Core) (space : SpaceView) (turns : ℕ) (tallies : List Tallies) (left : List ℕ) : Type 0 where
+  pub within : fault_of s.setting.env ≡ None
+  pub rests : Rests s core
+  pub stand : StandIn space core.frames
+  pub limit : turns ≤ 134217728
+  pub ports : length tallies ≡ 8
+  pub rings : length left ≡ 8
+  pub records : over_ports records_of tallies ≤ turns
+  pub calls : core.state.world.calls ≤ turns * 8684545
+  pub cuts : core.state.world.cuts ≤ turns * 33
+  pub packets : over_ports sent_by tallies + sum left + packet_count core.state ≤ core.state.world.calls
+
+-- ---- how it begins
+
+abbrev pub no_tallies : Tallies
+no_tallies = record { received = 0; nobuf = 0; oversize = 0; sent = 0 }
+
+-- an engine before its first turn, in a region of so many bytes: no call is refused, no packet is there, nothing is counted
+pub record IsOpened (home : Home) (size : ℕ) (env : Environment) (tables : List RouteTable) (questions : List Question) (e : EngineState) : Type 0 where
+  pub setting : e.setting ≡ (scheme_of env tables questions []).setting
+  pub nodes : e.nodes ≡ (scheme_of env tables questions []).nodes
+  pub start : IsStart env e.world
+  pub turns : e.turns ≡ 0
+  pub tallies : e.tallies ≡ replicate 8 no_tallies
+  pub left : e.left ≡ replicate 8 0
+  pub home_is : e.home ≡ home
+  pub size_is : e.size ≡ size
+
+-- numbers in ascending order, each above the one before
+abbrev pub IsAscending : ℕ → List ℕ → Type 0
+IsAscending least [] = Unit {0}
+IsAscending least (n ∷ ns) = (least + 1 ≤ n) × IsAscending n ns
+
+-- ---- what its calls do
+
+abbrev pub tallies_at : List Tallies → ℕ → Tallies
+tallies_at tallies port = slice_index_or tallies port no_tallies
+
+-- one record more at a port, of which that became
+abbrev pub counted_at : ℕ → runs.Outcome → List Tallies → List Tallies
+counted_at port outcome tallies = slice_set tallies port (counted outcome (tallies_at tallies port))
+
+-- so many records more that a port wrote whole
+abbrev pub sent_at : ℕ → ℕ → List Tallies → List Tallies
+sent_at port sent tallies =
+    slice_set tallies port (record (tallies_at tallies port) { sent = (tallies_at tallies port).sent + sent })
+
+-- an engine behind the drain of a port that wrote so many records whole
+abbrev pub drained : ℕ → ℕ → EngineState → EngineState
+drained port sent e = record e {
+  world = record e.world { outboxes = slice_set e.world.outboxes port [] };
+  tallies = sent_at port sent e.tallies;
+}
+
+-- an engine of which one ring was emptied, and what was left there counted
+abbrev pub left_at : ℕ → EngineState → EngineState
+left_at ring e = record e {
+  world = record e.world { rings = slice_set e.world.rings ring [] };
+  left = slice_set e.left ring (slice_index_or e.left ring 0 + slice_index_or (left_in_rings e.world) ring 0);
+}
+
+-- each count, with that of a ring added where there is one
+abbrev pub with_left : List ℕ → List ℕ → List ℕ
+with_left [] counts = []
+with_left (n ∷ ns) [] = n ∷ ns
+with_left (n ∷ ns) (x ∷ counts) = (n + x) ∷ with_left ns counts
+
+-- an engine behind a flush: nothing waits, and what waited in rings is counted as left there
+abbrev pub flushed : EngineState → EngineState
+flushed e = record e {
+  world = with_empty_rings (with_empty_outboxes e.world);
+  left = with_left e.left (left_in_rings e.world);
+}
+
+-- no packet waits anywhere
+pub record IsFlushed (e : EngineState) : Type 0 where
+  pub rings : AllByRecursion (λ (packets : List Packet). packets ≡ []) e.world.rings
+  pub outboxes : AllByRecursion (λ (packets : List Packet). packets ≡ []) e.world.outboxes

@@ -1,0 +1,49 @@
+-- How many bytes an engine needs.
+use Rattle.std.specs.Prelude.{ℕ, zero, suc, ◌+◌, ◌*◌, nat_lt, if◌then◌else◌, List, [], ◌∷◌, map}
+use Rattle.dp_model.specs.declared.env.PoolSpec.{PoolSpec}
+use Rattle.dp_model.specs.Environments.{Environment}
+use Rattle.dp_heap.specs.Elements.{rounded}
+use Rattle.dp_pool.specs.Making.{object_len}
+
+-- p, doubled until it is above n, at most so many times
+abbrev pub doubled_past : ℕ → ℕ → ℕ → ℕ
+doubled_past n p zero = p
+doubled_past n p (suc most) = if nat_lt n p then p else doubled_past n (2 * p) most
+
+-- the least power of two above n
+unfoldable pub power_above : ℕ → ℕ
+power_above n = doubled_past n 1 n
+
+-- what a zone takes: a header, and its length rounded up
+abbrev pub zone_bytes : ℕ → ℕ
+zone_bytes len = 64 + rounded len
+
+-- how long the zones of a pool are: that of its objects, each a header of 128 bytes and a data room, and that of its queue
+abbrev pub objects_len : PoolSpec → ℕ
+objects_len s = object_len s.count (s.room + 128)
+
+abbrev pub queue_len : PoolSpec → ℕ
+queue_len s = 4 * power_above s.count
+
+-- what a pool takes, and what a ring of so many places does
+abbrev pub pool_bytes : PoolSpec → ℕ
+pool_bytes s = zone_bytes (objects_len s) + zone_bytes (queue_len s)
+
+abbrev pub ring_bytes : ℕ → ℕ
+ring_bytes count = zone_bytes (4 * count)
+
+-- the sum of f over a list
+abbrev pub total : {X : Type 0} → (X → ℕ) → List X → ℕ
+total f [] = 0
+total f (x ∷ xs) = f x + total f xs
+
+-- how many places the rings have, and the transmit lists of the ports
+abbrev pub ring_counts : Environment → List ℕ
+ring_counts e = map (λ r. r.count) e.rings
+
+abbrev pub list_counts : Environment → List ℕ
+list_counts e = map (λ p. p.queue) e.ports
+
+-- what all of them take
+abbrev pub bytes_needed : Environment → ℕ
+bytes_needed e = total pool_bytes e.pools + total ring_bytes (ring_counts e) + total ring_bytes (list_counts e)

@@ -1,0 +1,51 @@
+-- The rings of an engine, by their numbers.
+use Rattle.std.specs.Prelude.{◌≡◌, ℕ, ◌==◌, Bool, false, not, List, [], ◌∷◌, length, Option, Some, None, slice_index_or}
+use Rattle.std.specs.List.{AllByRecursion}
+use Rattle.dp_ring.specs.Rings.{RingView}
+
+-- ---- places for rings
+
+-- the rings of a list of places for them, of which the first are filled
+abbrev pub rings_in : List (Option RingView) → List RingView
+rings_in [] = []
+rings_in (None ∷ slots) = []
+rings_in (Some r ∷ slots) = r ∷ rings_in slots
+
+-- the filled places come first
+abbrev pub RingsFirst : List (Option RingView) → Type 0
+RingsFirst [] = Unit {0}
+RingsFirst (None ∷ slots) = AllByRecursion (λ o. o ≡ None) slots
+RingsFirst (Some r ∷ slots) = RingsFirst slots
+
+-- ---- rings by their numbers
+
+-- where there is no ring
+abbrev pub no_ring : RingView
+no_ring = record {
+  count = 0;
+  entries = [];
+  name = [];
+  home = record { block = 0; start = 0; rights = 0 };
+  place = 0;
+  len = 0;
+}
+
+-- the ring of this number
+abbrev pub ring_at : List RingView → ℕ → RingView
+ring_at rings k = slice_index_or rings k no_ring
+
+-- whether a ring has an entry
+abbrev pub is_waiting : RingView → Bool
+is_waiting r = not (length r.entries == 0)
+
+-- ---- a place for a ring
+
+-- its ring
+abbrev pub ring_of : Option RingView → RingView
+ring_of None = no_ring
+ring_of (Some r) = r
+
+-- whether there is a ring with an entry
+abbrev pub slot_is_waiting : Option RingView → Bool
+slot_is_waiting None = false
+slot_is_waiting (Some r) = is_waiting r

@@ -1,0 +1,57 @@
+-- The space of an engine: a heap in a region, and what stands in its zones.
+use Rattle.std.specs.Prelude.{◌≡◌, ℕ, ◌+◌, ◌≤◌, false, if◌then◌else◌, List, [], ◌∷◌, length, Option, None, Some, IfSome, is_some, replicate}
+use Rattle.std.specs.List.{AllByRecursion}
+use Rattle.dp_region.specs.Ownership.{Home}
+use Rattle.dp_ring.specs.Rings.{RingView}
+use Rattle.dp_pool.specs.Pools.{PoolView, IsPool}
+use Rattle.dp_model.specs.declared.env.PoolSpec.{PoolSpec}
+
+-- what a contract sees of a space: its region, how many bytes that has, and how many zones are out
+pub record SpaceView : Type 0 where
+  pub home : Home
+  pub size : ℕ
+  pub out : ℕ
+
+-- so many zones of it have come back
+pub record Returns (n : ℕ) (old new : SpaceView) : Type 0 where
+  pub home : new.home ≡ old.home
+  pub size : new.size ≡ old.size
+  pub out : new.out + n ≡ old.out
+
+-- the first places hold, in order, what P says of the first list; the others are empty
+abbrev pub Fills : {X V : Type 0} → (X → V → Type 0) → X → Option V → Type 0
+Fills P x None = ⊥
+Fills P x (Some v) = P x v
+
+abbrev pub AreFilled : {X V : Type 0} → (X → V → Type 0) → List X → List (Option V) → Type 0
+AreFilled P [] slots = AllByRecursion (λ o. o ≡ None) slots
+AreFilled P (x ∷ xs) [] = ⊥
+AreFilled P (x ∷ xs) (o ∷ slots) = Fills P x o × AreFilled P xs slots
+
+-- an empty ring of so many places, in a zone of the region
+pub record IsNewRing (home : Home) (count : ℕ) (r : RingView) : Type 0 where
+  pub count_is : r.count ≡ count
+  pub empty : r.entries ≡ []
+  pub home_is : r.home ≡ home
+
+-- a pool for mbufs as it is wanted, all of them in, in zones of the region
+pub record IsNewPool (home : Home) (s : PoolSpec) (p : PoolView) : Type 0 where
+  pub pool : IsPool p
+  pub size : p.size ≡ s.room + 128
+  pub room : s.room ≤ 4096
+  pub count_is : length p.objects ≡ s.count
+  pub cache_is : p.cache ≡ s.cache
+  pub all_in : p.out ≡ replicate s.count false
+  pub home_is : p.zones.home ≡ home
+
+-- how many places are filled
+abbrev pub filled : {V : Type 0} → List (Option V) → ℕ
+filled [] = 0
+filled (o ∷ slots) = (if is_some o then 1 else 0) + filled slots
+
+-- the rings stand in zones of the region, and so do the pools
+abbrev pub RingsIn : Home → List (Option RingView) → Type 0
+RingsIn home slots = AllByRecursion (λ o. IfSome o (λ r. r.home ≡ home)) slots
+
+abbrev pub PoolsIn : Home → List (Option PoolView) → Type 0
+PoolsIn home slots = AllByRecursion (λ o. IfSome o (λ p. p.zones.home ≡ home)) slots

@@ -1,0 +1,70 @@
+-- A heap whose zones are taken from the top down: one free element at the bottom, and busy ones above it.
+use Rattle.std.specs.Prelude.{◌≡◌, ℕ, ◌+◌, ◌-◌, ◌%◌, ◌<◌, ◌≤◌, ◌⊎◌, false, List, [], ◌∷◌, length, map}
+use Rattle.dp_region.specs.Ownership.{Home}
+use Rattle.dp_heap.specs.declared.elements.Element.{Element}
+use Rattle.dp_heap.specs.declared.elements.State.TheVariants.{Free, Busy}
+use Rattle.dp_heap.specs.Elements.{is_free, is_busy, data_of, sum_of, count_of, Taken}
+use Rattle.dp_heap.specs.Laid.{HeapView}
+use Rattle.dp_zone.specs.Zones.{ZoneView, Reserved}
+
+-- what contracts see of such a heap: the region, how many bytes it has and how many of them are left at the bottom, the
+-- names of the zones that are out, and how long the spare one is, which lies at the top
+pub record StackView : Type 0 where
+  pub home : Home
+  pub size : ℕ
+  pub left : ℕ
+  pub names : List (List ℕ)
+  pub spare : ℕ
+
+-- the free element of so many bytes at the bottom
+abbrev pub bottom : ℕ → Element
+bottom size = record { place = 0; size = size; state = Free; pad = 0 }
+
+-- the element of a block of n bytes that lie right behind its header
+abbrev pub block_at : ℕ → ℕ → Element
+block_at place n = record { place = place; size = 64 + n; state = Busy; pad = 0 }
+
+-- they are busy, and the last of them is t, above the others' data
+abbrev pub LieUnder : Element → List Element → Type 0
+LieUnder t [] = ⊥
+LieUnder t (e ∷ []) = e ≡ t
+LieUnder t (e ∷ x ∷ es) = (is_free e ≡ false) × (data_of e < data_of t) × LieUnder t (x ∷ es)
+
+-- one free element at the bottom, and busy ones above it up to t
+abbrev pub IsStacked : Element → List Element → Type 0
+IsStacked t [] = ⊥
+IsStacked t (e ∷ es) = (e ≡ bottom e.size) × (e.size % 64 ≡ 0) × (e.size < data_of t) × LieUnder t es
+
+-- how many bytes the lowest has
+abbrev pub left_in : List Element → ℕ
+left_in [] = 0
+left_in (e ∷ es) = e.size
+
+-- how many bytes there are in all
+abbrev pub size_of : List Element → ℕ
+size_of es = sum_of (λ e. e.size) es
+
+-- e is one of them
+abbrev pub Has : Element → List Element → Type 0
+Has e [] = ⊥
+Has e (x ∷ xs) = (x ≡ e) ⊎ Has e xs
+
+-- the names in a table
+abbrev pub names_of : List Reserved → List (List ℕ)
+names_of table = map (λ r. r.name) table
+
+-- true of a heap, a table and a spare zone at the top
+pub record IsStack (heap : HeapView) (table : List Reserved) (spare : ZoneView) : Type 0 where
+  pub home : spare.home ≡ heap.home
+  pub even : spare.place % 64 ≡ 0
+  pub high : 64 ≤ spare.place
+  pub stacked : IsStacked (block_at (spare.place - 64) (length spare.bytes)) heap.elements
+  pub counted : count_of is_busy heap.elements ≡ length table
+
+-- a block of n bytes is taken, and then one of m bytes
+pub record TakesTwo (old : List Element) (n m : ℕ) (new : List Element) : Type 0 where
+  pub mid : List Element
+  pub place : ℕ
+  pub next : ℕ
+  pub first : Taken old n 64 place mid
+  pub second : Taken mid m 64 next new

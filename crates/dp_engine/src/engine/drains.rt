@@ -1,0 +1,81 @@
+//! Drains of an engine: transmit lists are written to captures, and what is left is given up.
+ghost use Rattle.std.specs.Prelude.{◌≡◌, ◌+◌, ◌<◌, ◌≤◌, [], false, length, flat_map, take, MatchResult, IfOk, IfErr, IsOk, IsErr, IsTrue};
+ghost use Rattle.std.specs.Io.KnownBytes.{Appends};
+ghost use Rattle.dp_model.specs.Machine.{live};
+ghost use Rattle.dp_model.specs.Runs.{between};
+ghost use Rattle.dp_pcap.specs.Text.{record_text};
+ghost use Rattle.dp_engine.specs.Drains.{Written, WrotePart, IsCalledFor};
+ghost use Rattle.dp_engine.specs.Outcomes.{sent_of};
+ghost use Rattle.dp_engine.specs.Engines.{drained, left_at, flushed};
+
+use crate::engine::{Engine, WriteFault};
+use dp_pcap::{Sink, Time, Unit};
+
+impl Engine {
+    /// Writes the records of a port's transmit list at that time, first to last, in the spelling of classic pcap 2.4, and gives
+    /// up its packets, also where the writer fails. Answers how many records were written; an error tells how many were
+    /// written whole before the writer failed.
+    pub fn drain<W: Sink>(
+        &mut self,
+        port: u8,
+        time: Time,
+        unit: Unit,
+        w: &mut W,
+    ) -> Result<u32, WriteFault>
+        requires exists { port < length self.old.setting.env.ports }
+        requires nano { time.nano < 1000000000 }
+        ensures ok { IfOk result (λ sent. Written unit time port self.old.world (λ records. (sent ≡ length records) × Appends (W.contents w.old) (W.contents w.new) (flat_map (record_text unit) records))) }
+        ensures err { IfErr result (λ fault. Written unit time port self.old.world (λ records. WrotePart (W.contents w.old) (W.contents w.new) unit records fault.sent)) }
+        ensures broken { IsErr result → IsTrue (W.is_broken w.new) }
+        ensures sound { IsOk result → W.is_broken w.old ≡ false → W.is_broken w.new ≡ false }
+        ensures empty { self.new ≡ drained port (sent_of result) self.old }
+        ensures counted { Written unit time port self.old.world (λ records. IsCalledFor (W.calls w.old) (W.calls w.new) unit (take (sent_of result + 1) records)) }
+        ensures failures { MatchResult result (λ _. W.failures w.new ≡ W.failures w.old) (λ _. W.failures w.new ≡ W.failures w.old + 1) }
+    {
+        let outcome = self.machine.put_all(port, time, unit, w);
+        self.machine.clear_sent(port);
+        match outcome {
+            Ok(sent) => {
+                self.tallies[port as usize].sent += sent as u64;
+                Ok(sent)
+            }
+            Err(sent) => {
+                self.tallies[port as usize].sent += sent as u64;
+                Err(WriteFault { sent })
+            }
+        }
+    }
+
+    // Gives up what is left in a ring, and counts it.
+    fn leave(&mut self, ring: u8)
+        requires { ring < length self.old.setting.env.rings }
+        ensures { self.new ≡ left_at ring self.old }
+    {
+        self.left[ring as usize] += self.machine.waiting(ring) as u64;
+        self.machine.clear_left(ring);
+    }
+
+    // Gives up what is left in a transmit list.
+    fn drop_sent(&mut self, port: u8)
+        requires { port < length self.old.setting.env.ports }
+        ensures { self.new ≡ drained port 0 self.old }
+    {
+        self.machine.clear_sent(port);
+    }
+
+    /// Gives up all packets that are left in rings and transmit lists; those in rings are counted as left. Every buffer is free
+    /// then.
+    pub fn flush(&mut self)
+        ensures empty { self.new ≡ flushed self.old }
+        ensures free { live (between self.new.world) ≡ [] }
+    {
+        let rings = self.plan.env().rings().len();
+        let ports = self.plan.env().ports().len();
+        for ring in 0..rings as u8 {
+            self.leave(ring);
+        }
+        for port in 0..ports as u8 {
+            self.drop_sent(port);
+        }
+    }
+}

@@ -1,0 +1,65 @@
+//! Turns of an engine.
+ghost use Rattle.std.specs.Prelude.{◌≡◌, ℕ, ◌+◌, ◌<◌, ◌≤◌, ◌*◌, Bool, List, length};
+ghost use Rattle.dp_model.specs.Runs.{Turn as IsTurn, Took, NeverStuck, runs_of};
+ghost use Rattle.dp_model.specs.Safety.{Beginning, IsOfTurn};
+ghost use Rattle.dp_engine.specs.Engines.{tallies_at, counted_at, records_of};
+ghost use Rattle.dp_engine.specs.Outcomes.{outcome_of};
+
+use crate::engine::{Engine, Outcome, Turn};
+use crate::report::Tallies;
+use crate::serving::{arrive, serve};
+
+// One record more at a port, of which that became.
+fn count(tallies: &mut [Tallies; 8], port: u8, outcome: Outcome)
+    requires there { port < 8 }
+    requires few { records_of (tallies_at tallies.old port) < 134217728 }
+    ensures { tallies.new ≡ counted_at port (outcome_of outcome) tallies.old }
+{
+    match outcome {
+        Outcome::Got => tallies[port as usize].received += 1,
+        Outcome::NoBuffer => tallies[port as usize].nobuf += 1,
+        Outcome::Oversize => tallies[port as usize].oversize += 1,
+    }
+}
+
+impl Engine {
+    /// A turn with a record of at most 262,144 bytes that came to a port which exists: it is received and the port's program
+    /// runs, or it is dropped; then up to 32 node runs follow, each on the front packet of the lowest ring that has one.
+    /// An engine takes at most 134,217,728 turns. No node run is ever stuck.
+    pub fn turn(&mut self, port: u8, bytes: &[u8]) -> Turn
+        requires exists { port < length self.old.setting.env.ports }
+        requires limit { self.old.turns < 134217728 }
+        requires size { length bytes.now ≤ 262144 }
+        ensures turn { (told : List Bool) × IsTurn self.old.setting self.old.nodes port bytes.now self.old.world (outcome_of result.outcome) result.runs told self.new.world }
+        ensures never_stuck { (b : Beginning) → IsOfTurn self.old.setting self.old.nodes port bytes.now self.old.world b → NeverStuck self.old.setting b.program b.packet b.number b.world }
+        ensures took { Took self.old.world self.new.world result.steps result.cuts }
+        ensures few { result.steps ≤ result.runs * 263168 }
+        // Each port has its transmit list.
+        ensures lists { length self.new.world.outboxes ≡ length self.new.setting.env.ports }
+        ensures rest { self.new ≡ record self.old { world = self.new.world; turns = self.old.turns + 1; tallies = counted_at port (outcome_of result.outcome) self.old.tallies } }
+    {
+        // It tells that the nodes are checked.
+        let _env = self.plan.env();
+        self.turns += 1;
+        let (outcome, own) = arrive(&self.plan, &mut self.machine, port, bytes);
+        count(&mut self.tallies, port, outcome);
+        let served = serve(&self.plan, &mut self.machine);
+        Turn {
+            outcome,
+            runs: runs_of(outcome) + served.runs,
+            cuts: own.cuts + served.cuts,
+            steps: own.steps + served.steps,
+        }
+    }
+}
+
+// How many node runs there are on what a record became.
+fn runs_of(outcome: Outcome) -> u8
+    ensures value { result ≡ runs_of (outcome_of outcome) }
+    ensures bound { result ≤ 1 }
+{
+    match outcome {
+        Outcome::Got => 1,
+        Outcome::NoBuffer | Outcome::Oversize => 0,
+    }
+}

@@ -1,0 +1,73 @@
+//! Names of an engine's zones.
+
+ghost use Rattle.std.specs.Prelude.{◌≡◌, ◌<◌, codes};
+ghost use Rattle.dp_engine.specs.Names.{numbered, pool_name, ring_name};
+
+/// Whether a ring is the transmit list of a port.
+#[derive(Clone, Copy, Debug, PartialEq, Eq)]
+pub(crate) enum Kind {
+    Port,
+    Ring,
+}
+
+// The name of a port's transmit list.
+fn port_name(k: usize) -> &'static str
+    requires { k < 8 }
+    ensures { result.now ≡ numbered (codes "port") k }
+{
+    match k {
+        0 => "port0",
+        1 => "port1",
+        2 => "port2",
+        3 => "port3",
+        4 => "port4",
+        5 => "port5",
+        6 => "port6",
+        _ => "port7",
+    }
+}
+
+// The name of a ring that is no port's.
+fn loose_name(k: usize) -> &'static str
+    requires { k < 8 }
+    ensures { result.now ≡ numbered (codes "ring") k }
+{
+    match k {
+        0 => "ring0",
+        1 => "ring1",
+        2 => "ring2",
+        3 => "ring3",
+        4 => "ring4",
+        5 => "ring5",
+        6 => "ring6",
+        _ => "ring7",
+    }
+}
+
+/// The name of the zone of the `k`-th ring of a kind.
+pub(crate) fn ring_name(kind: Kind, k: usize) -> &'static str
+    requires { k < 8 }
+    ensures { result.now ≡ ring_name kind k }
+{
+    match kind {
+        Kind::Port => port_name(k),
+        Kind::Ring => loose_name(k),
+    }
+}
+
+/// The name of the `k`-th pool, with which those of its zones begin.
+pub(crate) fn pool_name(k: usize) -> &'static str
+    requires { k < 8 }
+    ensures { result.now ≡ pool_name k }
+{
+    match k {
+        0 => "pool0",
+        1 => "pool1",
+        2 => "pool2",
+        3 => "pool3",
+        4 => "pool4",
+        5 => "pool5",
+        6 => "pool6",
+        _ => "pool7",
+    }
+}

@@ -1,0 +1,111 @@
+//! How many bytes an engine needs.
+
+ghost use Rattle.std.specs.Prelude.{◌≡◌, ◌+◌, ◌*◌, ◌<◌, ◌≤◌, true, length, map};
+ghost use Rattle.std.specs.List.{AllByRecursion};
+ghost use Rattle.dp_ring.specs.Rings.{IsCount};
+ghost use Rattle.dp_model.specs.Environments.{pool_fits};
+ghost use Rattle.dp_engine.specs.Needs.{power_above, zone_bytes, objects_len, queue_len, pool_bytes, ring_bytes, total, ring_counts, list_counts, bytes_needed};
+
+use arrayvec::ArrayVec;
+use dp_model::{Env, PoolSpec, PortSpec, RingSpec};
+
+// What a zone of so many bytes takes.
+fn zone_bytes(len: u32) -> u64
+    requires { len ≤ 1073741824 }
+    ensures { result ≡ zone_bytes len }
+{
+    64 + (len as u64 + 63) / 64 * 64
+}
+
+/// The least power of two above a number of buffers.
+#[tactic(auto, using(crate::proofs::Powers::power_is))]
+pub(crate) fn power_above(count: u32) -> u32
+    requires { count ≤ 65535 }
+    ensures value { result ≡ power_above count }
+    ensures bound { result ≤ 65536 }
+{
+    (count + 1).next_power_of_two()
+}
+
+/// How many bytes the objects of a pool take in their zone.
+pub(crate) fn objects_len(spec: PoolSpec) -> u32
+    requires { (spec.count ≤ 65535) × (spec.room ≤ 4096) }
+    ensures value { result ≡ objects_len spec }
+    ensures bound { result ≤ 276819840 }
+{
+    spec.count * ((spec.room + 128 + 63) / 64 * 64)
+}
+
+// What a pool takes.
+fn pool_bytes(spec: PoolSpec) -> u64
+    requires { (spec.count ≤ 65535) × (spec.room ≤ 4096) }
+    ensures value { result ≡ pool_bytes spec }
+    ensures bound { result ≤ 277082112 }
+{
+    zone_bytes(objects_len(spec)) + zone_bytes(4 * power_above(spec.count))
+}
+
+// What pools take.
+fn pools_bytes(specs: &[PoolSpec]) -> u64
+    requires few { length specs.now ≤ 8 }
+    requires fit { AllByRecursion (λ s. pool_fits s ≡ true) specs.now }
+    ensures value { result ≡ total pool_bytes specs.now }
+    ensures bound { result ≤ 2216656896 }
+{
+    let mut sum = 0;
+    for spec in specs.iter() {
+        sum += pool_bytes(*spec);
+    }
+    sum
+}
+
+// What rings of so many places take.
+fn rings_bytes(counts: &[u32]) -> u64
+    requires few { length counts.now ≤ 8 }
+    requires fit { AllByRecursion IsCount counts.now }
+    ensures value { result ≡ total ring_bytes counts.now }
+    ensures bound { result ≤ 2097664 }
+{
+    let mut sum = 0;
+    for count in counts.iter() {
+        sum += zone_bytes(4 * *count);
+    }
+    sum
+}
+
+/// How many places the rings have.
+pub(crate) fn ring_counts(rings: &[RingSpec]) -> ArrayVec<u32, 8>
+    requires { length rings.now ≤ 8 }
+    ensures { result.items ≡ map (λ r. r.count) rings.now }
+{
+    let mut counts = ArrayVec::new();
+    for ring in rings.iter() {
+        counts.push(ring.count);
+    }
+    counts
+}
+
+/// How many places the transmit lists of the ports have.
+pub(crate) fn list_counts(ports: &[PortSpec]) -> ArrayVec<u32, 8>
+    requires { length ports.now ≤ 8 }
+    ensures { result.items ≡ map (λ p. p.queue) ports.now }
+{
+    let mut counts = ArrayVec::new();
+    for port in ports.iter() {
+        counts.push(port.queue);
+    }
+    counts
+}
+
+/// How many bytes an engine of this environment needs: for each pool a zone of its objects and one of its queue, and for
+/// each ring and each port's transmit list one of 4 bytes a place. A zone takes 64 bytes beside its length, which is
+/// rounded up to 64.
+#[tactic(auto, using(crate::proofs::Envs::known))]
+pub fn need(env: &Env) -> u64
+    ensures { result ≡ bytes_needed env.now }
+{
+    env.within_limits();
+    let rings = ring_counts(env.rings());
+    let lists = list_counts(env.ports());
+    pools_bytes(env.pools()) + rings_bytes(rings.as_slice()) + rings_bytes(lists.as_slice())
+}

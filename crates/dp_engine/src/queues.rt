@@ -1,0 +1,158 @@
+//! Rings by their numbers.
+
+ghost use Rattle.std.specs.Prelude.{◌≡◌, ◌<◌, ◌≤◌, ◌∷◌, [], length, nat_lt, if◌then◌else◌, slice_get, slice_set, true, is_none, IsSome, IfSome, IfNone};
+ghost use Rattle.std.specs.List.{position};
+ghost use Rattle.dp_ring.specs.Rings.{room_in, with_more, without_first};
+ghost use Rattle.dp_engine.specs.Queues.{rings_in, RingsFirst, ring_at, ring_of, is_waiting, slot_is_waiting};
+
+use dp_ring::Ring;
+use std::marker::Model;
+
+/// At most eight rings of packet handles, known by their numbers from 0 on.
+pub struct Queues {
+    rings: [Option<Ring>; 8],
+}
+
+impl Model for Queues {
+    ghost use Rattle.std.specs.Prelude.{◌≡◌, List, length};
+    ghost use Rattle.dp_ring.specs.Rings.{RingView};
+    ghost use Rattle.dp_engine.specs.Queues.{rings_in, RingsFirst};
+
+    ghost Value = { List RingView };
+
+    ghost view = { λ q. rings_in q.rings };
+
+    ghost invariant = { λ q. (length q.rings ≡ 8) × RingsFirst q.rings };
+}
+
+// The first place without a ring.
+fn first_empty(slots: &[Option<Ring>]) -> Option<usize>
+    ensures { result ≡ position is_none slots.now }
+{
+    slots.iter().position(|slot| slot.is_none())
+}
+
+// The ring of this number.
+fn ring_in(rings: &[Option<Ring>; 8], k: u8) -> &Ring
+    requires { k < length (rings_in rings.now) }
+    ensures { result.now ≡ ring_at (rings_in rings.now) k }
+{
+    match &rings[k as usize] {
+        Some(ring) => ring,
+        None => unreachable!(),
+    }
+}
+
+// Puts an entry into a place's ring.
+fn push_in(slot: &mut Option<Ring>, entry: u32) -> bool
+    requires { IsSome slot.old }
+    ensures taken { result ≡ nat_lt 0 (room_in (ring_of slot.old)) }
+    ensures ring { slot.new ≡ Some (if nat_lt 0 (room_in (ring_of slot.old)) then with_more (ring_of slot.old) (entry ∷ []) else ring_of slot.old) }
+{
+    match slot {
+        Some(ring) => ring.enqueue(entry),
+        None => unreachable!(),
+    }
+}
+
+// Takes the first entry out of a place's ring.
+fn pop_in(slot: &mut Option<Ring>) -> Option<u32>
+    requires { IsSome slot.old }
+    ensures first { result ≡ slice_get (ring_of slot.old).entries 0 }
+    ensures rest { slot.new ≡ Some (without_first (ring_of slot.old) 1) }
+{
+    match slot {
+        Some(ring) => ring.dequeue(),
+        None => unreachable!(),
+    }
+}
+
+// Whether a place's ring has an entry.
+fn waits(slot: &Option<Ring>) -> bool
+    ensures { result ≡ slot_is_waiting slot.now }
+{
+    match slot {
+        Some(ring) => ring.count() != 0,
+        None => false,
+    }
+}
+
+// The first place whose ring has an entry.
+fn first_waiting(slots: &[Option<Ring>]) -> Option<usize>
+    ensures { result ≡ position slot_is_waiting slots.now }
+{
+    slots.iter().position(|slot| waits(slot))
+}
+
+impl Queues {
+    /// These rings, by their places.
+    pub fn over(rings: [Option<Ring>; 8]) -> Queues
+        requires { RingsFirst rings }
+        ensures { result ≡ rings_in rings }
+    {
+        Queues { rings }
+    }
+
+    /// How many rings there are.
+    pub fn len(&self) -> usize
+        ensures value { result ≡ length self.now }
+        ensures bound { result ≤ 8 }
+    {
+        first_empty(&self.rings).unwrap_or(8)
+    }
+
+    /// How many entries a ring has.
+    pub fn count(&self, k: u8) -> u32
+        requires { k < length self.now }
+        ensures value { result ≡ length (ring_at self.now k).entries }
+        ensures bound { result < (ring_at self.now k).count }
+    {
+        ring_in(&self.rings, k).count()
+    }
+
+    /// The i-th entry of a ring from the first, if it has so many.
+    pub fn peek(&self, k: u8, i: u32) -> Option<u32>
+        requires { k < length self.now }
+        ensures { result ≡ slice_get (ring_at self.now k).entries i }
+    {
+        ring_in(&self.rings, k).peek(i)
+    }
+
+    /// Puts an entry behind the others of a ring, or answers false where that is full.
+    pub fn push(&mut self, k: u8, entry: u32) -> bool
+        requires { k < length self.old }
+        ensures taken { result ≡ nat_lt 0 (room_in (ring_at self.old k)) }
+        ensures rings { self.new ≡ (if nat_lt 0 (room_in (ring_at self.old k)) then slice_set self.old k (with_more (ring_at self.old k) (entry ∷ [])) else self.old) }
+    {
+        push_in(&mut self.rings[k as usize], entry)
+    }
+
+    /// Takes the first entry of a ring out, if it has one.
+    pub fn pop(&mut self, k: u8) -> Option<u32>
+        requires { k < length self.old }
+        ensures first { result ≡ slice_get (ring_at self.old k).entries 0 }
+        ensures rest { self.new ≡ slice_set self.old k (without_first (ring_at self.old k) 1) }
+        ensures kept { IfNone result (self.new ≡ self.old) }
+    {
+        pop_in(&mut self.rings[k as usize])
+    }
+
+    /// The least number of a ring that has an entry, if one has.
+    pub fn first_waiting(&self) -> Option<u8>
+        ensures value { result ≡ position is_waiting self.now }
+        ensures bound { IfSome result (λ k. k < length self.now) }
+        ensures waits { IfSome result (λ k. is_waiting (ring_at self.now k) ≡ true) }
+    {
+        let k = first_waiting(&self.rings)?;
+        Some(k as u8)
+    }
+
+    /// The rings again, each at the place of its number.
+    pub fn into_rings(self) -> [Option<Ring>; 8]
+        ensures same { rings_in result ≡ self }
+        ensures first { RingsFirst result }
+    {
+        let Queues { rings } = self;
+        rings
+    }
+}

@@ -1,0 +1,121 @@
+//! What a turn does: a record comes to a port, and then packets that wait in rings are served.
+ghost use Rattle.std.specs.Prelude.{◌≡◌, ℕ, ◌+◌, ◌*◌, ◌^◌, ◌<◌, ◌≤◌, Bool, List, length, IfSome};
+ghost use Rattle.dp_model.specs.Environments.{room_at};
+ghost use Rattle.dp_model.specs.Packets.{needed as segments_needed};
+ghost use Rattle.dp_model.specs.Runs.{Serves, Took, runs_of};
+ghost use Rattle.dp_engine.specs.Outcomes.{outcome_of};
+ghost use Rattle.dp_engine.specs.Tallies.{packet_count};
+ghost use Rattle.dp_engine.specs.Serving.{ArrivesAt, ServesOne, Rests};
+
+use crate::engine::Outcome;
+use crate::machine::Machine;
+use crate::plan::Plan;
+use crate::run::{NodeRun, run};
+use dp_model::PoolSpec;
+
+// How many segments bytes need in a pool: parts of its data room behind 128 bytes of headroom, and one where there are no bytes.
+fn needed(pools: &[PoolSpec], pool: u32, len: usize) -> usize
+    requires room { 129 ≤ room_at pools.now pool }
+    requires len { len ≤ 262144 }
+    ensures { result ≡ segments_needed pools.now pool len }
+{
+    let full = pools[pool as usize].room as usize - 128;
+    // It divides only where there is more than one part.
+    if len <= full {
+        return 1;
+    }
+    1usize.max((len + (full - 1)) / full)
+}
+
+const NO_RUN: NodeRun = NodeRun { steps: 0, cuts: 0 };
+
+// What becomes of a record at a port, and the node run on it if it is received.
+pub(crate) fn arrive(plan: &Plan, m: &mut Machine, port: u8, bytes: &[u8]) -> (Outcome, NodeRun)
+    requires exists { port < length plan.now.setting.env.ports }
+    requires size { length bytes.now ≤ 262144 }
+    requires rests { Rests plan.now m.old }
+    requires few { m.old.state.world.calls + 263169 < 2 ^ 64 }
+    requires few_cuts { m.old.state.world.cuts + 1 < 2 ^ 64 }
+    ensures arrives { (told : List Bool) × ArrivesAt plan.now port bytes.now m.old.state.world (outcome_of result.0) told m.new.state.world }
+    ensures took { Took m.old.state.world m.new.state.world result.1.steps result.1.cuts }
+    ensures few_steps { result.1.steps ≤ runs_of (outcome_of result.0) * 263168 }
+    ensures few_cuts { result.1.cuts ≤ 1 }
+    // A call for the record, and one at most for each step.
+    ensures calls { m.new.state.world.calls ≤ m.old.state.world.calls + 263169 }
+    ensures packets { packet_count m.new.state + m.old.state.world.calls ≤ packet_count m.old.state + m.new.state.world.calls }
+    ensures rests { Rests plan.now m.new }
+    ensures frames { m.new.frames ≡ m.old.frames }
+{
+    let env = plan.env();
+    let spec = env.ports()[port as usize];
+    if needed(env.pools(), spec.pool, bytes.len()) > spec.segs as usize {
+        return (Outcome::Oversize, NO_RUN);
+    }
+    if !m.receive(env, plan.pattern(), spec.pool, bytes, port) {
+        return (Outcome::NoBuffer, NO_RUN);
+    }
+    let program = plan.port_program(port);
+    (
+        Outcome::Got,
+        run(m, env, plan.tables(), plan.pattern(), program),
+    )
+}
+
+// The node run on the front packet of the first ring that has one, if there is one.
+fn serve_one(plan: &Plan, m: &mut Machine) -> Option<NodeRun>
+    requires rests { Rests plan.now m.old }
+    requires few { m.old.state.world.calls + 263168 < 2 ^ 64 }
+    requires few_cuts { m.old.state.world.cuts + 1 < 2 ^ 64 }
+    ensures serves { ServesOne plan.now m.old.state.world result m.new.state.world }
+    ensures few_steps { IfSome result (λ r. (r.steps ≤ 263168) × (r.cuts ≤ 1)) }
+    ensures calls { m.new.state.world.calls ≤ m.old.state.world.calls + 263168 }
+    ensures packets { packet_count m.new.state + m.old.state.world.calls ≤ packet_count m.old.state + m.new.state.world.calls }
+    ensures rests { Rests plan.now m.new }
+    ensures frames { m.new.frames ≡ m.old.frames }
+{
+    let ring = m.take_waiting()?;
+    let program = plan.ring_program(ring);
+    Some(run(m, plan.env(), plan.tables(), plan.pattern(), program))
+}
+
+/// Node runs on packets that waited in rings.
+#[derive(Clone, Copy, Debug, PartialEq, Eq)]
+pub(crate) struct Served {
+    /// How many there were, at most 32.
+    pub runs: u8,
+    /// How many instructions they ran.
+    pub steps: u32,
+    /// How many of them were cut.
+    pub cuts: u8,
+}
+
+// Up to 32 node runs, each on the front packet of the first ring that has one.
+pub(crate) fn serve(plan: &Plan, m: &mut Machine) -> Served
+    requires rests { Rests plan.now m.old }
+    requires few { m.old.state.world.calls + 32 * 263168 < 2 ^ 64 }
+    requires few_cuts { m.old.state.world.cuts + 32 < 2 ^ 64 }
+    ensures serves { (told : List Bool) × Serves plan.now.setting plan.now.nodes.rings 32 m.old.state.world told result.runs m.new.state.world }
+    ensures took { Took m.old.state.world m.new.state.world result.steps result.cuts }
+    ensures few_runs { result.runs ≤ 32 }
+    ensures few_steps { result.steps ≤ result.runs * 263168 }
+    ensures few_cuts { result.cuts ≤ 32 }
+    ensures calls { m.new.state.world.calls ≤ m.old.state.world.calls + 32 * 263168 }
+    ensures packets { packet_count m.new.state + m.old.state.world.calls ≤ packet_count m.old.state + m.new.state.world.calls }
+    ensures rests { Rests plan.now m.new }
+    ensures frames { m.new.frames ≡ m.old.frames }
+{
+    let mut served = Served {
+        runs: 0,
+        steps: 0,
+        cuts: 0,
+    };
+    for i in 0..32u8 {
+        let Some(NodeRun { steps, cuts }) = serve_one(plan, m) else {
+            return served;
+        };
+        served.runs += 1;
+        served.steps += steps;
+        served.cuts += cuts;
+    }
+    served
+}

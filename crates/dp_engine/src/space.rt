@@ -1,0 +1,157 @@
+//! The region of an engine.
+
+ghost use Rattle.std.specs.Prelude.{◌≡◌, ◌*◌, ◌<◌, ◌≤◌, [], length, IfOk, IfErr, OnOk, IfSome, is_some, if◌then◌else◌};
+ghost use Rattle.dp_engine.specs.Needs.{bytes_needed};
+ghost use Rattle.dp_engine.specs.Layouts.{IsLaidOut, PartsIn, zones_in};
+ghost use Rattle.dp_engine.specs.Spaces.{Returns, RingsIn, PoolsIn, filled};
+
+use crate::names::Kind;
+use crate::needs::{list_counts, need, power_above, ring_counts};
+use crate::stack::{Stack, put_pool};
+use dp_heap::Heap;
+use dp_model::Env;
+use dp_pool::Pool;
+use dp_region::Region;
+use dp_ring::Ring;
+use dp_zone::Zones;
+use std::marker::Model;
+
+/// What stands in the zones of a space: pools of mbufs, rings, and the transmit lists of ports. Of each the first places
+/// are filled.
+pub struct Parts {
+    pub pools: [Option<Pool>; 8],
+    pub rings: [Option<Ring>; 8],
+    pub lists: [Option<Ring>; 8],
+}
+
+/// A heap in a region, and the table of its zones. It ends by `close`.
+pub struct Space {
+    heap: Heap,
+    zones: Zones,
+}
+
+impl Model for Space {
+    ghost use Rattle.dp_heap.specs.Elements.{count_of, is_busy};
+    ghost use Rattle.dp_engine.specs.Stacks.{size_of};
+    ghost use Rattle.dp_engine.specs.Spaces.{SpaceView};
+
+    ghost Value = { SpaceView };
+
+    ghost view = { λ s. record { home = s.heap.home; size = size_of s.heap.elements; out = count_of is_busy s.heap.elements } };
+}
+
+// The space of an engine in a region that is large enough. The last pool is made when the spare zone is given back that
+// was taken first, as long as its queue: so the bytes that are left suffice to the last one.
+fn lay_out(region: Region, env: &Env) -> (Space, Parts)
+    requires lent { region.lent ≡ [] }
+    requires room { bytes_needed env.now ≤ length region.bytes }
+    ensures { IsLaidOut region.home (length region.bytes) env.now result.0 result.1 }
+{
+    env.within_limits();
+    let specs = env.pools();
+    let last = specs.len() - 1;
+    let lists = list_counts(env.ports());
+    let rings = ring_counts(env.rings());
+    let mut stack = Stack::over(region, 4 * power_above(specs[last].count));
+    let lists = stack.take_rings(Kind::Port, lists.as_slice());
+    let rings = stack.take_rings(Kind::Ring, rings.as_slice());
+    let mut pools = stack.take_pools(&specs[..last]);
+    let (heap, zones, pool) = stack.finish(last, specs[last]);
+    put_pool(&mut pools[last], pool);
+    let parts = Parts {
+        pools,
+        rings,
+        lists,
+    };
+    (Space { heap, zones }, parts)
+}
+
+impl Space {
+    /// The space of an engine in a region of which nothing is lent: a pool of mbufs for each pool of the environment, and an
+    /// empty ring for each ring and each port, in order, all of them in zones of the space. The region comes back where
+    /// it has fewer bytes than the engine needs.
+    pub fn open(region: Region, env: &Env) -> Result<(Space, Parts), Region>
+        requires { region.lent ≡ [] }
+        ensures opened { IfOk result (λ s. IsLaidOut region.home (length region.bytes) env.now s.0 s.1) }
+        ensures room { OnOk result (bytes_needed env.now ≤ length region.bytes) }
+        ensures refused { IfErr result (λ r. (r ≡ region) × (length region.bytes < bytes_needed env.now)) }
+    {
+        if (region.size() as u64) < need(env) {
+            return Err(region);
+        }
+        Ok(lay_out(region, env))
+    }
+
+    // Takes the zone of a place's ring back.
+    fn end_ring(&mut self, slot: Option<Ring>)
+        requires { IfSome slot (λ r. r.home ≡ self.old.home) }
+        ensures { Returns (if is_some slot then 1 else 0) self.old self.new }
+    {
+        if let Some(ring) = slot {
+            self.zones.give_back(&mut self.heap, ring.into_zone());
+        }
+    }
+
+    // Takes the zones of a place's pool back.
+    fn end_pool(&mut self, slot: Option<Pool>)
+        requires { IfSome slot (λ p. p.zones.home ≡ self.old.home) }
+        ensures { Returns (2 * (if is_some slot then 1 else 0)) self.old self.new }
+    {
+        if let Some(pool) = slot {
+            pool.unmake(&mut self.heap, &mut self.zones);
+        }
+    }
+
+    // Takes the zones of rings back.
+    fn end_rings(&mut self, rings: [Option<Ring>; 8])
+        requires { RingsIn self.old.home rings }
+        ensures { Returns (filled rings) self.old self.new }
+    {
+        let [a, b, c, d, e, f, g, h] = rings;
+        self.end_ring(a);
+        self.end_ring(b);
+        self.end_ring(c);
+        self.end_ring(d);
+        self.end_ring(e);
+        self.end_ring(f);
+        self.end_ring(g);
+        self.end_ring(h);
+    }
+
+    // Takes the zones of pools back.
+    fn end_pools(&mut self, pools: [Option<Pool>; 8])
+        requires { PoolsIn self.old.home pools }
+        ensures { Returns (2 * filled pools) self.old self.new }
+    {
+        let [a, b, c, d, e, f, g, h] = pools;
+        self.end_pool(a);
+        self.end_pool(b);
+        self.end_pool(c);
+        self.end_pool(d);
+        self.end_pool(e);
+        self.end_pool(f);
+        self.end_pool(g);
+        self.end_pool(h);
+    }
+
+    /// The region again, once all that stands in zones of this space is here: nothing of it is lent, and all of the heap was
+    /// one free element.
+    pub fn close(self, parts: Parts) -> Region
+        requires home { PartsIn self.home parts }
+        requires all { zones_in parts ≡ self.out }
+        ensures same { (result.home ≡ self.home) × (length result.bytes ≡ self.size) }
+        ensures lent { result.lent ≡ [] }
+    {
+        let mut space = self;
+        let Parts {
+            pools,
+            rings,
+            lists,
+        } = parts;
+        space.end_pools(pools);
+        space.end_rings(rings);
+        space.end_rings(lists);
+        let Space { heap, zones: _ } = space;
+        heap.close()
+    }
+}
