@@ -10,3 +10,13 @@ pub mod Named
 pub mod Places
 pub mod Planned
 pub mod Taking
+pub mod Interleaving
+pub mod Forwarded
+pub mod RunOn
+pub mod Advancing
+pub mod Lending
+pub mod Following
+pub mod Stepping
+pub mod GoingOn
+pub mod Stopping
+pub mod Rounding

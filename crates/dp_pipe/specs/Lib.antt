@@ -9,3 +9,4 @@ pub mod Pipelines
 pub mod Routes
 pub mod Setup
 pub mod Views
+pub mod Forwarding

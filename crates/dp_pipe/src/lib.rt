@@ -4,6 +4,7 @@
 mod config;
 mod error;
 mod files;
+mod forwarding;
 mod keys;
 mod listed;
 mod loading;
@@ -18,6 +19,7 @@ mod text;
 
 pub use error::{FetchFault, Part, PipeError, RouteError};
 pub use files::Files;
+pub use forwarding::RunCause;
 pub use listed::{Listed, NamedBytes};
 pub use loading::load;
 pub use nodes::How;

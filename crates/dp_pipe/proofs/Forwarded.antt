@@ -1,0 +1,250 @@
+-- The drains of all ports, one after the other.
+use Rattle.std.proofs.Common.{◌≡◌, ◌≢◌, ℕ, zero, suc, ◌+◌, ◌<◌, ◌≤◌, Bool, true, false, List, [], ◌∷◌, ◌++◌, length, map, Option, Some, None, refl, sym, ◌∙◌, ap, subst, arith, append-nil, ◌⊎◌, inl, inr}
+use Rattle.std.specs.Prelude.{slice_get, slice_set, slice_index_or, nat_lt, flat_map, option_map, if◌then◌else◌}
+use Rattle.std.specs.Io.KnownBytes.{Appends}
+use Rattle.std.specs.List.{AllByRecursion}
+use Rattle.std.specs.Prelude.{Result, Ok, Err, IfOk, IfErr, is_err}
+use Rattle.std.specs.Option.{option_map_or}
+use Rattle.std.proofs.lemmas.Bool.{lt-ltb, le-ltb, ltb-true, ltb-false}
+use Rattle.std.proofs.lemmas.List.{length-map, append_assoc}
+use Rattle.std.proofs.lemmas.Option.{slice_get-map, same_Some, slice_get_within}
+use Rattle.dp_pcap.specs.declared.time.Time.{Time}
+use Rattle.dp_pcap.specs.declared.time.Unit.{Unit as TimeUnit}
+use Rattle.dp_pcap.specs.Capture.{PacketRecord}
+use Rattle.dp_pcap.specs.Text.{record_text}
+use Rattle.dp_model.specs.Packets.{Packet, packet_bytes}
+use Rattle.dp_model.specs.Machine.{World}
+use Rattle.dp_model.specs.Runs.{records_at}
+use Rattle.dp_model.proofs.Refs.{get_set_other, get_set_same}
+use Rattle.dp_engine.specs.declared.report.Tallies.{Tallies}
+use Rattle.dp_engine.specs.Drains.{captured, WrotePart}
+use Rattle.dp_engine.specs.Engines.{EngineState, tallies_at, sent_at, drained, no_tallies}
+use Rattle.dp_pipe.specs.Forwarding.{capture_of, capture_at, records_text, drained_at, emptied, DrainedFirst, DrainsStopped}
+
+pub emptied_all : (lists : List (List Packet)) → emptied (length lists) lists ≡ map (λ _. []) lists
+emptied_all [] = refl
+emptied_all (packets ∷ lists) = ap (λ l. [] ∷ l) (emptied_all lists)
+
+emptied_more : (n : ℕ) (lists : List (List Packet)) → emptied (suc n) lists ≡ slice_set (emptied n lists) n []
+emptied_more zero [] = refl
+emptied_more zero (packets ∷ lists) = refl
+emptied_more (suc n) [] = refl
+emptied_more (suc n) (packets ∷ lists) = ap (λ l. [] ∷ l) (emptied_more n lists)
+
+emptied_same : (n : ℕ) (lists : List (List Packet)) → slice_get (emptied n lists) n ≡ slice_get lists n
+emptied_same zero lists = refl
+emptied_same (suc n) [] = refl
+emptied_same (suc n) (packets ∷ lists) = emptied_same n lists
+
+-- what a port's drain writes does not rest on those of the ports before it
+pub records_same : (time : Time) (w : World) (n : ℕ) → slice_get (records_at time (record w { outboxes = emptied n w.outboxes })) n ≡ slice_get (records_at time w) n
+records_same time w n =
+    let f : List Packet → List (Time × List ℕ) = λ packets. map (λ bytes. (time, bytes)) (map (packet_bytes w.buffers) packets) in
+    slice_get-map f (emptied n w.outboxes) n ∙ ap (option_map f) (emptied_same n w.outboxes) ∙ sym (slice_get-map f w.outboxes n)
+
+appends_on : (a b c : Option (List ℕ)) (xs : List ℕ) → Appends a b [] → Appends b c xs → Appends a c xs
+appends_on None b c xs first next = tt
+appends_on (Some a) None c xs first next = absurd first
+appends_on (Some a) (Some b) None xs first next = absurd next
+appends_on (Some a) (Some b) (Some c) xs first next = next ∙ ap (λ l. l ++ xs) (first ∙ append-nil a)
+
+-- a place of a list is another one, or it is this one
+pub split : (q n : ℕ) → (q ≡ n) ⊎ (q ≢ n)
+split zero zero = inl refl
+split zero (suc n) = inr (λ e. absurd (omega (arith, e)))
+split (suc q) zero = inr (λ e. absurd (omega (arith, e)))
+split (suc q) (suc n) = go (split q n)
+  where
+    go : (q ≡ n) ⊎ (q ≢ n) → (suc q ≡ suc n) ⊎ (suc q ≢ suc n)
+    go (inl e) = inl (ap suc e)
+    go (inr d) = inr (λ e. d (omega (arith, e)))
+
+-- whether q is below n + 1 is whether it is below n, but for n itself
+below_more : (q n : ℕ) → q ≢ n → nat_lt q (suc n) ≡ nat_lt q n
+below_more q n d = go (nat_lt q n) refl
+  where
+    go : (b : Bool) → nat_lt q n ≡ b → nat_lt q (suc n) ≡ nat_lt q n
+    go true e = let lt = ltb-true q n e in lt-ltb q (suc n) (omega (arith, lt)) ∙ sym e
+    go false e = let le = ltb-false q n e in le-ltb q (suc n) (omega (arith, le, d)) ∙ sym e
+
+below_next : (n : ℕ) → nat_lt n (suc n) ≡ true
+below_next n = lt-ltb n (suc n) (omega arith)
+
+not_below : (n : ℕ) → nat_lt n n ≡ false
+not_below n = le-ltb n n (omega arith)
+
+pub tallies_other : (tallies : List Tallies) (n q : ℕ) (t : Tallies) → q ≢ n → tallies_at (slice_set tallies n t) q ≡ tallies_at tallies q
+tallies_other [] n q t d = refl
+tallies_other (x ∷ tallies) zero zero t d = absurd (d refl)
+tallies_other (x ∷ tallies) zero (suc q) t d = refl
+tallies_other (x ∷ tallies) (suc n) zero t d = refl
+tallies_other (x ∷ tallies) (suc n) (suc q) t d = tallies_other tallies n q t (λ e. d (ap suc e))
+
+pub tallies_same : (tallies : List Tallies) (n : ℕ) (t : Tallies) → n < length tallies → tallies_at (slice_set tallies n t) n ≡ t
+tallies_same [] n t lt = absurd (omega (arith, lt))
+tallies_same (x ∷ tallies) zero t lt = refl
+tallies_same (x ∷ tallies) (suc n) t lt = tallies_same tallies n t (omega (arith, lt))
+
+-- before the first drain
+pub drained_none : (unit : TimeUnit) (time : Time) (e : EngineState) (held : List (Option (List ℕ))) → DrainedFirst 0 unit time e e held held
+drained_none unit time e held = record {
+  wrote = λ q old new a b. rw (none_below q) (appends_same old new (same_Some old new (sym a ∙ b)));
+  is = refl;
+  each = refl;
+  tallies = λ q lt. rw (none_below q) (add_none (tallies_at e.tallies q));
+}
+  where
+    none_below : (q : ℕ) → nat_lt q 0 ≡ false
+    none_below q = le-ltb q 0 (omega arith)
+    appends_same : (a b : Option (List ℕ)) → a ≡ b → Appends a b []
+    appends_same None b e = tt
+    appends_same (Some a) None e = cc
+    appends_same (Some a) (Some b) e = sym (same_Some a b e) ∙ sym (append-nil a)
+    add_none : (t : Tallies) → t ≡ record t { sent = t.sent + 0 }
+    add_none t = ap (λ n. record t { sent = n }) (omega arith)
+
+-- what the drain of a port adds to those before it
+pub record DrainsNext (n : ℕ) (unit : TimeUnit) (time : Time) (e1 e2 : EngineState) (mids holds : List (Option (List ℕ))) : Type 0 where
+  pub records : List (Time × List ℕ)
+  pub records_is : slice_get (records_at time e1.world) n ≡ Some records
+  pub own : (old new : Option (List ℕ)) → slice_get mids n ≡ Some old → slice_get holds n ≡ Some new → Appends old new (records_text unit (map captured records))
+  pub others : (q : ℕ) → q ≢ n → slice_get holds q ≡ slice_get mids q
+  pub is : e2 ≡ drained n (length records) e1
+
+pub drained_next : (n : ℕ) (unit : TimeUnit) (time : Time) (e e1 e2 : EngineState) (held mids holds : List (Option (List ℕ)))
+    → n < length e.tallies → length mids ≡ length held → DrainedFirst n unit time e e1 held mids → DrainsNext n unit time e1 e2 mids holds → DrainedFirst (suc n) unit time e e2 held holds
+drained_next n unit time e e1 e2 held mids holds lt many first next =
+    let world = ap (λ (x : EngineState). x.world) first.is in
+    let at_time : slice_get (records_at time e.world) n ≡ Some next.records =
+      sym (records_same time e.world n) ∙ ap (λ (w : World). slice_get (records_at time w) n) (sym world) ∙ next.records_is in
+    let here : drained_at time e.world n ≡ capture_of next.records = ap (λ o. option_map_or capture_of o []) at_time in
+    let count : length (drained_at time e.world n) ≡ length next.records = ap length here ∙ length-map next.records captured in
+    record {
+      wrote = λ q old new a b. wrote q old new a b (split q n) here;
+      is = is_next world;
+      each = ap (λ (x : EngineState). length x.tallies) next.is ∙ long e1.tallies n (record (tallies_at e1.tallies n) { sent = (tallies_at e1.tallies n).sent + length next.records }) ∙ first.each;
+      tallies = λ q less. tallied q less (split q n) count;
+    }
+  where
+    long : {A : Type 0} (xs : List A) (i : ℕ) (x : A) → length (slice_set xs i x) ≡ length xs
+    long [] i x = refl
+    long (y ∷ xs) zero x = refl
+    long (y ∷ xs) (suc i) x = ap suc (long xs i x)
+    mid_of : (xs : List (Option (List ℕ))) (q : ℕ) → q < length xs → (x : Option (List ℕ)) × (slice_get xs q ≡ Some x)
+    mid_of [] q less = absurd (omega (arith, less))
+    mid_of (x ∷ xs) zero less = (x, refl)
+    mid_of (x ∷ xs) (suc q) less = mid_of xs q (omega (arith, less))
+    wrote : (q : ℕ) (old new : Option (List ℕ)) → slice_get held q ≡ Some old → slice_get holds q ≡ Some new → (q ≡ n) ⊎ (q ≢ n)
+        → drained_at time e.world n ≡ capture_of next.records
+        → Appends old new (if nat_lt q (suc n) then records_text unit (drained_at time e.world q) else [])
+    wrote q old new a b (inr other) here =
+        let before = first.wrote q old new a (sym (next.others q other) ∙ b) in
+        rw (below_more q n other) before
+    wrote q old new a b (inl same) here =
+        let a' : slice_get held n ≡ Some old = ap (slice_get held) (sym same) ∙ a in
+        let b' : slice_get holds n ≡ Some new = ap (slice_get holds) (sym same) ∙ b in
+        let (mid, m) = mid_of mids n (omega (arith, slice_get_within held n old a', many)) in
+        let before : Appends old mid [] = rw (not_below n) at (first.wrote n old mid a' m) in
+        let after : Appends old new (records_text unit (drained_at time e.world n)) = rw here (appends_on old mid new _ before (next.own mid new m b')) in
+        subst (λ x. Appends old new (if nat_lt x (suc n) then records_text unit (drained_at time e.world x) else [])) (sym same) (rw (below_next n) after)
+    is_next : e1.world ≡ record e.world { outboxes = emptied n e.world.outboxes } → e2 ≡ record e { world = record e.world { outboxes = emptied (suc n) e.world.outboxes }; tallies = e2.tallies }
+    is_next world =
+        let a : e2 ≡ record e1 { world = record e1.world { outboxes = slice_set e1.world.outboxes n [] }; tallies = e2.tallies } =
+          subst (λ (x : EngineState). x ≡ record e1 { world = record e1.world { outboxes = slice_set e1.world.outboxes n [] }; tallies = x.tallies }) (sym next.is) refl in
+        let b : record e1 { world = record e1.world { outboxes = slice_set e1.world.outboxes n [] }; tallies = e2.tallies } ≡ record e { world = record e.world { outboxes = slice_set (emptied n e.world.outboxes) n [] }; tallies = e2.tallies } =
+          ap (λ (x : EngineState). record x { world = record x.world { outboxes = slice_set x.world.outboxes n [] }; tallies = e2.tallies }) first.is in
+        a ∙ b ∙ ap (λ l. record e { world = record e.world { outboxes = l }; tallies = e2.tallies }) (sym (emptied_more n e.world.outboxes))
+    tallied : (q : ℕ) → q < length e.setting.env.ports → (q ≡ n) ⊎ (q ≢ n) → length (drained_at time e.world n) ≡ length next.records
+        → tallies_at e2.tallies q ≡ record (tallies_at e.tallies q) { sent = (tallies_at e.tallies q).sent + (if nat_lt q (suc n) then length (drained_at time e.world q) else 0) }
+    tallied q less (inr other) count =
+        let t = ap (λ (x : EngineState). tallies_at x.tallies q) next.is ∙ tallies_other e1.tallies n q (record (tallies_at e1.tallies n) { sent = (tallies_at e1.tallies n).sent + length next.records }) other in
+        t ∙ rw (below_more q n other) (first.tallies q less)
+    tallied q less (inl same) count =
+        let before : tallies_at e1.tallies n ≡ record (tallies_at e.tallies n) { sent = (tallies_at e.tallies n).sent + 0 } = rw (not_below n) at (first.tallies n (omega (arith, less, same))) in
+        let t = ap (λ (x : EngineState). tallies_at x.tallies n) next.is ∙ tallies_same e1.tallies n (record (tallies_at e1.tallies n) { sent = (tallies_at e1.tallies n).sent + length next.records }) (omega (arith, lt, first.each)) in
+        let u : tallies_at e2.tallies n ≡ record (tallies_at e.tallies n) { sent = (tallies_at e.tallies n).sent + length (drained_at time e.world n) } =
+          t ∙ ap (λ (x : Tallies). record x { sent = x.sent + length next.records }) before ∙ ap (λ m. record (tallies_at e.tallies n) { sent = m }) (omega (arith, count)) in
+        subst (λ x. tallies_at e2.tallies x ≡ record (tallies_at e.tallies x) { sent = (tallies_at e.tallies x).sent + (if nat_lt x (suc n) then length (drained_at time e.world x) else 0) }) (sym same) (rw (below_next n) u)
+
+-- ---- writers by their ports
+
+pub map_other : {A B : Type 0} (f : A → B) (xs : List A) (n q : ℕ) (x : A) → q ≢ n → slice_get (map f (slice_set xs n x)) q ≡ slice_get (map f xs) q
+map_other f xs n q x other = slice_get-map f (slice_set xs n x) q ∙ ap (option_map f) (get_set_other xs n q x other) ∙ sym (slice_get-map f xs q)
+
+pub map_here : {A B : Type 0} (f : A → B) (xs : List A) (n : ℕ) (x y : A) → slice_get xs n ≡ Some y → slice_get (map f (slice_set xs n x)) n ≡ Some (f x)
+map_here f xs n x y here = slice_get-map f (slice_set xs n x) n ∙ ap (option_map f) (get_set_same xs n x y here)
+
+pub map_at : {A B : Type 0} (f : A → B) (xs : List A) (n : ℕ) (y : A) → slice_get xs n ≡ Some y → slice_get (map f xs) n ≡ Some (f y)
+map_at f xs n y here = slice_get-map f xs n ∙ ap (option_map f) here
+
+pub length_set : {A : Type 0} (xs : List A) (i : ℕ) (x : A) → length (slice_set xs i x) ≡ length xs
+length_set [] i x = refl
+length_set (y ∷ xs) zero x = refl
+length_set (y ∷ xs) (suc i) x = ap suc (length_set xs i x)
+
+pub all_set : {A : Type 0} (P : A → Type 0) (xs : List A) (i : ℕ) (x : A) → AllByRecursion P xs → P x → AllByRecursion P (slice_set xs i x)
+all_set P [] i x all is = tt
+all_set P (y ∷ xs) zero x (first, rest) is = (is, rest)
+all_set P (y ∷ xs) (suc i) x (first, rest) is = (first, all_set P xs i x rest is)
+
+pub all_at : {A : Type 0} (P : A → Type 0) (xs : List A) (i : ℕ) (x : A) → AllByRecursion P xs → slice_get xs i ≡ Some x → P x
+all_at P [] i x all e = cc
+all_at P (y ∷ xs) zero x (first, rest) e = subst P (same_Some y x e) first
+all_at P (y ∷ xs) (suc i) x (first, rest) e = all_at P xs i x rest e
+
+pub ok_some : {A E : Type 0} (r : Result A E) (P : A → Type 0) → false ≡ is_err r → IfOk r P → (x : A) × (r ≡ Ok x) × P x
+ok_some (Ok x) P e h = (x, refl, h)
+ok_some (Err x) P e h = cc
+
+pub err_some : {A E : Type 0} (r : Result A E) (P : E → Type 0) → true ≡ is_err r → IfErr r P → (x : E) × (r ≡ Err x) × P x
+err_some (Err x) P e h = (x, refl, h)
+err_some (Ok x) P e h = cc
+
+-- one drain behind those of the ports before it
+pub drain_on : {A : Type 0} (f : A → Option (List ℕ)) (n : ℕ) (unit : TimeUnit) (time : Time) (e1 e2 : EngineState) (outs : List A) (w w' : A) (sent : ℕ) (records : List (Time × List ℕ))
+    → slice_get outs n ≡ Some w → slice_get (records_at time e1.world) n ≡ Some records → sent ≡ length (map captured records) → Appends (f w) (f w') (flat_map (record_text unit) (map captured records))
+    → e2 ≡ drained n sent e1 → DrainsNext n unit time e1 e2 (map f outs) (map f (slice_set outs n w'))
+drain_on f n unit time e1 e2 outs w w' sent records here at count wrote is = record {
+  records = records;
+  records_is = at;
+  own = λ old new a b.
+      let first : f w ≡ old = same_Some _ _ (sym (map_at f outs n w here) ∙ a) in
+      let second : f w' ≡ new = same_Some _ _ (sym (map_here f outs n w' w here) ∙ b) in
+      rw (← first, ← second) wrote;
+  others = λ q other. map_other f outs n q w' other;
+  is = is ∙ ap (λ m. drained n m e1) (count ∙ length-map records captured);
+}
+
+-- the writer of a port failed behind the drains of those before it
+pub stopped : {A : Type 0} (f : A → Option (List ℕ)) (n : ℕ) (unit : TimeUnit) (time : Time) (e e1 e2 : EngineState) (outs mids : List A) (w w' : A) (whole : ℕ) (records : List (Time × List ℕ))
+    → n < length e.setting.env.ports → DrainedFirst n unit time e e1 (map f outs) (map f mids) → slice_get mids n ≡ Some w → slice_get (records_at time e1.world) n ≡ Some records
+    → WrotePart (f w) (f w') unit (map captured records) whole → e2 ≡ drained n whole e1
+    → DrainsStopped unit time e e2 (map f outs) (map f (slice_set mids n w')) n
+stopped f n unit time e e1 e2 outs mids w w' whole records there first here at wrote is =
+    let world = ap (λ (x : EngineState). x.world) first.is in
+    let at_time : slice_get (records_at time e.world) n ≡ Some records =
+      sym (records_same time e.world n) ∙ ap (λ (x : World). slice_get (records_at time x) n) (sym world) ∙ at in
+    let mine : drained_at time e.world n ≡ capture_of records = ap (λ o. option_map_or capture_of o []) at_time in
+    record {
+      there = there;
+      engine = e1;
+      mids = map f mids;
+      first = first;
+      others = λ q other. map_other f mids n q w' other;
+      whole = whole;
+      own = λ old new a b. owned mine old new a b;
+      is = is;
+    }
+  where
+    owned : drained_at time e.world n ≡ capture_of records → (old new : Option (List ℕ)) → slice_get (map f outs) n ≡ Some old → slice_get (map f (slice_set mids n w')) n ≡ Some new → WrotePart old new unit (drained_at time e.world n) whole
+    owned mine old new a b =
+        let mid = map_at f mids n w here in
+        let before : Appends old (f w) [] = rw (not_below n) at (first.wrote n old (f w) a mid) in
+        let second : f w' ≡ new = same_Some _ _ (sym (map_here f mids n w' w here) ∙ b) in
+        rw (mine, ← second) (record {
+          next = wrote.next;
+          next_is = wrote.next_is;
+          bytes = wrote.bytes;
+          part = wrote.part;
+          wrote = appends_on old (f w) (f w') _ before wrote.wrote;
+        })

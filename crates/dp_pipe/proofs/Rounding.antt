@@ -1,0 +1,173 @@
+-- Rounds of a run: each input is asked in its turn.
+use Rattle.std.proofs.Common.{zero, suc, ◌≡◌, ℕ, ◌+◌, ◌*◌, ◌<◌, ◌≤◌, Bool, true, false, List, [], ◌∷◌, length, map, Option, Some, None, Result, Ok, Err, refl, sym, ◌∙◌, ap, subst, arith, ◌⊎◌, inl, inr}
+use Rattle.std.specs.Prelude.{slice_get, slice_set, ⊤, if◌then◌else◌}
+use Rattle.std.specs.List.{AllByRecursion}
+use Rattle.std.proofs.lemmas.Bool.{le-ltb}
+use Rattle.std.proofs.lemmas.List.{length-map}
+use Rattle.std.proofs.lemmas.Option.{same_Some, slice_get_within}
+use Rattle.dp_pcap.specs.declared.time.Unit.{Unit as TimeUnit}
+use Rattle.dp_engine.specs.declared.report.InputState.{InputState}
+use Rattle.dp_engine.specs.declared.report.InputState.TheVariants.{Open, Whole, Cut}
+use Rattle.dp_engine.specs.Engines.{EngineState}
+use Rattle.dp_pipe.specs.declared.forwarding.Progress.{Progress}
+use Rattle.dp_pipe.specs.declared.forwarding.RunCause.{RunCause}
+use Rattle.dp_pipe.specs.Forwarding.{Input, Stands, AllStand, Along, Advances, Stops, AreRounds, IsRound, NoneIsOpen, is_over, asked, AnswersSo}
+use Rattle.dp_pipe.proofs.Forwarded.{map_at}
+use Rattle.dp_pipe.proofs.Advancing.{order_ended, order_round}
+use Rattle.dp_pipe.proofs.Stepping.{input_at, open_going}
+use Rattle.dp_pipe.proofs.GoingOn.{AreMany, goes_on, many_least}
+use Rattle.dp_pipe.proofs.Stopping.{stops_at, states_same, are_read}
+
+-- open or ended
+decide : (state : InputState) → (state ≡ Open) ⊎ (state ≡ Open → ⊥)
+decide Open = inl refl
+decide Whole = inr (λ e. cc)
+decide (Cut byte) = inr (λ e. cc)
+
+module _ (unit : TimeUnit) (e0 e : EngineState) (olds news held mids : List (Option (List ℕ))) (progress : List Progress) (inputs : List Input) (round port : ℕ) (p : Progress)
+    (along : Along unit e0 e olds news held mids progress inputs round port) (here : slice_get progress port ≡ Some p) (open_p : p.state ≡ Open) where
+  abbrev pub i : Input
+  i = (input_at olds news progress inputs port p along.stand here).0
+
+  i_here : slice_get inputs port ≡ Some i
+  i_here = (input_at olds news progress inputs port p along.stand here).1
+
+  i_stands : Stands p i
+  i_stands = (input_at olds news progress inputs port p along.stand here).2
+
+  pub open_source : (p.source.is_open ≡ true) × (p.source.given ≡ length i.records)
+  open_source = open_going i.state p.source (length i.records) (sym i_stands.state ∙ open_p) i_stands.goes_on
+
+  pub few_turns : length progress ≤ 8 → e.turns + 16777216 ≤ 134217728 + p.source.given
+  few_turns few =
+      let least = many_least inputs port i i_here (λ q j at. small q j at) in
+      omega (arith, along.run.turns, along.first, along.total, least, open_source.1, few, along.stand.many)
+    where
+      at_progress : (q : ℕ) (j : Input) → slice_get inputs q ≡ Some j → (x : Progress) × (slice_get progress q ≡ Some x)
+      at_progress q j at = get progress q (omega (arith, slice_get_within inputs q j at, along.stand.many))
+        where
+          get : (xs : List Progress) (q : ℕ) → q < length xs → (x : Progress) × (slice_get xs q ≡ Some x)
+          get [] q lt = absurd (omega (arith, lt))
+          get (x ∷ xs) zero lt = (x, refl)
+          get (x ∷ xs) (suc q) lt = get xs q (omega (arith, lt))
+      small : (q : ℕ) (j : Input) → slice_get inputs q ≡ Some j → length j.records ≤ 16777216
+      small q j at = let (x, there) = at_progress q j at in (along.stand.each q x j there at).few
+
+set_itself : {A : Type 0} (xs : List A) (p : ℕ) (x : A) → slice_get xs p ≡ Some x → slice_set xs p x ≡ xs
+set_itself [] p x e = refl
+set_itself (y ∷ xs) zero x e = ap (λ z. z ∷ xs) (sym (same_Some y x e))
+set_itself (y ∷ xs) (suc p) x e = ap (λ l. y ∷ l) (set_itself xs p x e)
+
+map_set : {A B : Type 0} (f : A → B) (xs : List A) (n : ℕ) (x : A) → map f (slice_set xs n x) ≡ slice_set (map f xs) n (f x)
+map_set f [] n x = refl
+map_set f (y ∷ xs) zero x = refl
+map_set f (y ∷ xs) (suc n) x = ap (λ l. f y ∷ l) (map_set f xs n x)
+
+-- an input that has ended is passed over
+over_on : (unit : TimeUnit) (e0 e : EngineState) (olds news held mids : List (Option (List ℕ))) (progress : List Progress) (inputs : List Input) (round port : ℕ) (p : Progress)
+    → Along unit e0 e olds news held mids progress inputs round port → slice_get progress port ≡ Some p → (p.state ≡ Open → ⊥) → Along unit e0 e olds news held mids progress inputs round (port + 1)
+over_on unit e0 e olds news held mids progress inputs round port p along here closed =
+    let (i, i_here, stands) = input_at olds news progress inputs port p along.stand here in
+    record {
+      first = along.first;
+      held_many = along.held_many;
+      stand = along.stand;
+      order = order_ended inputs round port i i_here (λ e. closed (stands.state ∙ e)) along.order;
+      total = along.total;
+      captures = along.captures;
+      many = along.many;
+      run = along.run;
+      wrote = along.wrote;
+    }
+
+pub asked_on : {R W : Type 0} (remaining : R → Option (List ℕ)) (contents : W → Option (List ℕ)) (unit : TimeUnit) (e0 e e' : EngineState) (olds held : List (Option (List ℕ))) (ins : List R) (outs outs' : List W) (progress : List Progress) (inputs : List Input) (round port : ℕ)
+    (p p' : Progress) (r r' : R) (answer : Result ⊤ RunCause)
+    → Along unit e0 e olds (map remaining ins) held (map contents outs) progress inputs round port → slice_get progress port ≡ Some p → slice_get ins port ≡ Some r
+    → port < length e0.setting.env.ports → length e0.tallies ≡ 8 → length e0.setting.env.ports ≤ 8 → length outs ≡ length e0.setting.env.ports → answer ≡ Ok tt
+    → (p.state ≡ Open → Advances port unit e e' p p' (remaining r) (remaining r') (map contents outs) (map contents outs') answer)
+    → ((p.state ≡ Open → ⊥) → (answer ≡ Ok tt) × (e' ≡ e) × (p' ≡ p) × (r' ≡ r) × (outs' ≡ outs))
+    → (now : List Input) × Along unit e0 e' olds (map remaining (slice_set ins port r')) held (map contents outs') (slice_set progress port p') now round (port + 1)
+asked_on remaining contents unit e0 e e' olds held ins outs outs' progress inputs round port p p' r r' answer along here reader there counted few many ok step over =
+    go (decide p.state)
+  where
+    go : (p.state ≡ Open) ⊎ (p.state ≡ Open → ⊥) → (now : List Input) × Along unit e0 e' olds (map remaining (slice_set ins port r')) held (map contents outs') (slice_set progress port p') now round (port + 1)
+    go (inl open_p) =
+        rw (map_set remaining ins port r') (goes_on unit e0 e e' olds (map remaining ins) held (map contents outs) (map contents outs') progress inputs round port p p' (remaining r) (remaining r') along
+        (record { counted = counted; few = few; mids_many = length-map outs contents ∙ many }) here open_p there (map_at remaining ins port r reader)
+        (subst (λ (x : Result ⊤ RunCause). Advances port unit e e' p p' (remaining r) (remaining r') (map contents outs) (map contents outs') x) ok (step open_p)))
+    go (inr closed) =
+        let (is_ok, e_is, p_is, r_is, outs_is) = over closed in
+        rw (e_is, p_is, r_is, outs_is, set_itself ins port r reader, set_itself progress port p here) (inputs, over_on unit e0 e olds (map remaining ins) held (map contents outs) progress inputs round port p along here closed)
+
+pub asked_stops : {R W : Type 0} (remaining : R → Option (List ℕ)) (contents : W → Option (List ℕ)) (unit : TimeUnit) (e0 e e' : EngineState) (olds held : List (Option (List ℕ))) (ins : List R) (outs outs' : List W) (progress : List Progress) (inputs : List Input) (round port : ℕ)
+    (p p' : Progress) (r r' : R) (answer : Result ⊤ RunCause) (cause : RunCause)
+    → Along unit e0 e olds (map remaining ins) held (map contents outs) progress inputs round port → slice_get progress port ≡ Some p → slice_get ins port ≡ Some r → answer ≡ Err cause
+    → (p.state ≡ Open → Advances port unit e e' p p' (remaining r) (remaining r') (map contents outs) (map contents outs') answer)
+    → ((p.state ≡ Open → ⊥) → (answer ≡ Ok tt) × (e' ≡ e) × (p' ≡ p) × (r' ≡ r) × (outs' ≡ outs))
+    → Stops unit e0 e' olds (map remaining (slice_set ins port r')) held (map contents outs') (slice_set progress port p') cause
+asked_stops remaining contents unit e0 e e' olds held ins outs outs' progress inputs round port p p' r r' answer cause along here reader err step over =
+    go (decide p.state)
+  where
+    go : (p.state ≡ Open) ⊎ (p.state ≡ Open → ⊥) → Stops unit e0 e' olds (map remaining (slice_set ins port r')) held (map contents outs') (slice_set progress port p') cause
+    go (inl open_p) =
+        rw (map_set remaining ins port r') (stops_at unit e0 e e' olds (map remaining ins) held (map contents outs) (map contents outs') progress inputs round port p p' (remaining r) (remaining r') cause along here open_p
+        (map_at remaining ins port r reader)
+        (subst (λ (x : Result ⊤ RunCause). Advances port unit e e' p p' (remaining r) (remaining r') (map contents outs) (map contents outs') x) err (step open_p)))
+    go (inr closed) = let bad : Err cause ≡ Ok tt = sym err ∙ (over closed).0 in cc
+
+-- behind all ports the next round begins
+pub round_over : (unit : TimeUnit) (e0 e : EngineState) (olds news held mids : List (Option (List ℕ))) (progress : List Progress) (inputs : List Input) (round n : ℕ) → Along unit e0 e olds news held mids progress inputs round n → length progress ≤ n
+    → Along unit e0 e olds news held mids progress inputs (round + 1) 0
+round_over unit e0 e olds news held mids progress inputs round n along most = record {
+  first = along.first;
+  held_many = along.held_many;
+  stand = along.stand;
+  order = order_round inputs round n (omega (arith, along.stand.many, most)) along.order;
+  total = along.total;
+  captures = along.captures;
+  many = along.many;
+  run = along.run;
+  wrote = along.wrote;
+}
+
+is_closed : (state : InputState) → (state ≡ Open → ⊥) → is_over state ≡ true
+is_closed Open closed = absurd (closed refl)
+is_closed Whole closed = refl
+is_closed (Cut byte) closed = refl
+
+all_closed : (progress : List Progress) (inputs : List Input) → length progress ≡ length inputs → ((q : ℕ) (p : Progress) (j : Input) → slice_get progress q ≡ Some p → slice_get inputs q ≡ Some j → p.state ≡ j.state) → NoneIsOpen progress
+    → AllByRecursion (λ (j : Input). is_over j.state ≡ true) inputs
+all_closed [] [] many same none = tt
+all_closed [] (j ∷ inputs) many same none = absurd (omega (arith, many))
+all_closed (p ∷ progress) [] many same none = absurd (omega (arith, many))
+all_closed (p ∷ progress) (j ∷ inputs) many same none =
+    (is_closed j.state (λ e. none 0 p refl (same 0 p j refl refl ∙ e)), all_closed progress inputs (omega (arith, many)) (λ q a b c d. same (suc q) a b c d) (λ q a b c. none (suc q) a b c))
+
+-- every input has ended: the run went all the way
+pub went_all : (unit : TimeUnit) (e0 e : EngineState) (olds news held mids : List (Option (List ℕ))) (progress : List Progress) (inputs : List Input) (round port : ℕ) → Along unit e0 e olds news held mids progress inputs round port → NoneIsOpen progress
+    → AreRounds unit e0 e olds news held mids progress (Ok tt)
+went_all unit e0 e olds news held mids progress inputs round port along none =
+    (inputs, states_same olds news progress inputs along.stand,
+    record { read = are_read olds news progress inputs along.stand; captures = along.captures; run = along.run; wrote = along.wrote },
+    all_closed progress inputs along.stand.many (λ q p j a b. (along.stand.each q p j a b).state) none)
+
+-- no input has so many records that it is still open
+pub none_left : (unit : TimeUnit) (e0 e : EngineState) (olds news held mids : List (Option (List ℕ))) (progress : List Progress) (inputs : List Input) (round : ℕ) → Along unit e0 e olds news held mids progress inputs round 0 → 16777217 ≤ round → NoneIsOpen progress
+none_left unit e0 e olds news held mids progress inputs round along most q p at open_p =
+    let (j, here, stands) = input_at olds news progress inputs q p along.stand at in
+    let wanted = exact j.state (length j.records) (asked round 0 q) (sym stands.state ∙ open_p) (along.order q j here) in
+    let all : asked round 0 q ≡ round = ap (λ b. if b then round + 1 else round) (le-ltb q 0 (omega arith)) in
+    absurd (omega (arith, stands.few, wanted, all, most))
+  where
+    exact : (state : InputState) (count many : ℕ) → state ≡ Open → AnswersSo state count many → count ≡ many
+    exact Open count many e is = is
+    exact Whole count many e lt = cc
+    exact (Cut byte) count many e lt = cc
+
+pub round_ok : (unit : TimeUnit) (e0 e e' : EngineState) (olds news held holds : List (Option (List ℕ))) (progress : List Progress) (round : ℕ) (r : Result ⊤ RunCause) → r ≡ Ok tt → IsRound unit e0 e e' olds news held holds progress round r
+    → (now : List Input) × Along unit e0 e' olds news held holds progress now (round + 1) 0
+round_ok unit e0 e e' olds news held holds progress round r is h = rw is at h
+
+pub round_err : (unit : TimeUnit) (e0 e e' : EngineState) (olds news held holds : List (Option (List ℕ))) (progress : List Progress) (round : ℕ) (r : Result ⊤ RunCause) (cause : RunCause) → r ≡ Err cause → IsRound unit e0 e e' olds news held holds progress round r
+    → AreRounds unit e0 e' olds news held holds progress (Err cause)
+round_err unit e0 e e' olds news held holds progress round r cause is h = rw is at h

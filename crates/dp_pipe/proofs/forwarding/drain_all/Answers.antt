@@ -1,0 +1,53 @@
+use Rattle.std.proofs.Common.{ℕ, suc, ◌≡◌, ◌+◌, ◌<◌, false, List, [], ◌∷◌, length, map, refl, sym, ap, ◌∙◌, subst, arith}
+use Rattle.std.specs.Prelude.{slice_get, slice_set, Some, IsTrue}
+use Rattle.std.proofs.lemmas.Option.{slice_get_read, same_Some}
+use Rattle.dp_model.proofs.Refs.{get_set_same}
+use Rattle.dp_engine.specs.Engines.{EngineState, drained}
+use Rattle.std.specs.Prelude.{flat_map}
+use Rattle.std.specs.Io.KnownBytes.{Appends}
+use Rattle.dp_pcap.specs.Text.{record_text}
+use Rattle.dp_engine.specs.Drains.{WrotePart, captured}
+use Rattle.dp_engine.specs.Outcomes.{sent_of}
+use Rattle.dp_pipe.specs.Forwarding.{DrainedFirst}
+use Rattle.dp_pipe.proofs.Forwarded.{drained_none, drained_next, drain_on, stopped, map_here, map_at, length_set, all_set, all_at, ok_some, err_some}
+use Rattle.dp_pipe.proofs.forwarding.drain_all.Goals as goal
+
+pub returns-then-is_err-clause-broken : goal.returns-then-is_err-clause-broken
+returns-then-is_err-clause-broken g c w at =
+    let here = slice_get_read c.loop-port.outs _ c.loop-port.port c.index-outs-port.result refl (omega (arith, c.loop-port.invariant.many, c.loop-port-test.true)) c.index-outs-port.is in
+    let is = same_Some _ _ (sym (get_set_same c.loop-port.outs c.loop-port.port c.drain.new.w c.index-outs-port.result here) ∙ at) in
+    let (fault, err, wrote) = err_some c.drain.result _ c.if-is_err.ensures.value c.drain.ensures.err in
+    subst (λ x. IsTrue (g.W.Sink.is_broken x)) is (c.drain.ensures.broken (rw err refl))
+
+pub loop-port-preserved : goal.loop-port-preserved
+loop-port-preserved g c =
+    let inv = c.loop-port.invariant in
+    let here = slice_get_read c.loop-port.outs _ c.loop-port.port c.index-outs-port.result refl (omega (arith, inv.many, c.loop-port-test.true)) c.index-outs-port.is in
+    let (sent, ok, (records, at, (count, wrote))) = ok_some c.drain.result _ c.if-is_err.ensures.value c.drain.ensures.ok in
+    let is = c.drain.ensures.empty ∙ ap (λ n. drained c.loop-port.port n c.loop-port.engine) (ap sent_of ok) in
+    record {
+      first = subst (λ n. DrainedFirst n c.args.unit c.args.time c.args.engine.now c.drain.new.self (map g.W.Sink.contents c.args.outs.now) (map g.W.Sink.contents (slice_set c.loop-port.outs c.loop-port.port c.drain.new.w))) (one_more c.loop-port.port)
+          (drained_next c.loop-port.port c.args.unit c.args.time c.args.engine.now c.loop-port.engine c.drain.new.self _ _ _ (omega (arith, c.loop-port-test.true, c.requires.few, c.requires.counted))
+          (length_map _ c.loop-port.outs ∙ inv.many ∙ sym (length_map _ c.args.outs.now)) inv.first
+          (drain_on g.W.Sink.contents c.loop-port.port c.args.unit c.args.time c.loop-port.engine c.drain.new.self c.loop-port.outs c.index-outs-port.result c.drain.new.w sent records here at count
+              (subst (λ x. Appends (g.W.Sink.contents x) (g.W.Sink.contents c.drain.new.w) (flat_map (record_text c.args.unit) (map captured records))) (sym c.index-outs-port.is) wrote) is));
+      many = length_set c.loop-port.outs c.loop-port.port c.drain.new.w ∙ inv.many;
+      sound = λ sound.
+          let all = inv.sound sound in
+          all_set (λ w. g.W.Sink.is_broken w ≡ false) c.loop-port.outs c.loop-port.port c.drain.new.w all (c.drain.ensures.sound (rw ok refl) (subst (λ x. g.W.Sink.is_broken x ≡ false) c.index-outs-port.is (all_at (λ w. g.W.Sink.is_broken w ≡ false) c.loop-port.outs c.loop-port.port c.index-outs-port.result all here)));
+    }
+  where
+    one_more : (n : ℕ) → suc n ≡ n + 1
+    one_more n = omega arith
+    length_map : {A B : Type 0} (f : A → B) (xs : List A) → length (map f xs) ≡ length xs
+    length_map f [] = refl
+    length_map f (x ∷ xs) = ap suc (length_map f xs)
+
+pub returns-then-is_err-clause-err : goal.returns-then-is_err-clause-err
+returns-then-is_err-clause-err g c =
+    let inv = c.loop-port.invariant in
+    let here = slice_get_read c.loop-port.outs _ c.loop-port.port c.index-outs-port.result refl (omega (arith, inv.many, c.loop-port-test.true)) c.index-outs-port.is in
+    let (fault, err, (records, at, wrote)) = err_some c.drain.result _ c.if-is_err.ensures.value c.drain.ensures.err in
+    stopped g.W.Sink.contents c.loop-port.port c.args.unit c.args.time c.args.engine.now c.loop-port.engine c.drain.new.self c.args.outs.now c.loop-port.outs c.index-outs-port.result c.drain.new.w fault.sent records
+    (omega (arith, c.loop-port-test.true, c.requires.many)) inv.first here at
+    (subst (λ x. WrotePart (g.W.Sink.contents x) (g.W.Sink.contents c.drain.new.w) c.args.unit (map captured records) fault.sent) (sym c.index-outs-port.is) wrote) (c.drain.ensures.empty ∙ ap (λ n. drained c.loop-port.port n c.loop-port.engine) (ap sent_of err))

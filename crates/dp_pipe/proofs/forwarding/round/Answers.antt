@@ -1,0 +1,84 @@
+use Rattle.std.proofs.Common.{rules, Err, ◌≡◌, ℕ, ◌+◌, ◌*◌, ◌<◌, ◌≤◌, List, Option, Some, length, map, refl, sym, ap, ◌∙◌, subst, arith}
+use Rattle.std.specs.Prelude.{slice_get, slice_set}
+use Rattle.std.proofs.lemmas.Option.{slice_get_read}
+use Rattle.dp_model.specs.Machine.{Setting}
+use Rattle.dp_engine.specs.declared.report.InputState.TheVariants.{Open}
+use Rattle.dp_engine.specs.Engines.{EngineState}
+use Rattle.dp_pipe.specs.declared.forwarding.Progress.{Progress}
+use Rattle.dp_pipe.specs.Forwarding.{Input, Along}
+use Rattle.dp_pipe.proofs.Forwarded.{length_set}
+use Rattle.dp_pipe.proofs.Rounding.{open_source, few_turns, asked_on, asked_stops, round_over}
+use Rattle.dp_pipe.proofs.forwarding.round.Goals as goal
+
+pub ask-requires-clause-exists : goal.ask-requires-clause-exists
+ask-requires-clause-exists g c =
+    let (e0, olds, held, read, k, start) = c.requires.along in
+    let (now, along) = c.loop-port.invariant.goes e0 olds held read k start in
+    let same = ap (λ (x : EngineState). length x.setting.env.ports) (along.run.stays) in
+    let before = ap (λ (x : EngineState). length x.setting.env.ports) (start.run.stays) in
+    omega (arith, same, before, c.loop-port-test.true, c.requires.inputs)
+
+pub ask-requires-clause-many : goal.ask-requires-clause-many
+ask-requires-clause-many g c =
+    let (e0, olds, held, read, k, start) = c.requires.along in
+    let (now, along) = c.loop-port.invariant.goes e0 olds held read k start in
+    let same = ap (λ (x : EngineState). length x.setting.env.ports) (along.run.stays) in
+    let before = ap (λ (x : EngineState). length x.setting.env.ports) (start.run.stays) in
+    c.loop-port.invariant.outs ∙ c.requires.outs ∙ before ∙ sym same
+
+pub ask-requires-clause-counted : goal.ask-requires-clause-counted
+ask-requires-clause-counted g c =
+    let (e0, olds, held, read, k, start) = c.requires.along in
+    let (now, along) = c.loop-port.invariant.goes e0 olds held read k start in
+    along.run.each ∙ sym start.run.each ∙ c.requires.counted
+
+pub ask-requires-clause-open : goal.ask-requires-clause-open
+ask-requires-clause-open g c open_now =
+    let (e0, olds, held, read, k, start) = c.requires.along in
+    let (now, along) = c.loop-port.invariant.goes e0 olds held read k start in
+    let here = slice_get_read c.loop-port.inputs _ c.loop-port.port c.index-inputs-k.result refl (omega (arith, c.loop-port.invariant.inputs, c.loop-port-test.true)) c.index-inputs-k.is in
+    rw (← c.index-inputs-k.is) (open_source c.args.unit e0 c.loop-port.engine olds _ held _ c.loop-port.inputs now k c.loop-port.port c.index-inputs-k.result along here (rw (← c.index-inputs-k.is) at open_now)).0
+
+pub ask-requires-clause-limit : goal.ask-requires-clause-limit
+ask-requires-clause-limit g c open_now =
+    let (e0, olds, held, read, k, start) = c.requires.along in
+    let (now, along) = c.loop-port.invariant.goes e0 olds held read k start in
+    let here = slice_get_read c.loop-port.inputs _ c.loop-port.port c.index-inputs-k.result refl (omega (arith, c.loop-port.invariant.inputs, c.loop-port-test.true)) c.index-inputs-k.is in
+    rw (← c.index-inputs-k.is) (few_turns c.args.unit e0 c.loop-port.engine olds _ held _ c.loop-port.inputs now k c.loop-port.port c.index-inputs-k.result along here (rw (← c.index-inputs-k.is) at open_now)
+    (omega (arith, c.loop-port.invariant.inputs, c.requires.inputs, c.requires.outs, c.requires.few)))
+
+pub loop-port-preserved : goal.loop-port-preserved
+loop-port-preserved g c =
+    let inv = c.loop-port.invariant in
+    record {
+      inputs = length_set c.loop-port.inputs c.loop-port.port c.ask.new.input ∙ inv.inputs;
+      ins = length_set c.loop-port.ins c.loop-port.port c.ask.new.r ∙ inv.ins;
+      outs = c.ask.ensures.many ∙ inv.outs;
+      buf = c.ask.ensures.buf ∙ inv.buf;
+      goes = λ e0 olds held read k start.
+          let (now, along) = inv.goes e0 olds held read k start in
+          let before = ap (λ (x : EngineState). length x.setting.env.ports) (start.run.stays) in
+          let here = slice_get_read c.loop-port.inputs _ c.loop-port.port c.index-inputs-k.result refl (omega (arith, inv.inputs, c.loop-port-test.true)) c.index-inputs-k.is in
+          let reader = slice_get_read c.loop-port.ins _ c.loop-port.port c.index-ins-k.result refl (omega (arith, inv.ins, c.loop-port-test.true, c.requires.inputs, c.requires.ins)) c.index-ins-k.is in
+          asked_on g.R.Feed.remaining g.W.Sink.contents c.args.unit e0 c.loop-port.engine c.ask.new.engine olds held c.loop-port.ins c.loop-port.outs c.ask.new.outs c.loop-port.inputs now k c.loop-port.port
+          c.index-inputs-k.result c.ask.new.input c.index-ins-k.result c.ask.new.r c.ask.result along here reader
+          (omega (arith, before, c.loop-port-test.true, c.requires.inputs)) (sym start.run.each ∙ c.requires.counted) (omega (arith, before, c.requires.outs, c.requires.few)) (inv.outs ∙ c.requires.outs ∙ before)
+          c.in_ok-ask.was
+          (rw (← c.index-inputs-k.is, ← c.index-ins-k.is) at c.ask.ensures.step) (rw (← c.index-inputs-k.is, ← c.index-ins-k.is) at c.ask.ensures.over);
+    }
+
+pub returns-in_err-ask-clause-goes : goal.returns-in_err-ask-clause-goes
+returns-in_err-ask-clause-goes g c e0 olds held read k start =
+    let inv = c.loop-port.invariant in
+    let (now, along) = inv.goes e0 olds held read k start in
+    let here = slice_get_read c.loop-port.inputs _ c.loop-port.port c.index-inputs-k.result refl (omega (arith, inv.inputs, c.loop-port-test.true)) c.index-inputs-k.is in
+    let reader = slice_get_read c.loop-port.ins _ c.loop-port.port c.index-ins-k.result refl (omega (arith, inv.ins, c.loop-port-test.true, c.requires.inputs, c.requires.ins)) c.index-ins-k.is in
+    let gone : c.from_residual.result ≡ Err c.in_err-ask.field-0.0 = search rules in
+    rw gone (asked_stops g.R.Feed.remaining g.W.Sink.contents c.args.unit e0 c.loop-port.engine c.ask.new.engine olds held c.loop-port.ins c.loop-port.outs c.ask.new.outs c.loop-port.inputs now k c.loop-port.port
+    c.index-inputs-k.result c.ask.new.input c.index-ins-k.result c.ask.new.r c.ask.result c.in_err-ask.field-0.0 along here reader c.in_err-ask.was
+    (rw (← c.index-inputs-k.is, ← c.index-ins-k.is) at c.ask.ensures.step) (rw (← c.index-inputs-k.is, ← c.index-ins-k.is) at c.ask.ensures.over))
+
+pub returns-clause-goes : goal.returns-clause-goes
+returns-clause-goes g c e0 olds held read k start =
+    let (now, along) = c.loop-port.invariant.goes e0 olds held read k start in
+    (now, round_over c.args.unit e0 c.loop-port.engine olds _ held _ c.loop-port.inputs now k c.loop-port.port along (omega (arith, c.loop-port.invariant.inputs, c.loop-port-test.false)))

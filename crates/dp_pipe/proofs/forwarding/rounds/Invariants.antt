@@ -1,0 +1,14 @@
+use Rattle.std.proofs.Common.{◌≡◌, ℕ, List, Option, length, map}
+use Rattle.dp_engine.specs.Engines.{EngineState}
+use Rattle.dp_pipe.specs.Forwarding.{Input, Along}
+use Rattle.dp_pipe.proofs.forwarding.rounds.Given as goal
+
+abbrev pub invariant-loop-k : goal.invariant-loop-k
+invariant-loop-k g l = record {
+  inputs : length l.inputs ≡ length l.fn.inputs;
+  ins : length l.ins ≡ length l.fn.ins;
+  outs : length l.outs ≡ length l.fn.outs;
+  buf : length l.buf ≡ length l.fn.buf;
+  goes : (e0 : EngineState) (olds held : List (Option (List ℕ))) (read : List Input) → Along l.unit e0 l.fn.engine olds (map g.R.Feed.remaining l.fn.ins) held (map g.W.Sink.contents l.fn.outs) l.fn.inputs read 0 0
+      → (now : List Input) × Along l.unit e0 l.engine olds (map g.R.Feed.remaining l.ins) held (map g.W.Sink.contents l.outs) l.inputs now l.k 0;
+}

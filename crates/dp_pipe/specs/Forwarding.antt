@@ -1,0 +1,318 @@
+-- Runs from captures to captures: what inputs give, what ports write, and where a run stops.
+use Rattle.std.specs.Prelude.{◌≡◌, ◌≢◌, ℕ, zero, suc, ◌+◌, ◌<◌, ◌≤◌, ◌==◌, Bool, true, false, nat_lt, if◌then◌else◌, List, [], ◌∷◌, ◌++◌, length, map, flat_map, take, Option, None, Some, slice_get, Result, Ok, Err, IsTrue, ⊤}
+use Rattle.std.specs.List.{list_any, AllByRecursion}
+use Rattle.std.specs.Option.{option_map_or}
+use Rattle.std.specs.Io.KnownBytes.{Appends}
+use Rattle.dp_pcap.specs.declared.time.Time.{Time}
+use Rattle.dp_pcap.specs.declared.time.Unit.{Unit as TimeUnit}
+use Rattle.dp_pcap.specs.declared.time.Unit.TheVariants.{Micro, Nano}
+use Rattle.dp_pcap.specs.declared.error.PcapError.{PcapError}
+use Rattle.dp_pcap.specs.declared.error.PcapError.TheVariants.{Read}
+use Rattle.dp_pcap.specs.Standing.{Standing}
+use Rattle.dp_pcap.specs.Capture.{PacketRecord, IsCapture}
+use Rattle.dp_pcap.specs.Capture as capture
+use Rattle.dp_pcap.specs.Source.{WhereKnown, HasRead, Continues, IsInRange, Moves}
+use Rattle.dp_pcap.specs.declared.source.Next.{Next}
+use Rattle.dp_pcap.specs.declared.source.Next.TheVariants.{Record, End}
+use Rattle.dp_pcap.specs.declared.source.Next.TheVariants as next
+use Rattle.dp_pcap.specs.Text.{record_text}
+use Rattle.dp_model.specs.Packets.{Packet}
+use Rattle.dp_model.specs.Machine.{World}
+use Rattle.dp_model.specs.Runs.{Arrival, Outcome, Turn, Run, records_at, joined, interleaved}
+use Rattle.dp_engine.specs.declared.report.InputState.{InputState}
+use Rattle.dp_engine.specs.declared.report.InputState.TheVariants.{Open, Whole, Cut}
+use Rattle.dp_engine.specs.declared.report.Tallies.{Tallies}
+use Rattle.dp_engine.specs.Drains.{captured, WrotePart}
+use Rattle.dp_engine.specs.Tallies.{counted}
+use Rattle.dp_engine.specs.Engines.{EngineState, tallies_at, counted_at, drained}
+use Rattle.dp_pipe.specs.declared.forwarding.RunCause.{RunCause}
+use Rattle.dp_pipe.specs.declared.forwarding.RunCause.TheVariants.{In, Out}
+use Rattle.dp_pipe.specs.declared.forwarding.Progress.{Progress}
+
+-- ---- inputs
+
+-- what was read of an input: its unit of time, its records, and whether its end was reached
+pub record Input : Type 0 where
+  pub unit : TimeUnit
+  pub records : List PacketRecord
+  pub state : InputState
+
+-- the bytes are a header, these records, and more
+abbrev pub BeginsAs : List ℕ → TimeUnit → List PacketRecord → Type 0
+BeginsAs bytes unit records = (s : Standing) × (rest : List ℕ) × HasRead bytes s records rest × (s.unit ≡ unit)
+
+-- bytes of which this was read
+abbrev pub Gives : InputState → TimeUnit → List PacketRecord → List ℕ → Type 0
+Gives Open unit records bytes = BeginsAs bytes unit records
+Gives Whole unit records bytes = IsCapture bytes unit records capture.Ending.Whole
+Gives (Cut byte) unit records bytes = IsCapture bytes unit records (capture.Ending.Cut byte)
+
+-- the bytes that each reader had, as far as they are known, and these inputs
+abbrev pub AreRead : List (Option (List ℕ)) → List (Option (List ℕ)) → List Input → Type 0
+AreRead olds news inputs =
+    (port : ℕ) (i : Input) (old new : Option (List ℕ)) → slice_get inputs port ≡ Some i → slice_get olds port ≡ Some old → slice_get news port ≡ Some new
+    → WhereKnown old new (λ bytes rest. Gives i.state i.unit i.records bytes)
+
+-- of these bytes a header and these records were read, and then comes a fault; a reader that fails may do so anywhere
+abbrev pub Refuses : TimeUnit → List PacketRecord → PcapError → List ℕ → Type 0
+Refuses unit records Read bytes = ⊤
+Refuses unit records error bytes = IsCapture bytes unit records (capture.Ending.Refused error)
+
+-- nanoseconds if any input has them, else microseconds
+abbrev pub is_nano : TimeUnit → Bool
+is_nano Nano = true
+is_nano Micro = false
+
+abbrev pub unit_for : List TimeUnit → TimeUnit
+unit_for units = if list_any is_nano units then Nano else Micro
+
+abbrev pub units_of : List Input → List TimeUnit
+units_of inputs = map (λ (i : Input). i.unit) inputs
+
+-- the records of inputs as they come to a run: record k of each port, in port order, round by round
+abbrev pub timed : PacketRecord → Time × List ℕ
+timed p = (p.time, p.bytes)
+
+abbrev pub records_in : Input → List (Time × List ℕ)
+records_in i = map timed i.records
+
+abbrev pub arrivals_of : List Input → List (Arrival Time)
+arrivals_of inputs = interleaved (map records_in inputs)
+
+-- how many records each input was asked for when this port comes next in a round
+abbrev pub asked : ℕ → ℕ → ℕ → ℕ
+asked round port q = if nat_lt q port then round + 1 else round
+
+-- an input that is open gave a record each time that it was asked, and one that has ended did not at last
+abbrev pub AnswersSo : InputState → ℕ → ℕ → Type 0
+AnswersSo Open given wanted = given ≡ wanted
+AnswersSo Whole given wanted = given < wanted
+AnswersSo (Cut byte) given wanted = given < wanted
+
+-- all inputs were asked in turn until this port comes next in this round
+abbrev pub AskedUntil : ℕ → ℕ → List Input → Type 0
+AskedUntil round port inputs =
+    (q : ℕ) (i : Input) → slice_get inputs q ≡ Some i → AnswersSo i.state (length i.records) (asked round port q)
+
+-- ---- runs of an engine
+
+-- what was counted of a port in a run with these outcomes
+abbrev pub tally_of : ℕ → List (Arrival Time) → List Outcome → Tallies → Tallies
+tally_of port [] outcomes t = t
+tally_of port (a ∷ arrivals) [] t = t
+tally_of port (a ∷ arrivals) (o ∷ outcomes) t = tally_of port arrivals outcomes (if a.port == port then counted o t else t)
+
+-- the captures of a run as they are written
+abbrev pub capture_of : List (Time × List ℕ) → List PacketRecord
+capture_of records = map captured records
+
+-- from one engine to a later one there was a run on these arrivals, with these captures, and it was counted
+pub record HasRun (e e' : EngineState) (arrivals : List (Arrival Time)) (captures : List (List (Time × List ℕ))) : Type 0 where
+  pub told : List Bool
+  pub outcomes : List Outcome
+  pub run : Run e.setting e.nodes arrivals e.world told outcomes captures e'.world
+  pub turns : e'.turns ≡ e.turns + length arrivals
+  pub each : length e'.tallies ≡ length e.tallies
+  pub tallies : (port : ℕ) (sent : List (Time × List ℕ)) → slice_get captures port ≡ Some sent
+      → tallies_at e'.tallies port ≡ record (tally_of port arrivals outcomes (tallies_at e.tallies port)) { sent = (tallies_at e.tallies port).sent + length sent }
+  pub stays : e' ≡ record e { world = e'.world; turns = e'.turns; tallies = e'.tallies }
+
+-- the capture of a port in a run, as it is written
+abbrev pub capture_at : List (List (Time × List ℕ)) → ℕ → List PacketRecord
+capture_at captures port = option_map_or capture_of (slice_get captures port) []
+
+-- ---- outputs
+
+-- the records of a capture, as they are written
+abbrev pub records_text : TimeUnit → List PacketRecord → List ℕ
+records_text unit records = flat_map (record_text unit) records
+
+-- each writer was given the records that stand at its port, as far as its bytes are known
+abbrev pub AreWritten : TimeUnit → List (Option (List ℕ)) → List (Option (List ℕ)) → (ℕ → List PacketRecord) → Type 0
+AreWritten unit olds news records =
+    (port : ℕ) (old new : Option (List ℕ)) → slice_get olds port ≡ Some old → slice_get news port ≡ Some new → Appends old new (records_text unit (records port))
+
+-- ---- how a run goes
+
+-- The run has read these inputs, and ran on their records: each turn and each drain, and all was written.
+pub record Went (unit : TimeUnit) (e e' : EngineState) (olds news : List (Option (List ℕ))) (held holds : List (Option (List ℕ))) (inputs : List Input) : Type 0 where
+  pub read : AreRead olds news inputs
+  pub captures : List (List (Time × List ℕ))
+  pub run : HasRun e e' (arrivals_of inputs) captures
+  pub wrote : AreWritten unit held holds (capture_at captures)
+
+-- the input of this port has a fault behind its records, and the others were asked in their turn
+pub record HasFault (olds news : List (Option (List ℕ))) (inputs : List Input) (port : ℕ) (error : PcapError) : Type 0 where
+  pub round : ℕ
+  pub order : AskedUntil round port inputs
+  pub input : Input
+  pub input_is : slice_get inputs port ≡ Some input
+  pub is_open : input.state ≡ Open
+  pub fault : (old new : Option (List ℕ)) → slice_get olds port ≡ Some old → slice_get news port ≡ Some new
+      → WhereKnown old new (λ bytes rest. Refuses input.unit input.records error bytes)
+
+abbrev pub is_over : InputState → Bool
+is_over Open = false
+is_over Whole = true
+is_over (Cut byte) = true
+
+-- ---- turns and drains of a run
+
+-- a turn with these bytes at a port
+pub record TakesTurn (port : ℕ) (e e' : EngineState) (bytes : List ℕ) : Type 0 where
+  pub outcome : Outcome
+  pub runs : ℕ
+  pub told : List Bool
+  pub turn : Turn e.setting e.nodes port bytes e.world outcome runs told e'.world
+  pub is : e' ≡ record e { world = e'.world; turns = e.turns + 1; tallies = counted_at port outcome e.tallies }
+  -- each port has its transmit list
+  pub lists : length e'.world.outboxes ≡ length e'.setting.env.ports
+
+-- behind a record there was a turn with its bytes, and behind anything else none
+abbrev pub TurnsOn : ℕ → EngineState → EngineState → List ℕ → Result Next PcapError → Type 0
+TurnsOn port e e' bytes (Ok (Record time len)) = (len ≤ length bytes) × TakesTurn port e e' (take len bytes)
+TurnsOn port e e' bytes answer = e' ≡ e
+
+-- what comes next in a capture was read, and where it is a record a turn was taken
+abbrev pub ReadsTurn : ℕ → EngineState → EngineState → Standing → Standing → Option (List ℕ) → Option (List ℕ) → Result Next PcapError → Type 0
+ReadsTurn port e e' source source' a b answer =
+    (bytes : List ℕ) × WhereKnown a b (λ left rest. Continues source source' left rest bytes answer) × TurnsOn port e e' bytes answer
+
+-- what the drains at a time write at each port
+abbrev pub drained_at : Time → World → ℕ → List PacketRecord
+drained_at time w port = capture_at (records_at time w) port
+
+-- the first so many transmit lists are empty
+abbrev pub emptied : ℕ → List (List Packet) → List (List Packet)
+emptied zero lists = lists
+emptied (suc n) [] = []
+emptied (suc n) (packets ∷ lists) = [] ∷ emptied n lists
+
+-- the drains of the first so many ports: what each wrote, and what was counted of it
+pub record DrainedFirst (n : ℕ) (unit : TimeUnit) (time : Time) (e e' : EngineState) (held holds : List (Option (List ℕ))) : Type 0 where
+  pub wrote : (q : ℕ) (old new : Option (List ℕ)) → slice_get held q ≡ Some old → slice_get holds q ≡ Some new
+      → Appends old new (if nat_lt q n then records_text unit (drained_at time e.world q) else [])
+  pub is : e' ≡ record e { world = record e.world { outboxes = emptied n e.world.outboxes }; tallies = e'.tallies }
+  pub each : length e'.tallies ≡ length e.tallies
+  pub tallies : (q : ℕ) → q < length e.setting.env.ports
+      → tallies_at e'.tallies q ≡ record (tallies_at e.tallies q) { sent = (tallies_at e.tallies q).sent + (if nat_lt q n then length (drained_at time e.world q) else 0) }
+
+-- the drains of all ports
+abbrev pub DrainedAll : TimeUnit → Time → EngineState → EngineState → List (Option (List ℕ)) → List (Option (List ℕ)) → Type 0
+DrainedAll unit time e e' held holds = DrainedFirst (length e.setting.env.ports) unit time e e' held holds
+
+-- the writer of a port failed in the drains: those before it wrote all, it a part, and those behind it nothing
+pub record DrainsStopped (unit : TimeUnit) (time : Time) (e e' : EngineState) (held holds : List (Option (List ℕ))) (port : ℕ) : Type 0 where
+  pub there : port < length e.setting.env.ports
+  pub engine : EngineState
+  pub mids : List (Option (List ℕ))
+  pub first : DrainedFirst port unit time e engine held mids
+  pub others : (q : ℕ) → q ≢ port → slice_get holds q ≡ slice_get mids q
+  pub whole : ℕ
+  pub own : (old new : Option (List ℕ)) → slice_get held port ≡ Some old → slice_get holds port ≡ Some new → WrotePart old new unit (drained_at time e.world port) whole
+  pub is : e' ≡ drained port whole engine
+
+-- ---- how inputs stand while a run goes on
+
+-- what a source has read of an input
+abbrev pub HasReadSo : InputState → Standing → List PacketRecord → List ℕ → List ℕ → Type 0
+HasReadSo Open source records bytes rest = HasRead bytes source records rest
+HasReadSo Whole source records bytes rest = IsCapture bytes source.unit records capture.Ending.Whole
+HasReadSo (Cut byte) source records bytes rest = IsCapture bytes source.unit records (capture.Ending.Cut byte)
+
+abbrev pub IsGoingOn : InputState → Standing → ℕ → Type 0
+IsGoingOn Open source count = (source.is_open ≡ true) × (source.given ≡ count)
+IsGoingOn Whole source count = ⊤
+IsGoingOn (Cut byte) source count = ⊤
+
+-- an input, and the source that reads it
+pub record Stands (p : Progress) (i : Input) : Type 0 where
+  pub unit : p.source.unit ≡ i.unit
+  pub state : p.state ≡ i.state
+  pub goes_on : IsGoingOn i.state p.source (length i.records)
+  pub few : length i.records ≤ 16777216
+
+pub record AllStand (olds news : List (Option (List ℕ))) (progress : List Progress) (inputs : List Input) : Type 0 where
+  pub many : length progress ≡ length inputs
+  pub each : (q : ℕ) (p : Progress) (i : Input) → slice_get progress q ≡ Some p → slice_get inputs q ≡ Some i → Stands p i
+  pub read : (q : ℕ) (p : Progress) (i : Input) (old new : Option (List ℕ)) → slice_get progress q ≡ Some p → slice_get inputs q ≡ Some i
+      → slice_get olds q ≡ Some old → slice_get news q ≡ Some new → WhereKnown old new (λ bytes rest. HasReadSo i.state p.source i.records bytes rest)
+
+-- how many records all inputs have given
+abbrev pub records_many : List Input → ℕ
+records_many [] = 0
+records_many (i ∷ inputs) = length i.records + records_many inputs
+
+-- a run from an engine before its first turn to another one, in a round in which a port comes next
+pub record Along (unit : TimeUnit) (e e' : EngineState) (olds news held holds : List (Option (List ℕ))) (progress : List Progress) (inputs : List Input) (round port : ℕ) : Type 0 where
+  pub first : e.turns ≡ 0
+  pub held_many : length held ≡ length e.setting.env.ports
+  pub stand : AllStand olds news progress inputs
+  pub order : AskedUntil round port inputs
+  pub total : length (arrivals_of inputs) ≡ records_many inputs
+  pub captures : List (List (Time × List ℕ))
+  pub many : length captures ≡ length e.setting.env.ports
+  pub run : HasRun e e' (arrivals_of inputs) captures
+  pub wrote : AreWritten unit held holds (capture_at captures)
+
+-- ---- one step of a run
+
+-- what follows an answer of an input: behind a record all ports are drained
+abbrev pub Follows : ℕ → TimeUnit → EngineState → EngineState → InputState → List (Option (List ℕ)) → List (Option (List ℕ)) → Result Next PcapError → Result ⊤ RunCause → Type 0
+Follows port unit e e' state held holds (Ok (Record time len)) (Ok done) = (state ≡ Open) × DrainedAll unit time e e' held holds
+Follows port unit e e' state held holds (Ok (Record time len)) (Err cause) = (state ≡ Open) × (q : ℕ) × (cause ≡ Out q) × DrainsStopped unit time e e' held holds q
+Follows port unit e e' state held holds (Ok End) answer = (state ≡ Whole) × (answer ≡ Ok tt) × (e' ≡ e) × (holds ≡ held)
+Follows port unit e e' state held holds (Ok (next.Cut byte)) answer = (state ≡ Cut byte) × (answer ≡ Ok tt) × (e' ≡ e) × (holds ≡ held)
+Follows port unit e e' state held holds (Err error) answer = (state ≡ Open) × (answer ≡ Err (In port error)) × (e' ≡ e) × (holds ≡ held)
+
+-- an input that is open is asked for what comes next
+pub record Advances (port : ℕ) (unit : TimeUnit) (e e' : EngineState) (p p' : Progress) (old new : Option (List ℕ)) (held holds : List (Option (List ℕ))) (answer : Result ⊤ RunCause) : Type 0 where
+  pub next : Result Next PcapError
+  -- behind the turn
+  pub engine : EngineState
+  pub read : ReadsTurn port e engine p.source p'.source old new next
+  pub in_range : IsInRange p.source next
+  pub moves : Moves p.source p'.source next
+  pub follows : Follows port unit engine e' p'.state held holds next answer
+
+-- A writer failed in the drains behind a turn. There was a run on all records but the last, all of which was written; then a
+-- turn with the last; and then the drains behind it, in port order, of which that of a port stopped.
+pub record FailedAt (unit : TimeUnit) (e e' : EngineState) (olds news : List (Option (List ℕ))) (held holds : List (Option (List ℕ))) (inputs : List Input) (port : ℕ) : Type 0 where
+  pub read : AreRead olds news inputs
+  pub before : List (Arrival Time)
+  pub last : Arrival Time
+  pub arrivals_are : arrivals_of inputs ≡ before ++ last ∷ []
+  pub engine : EngineState
+  pub captures : List (List (Time × List ℕ))
+  pub run : HasRun e engine before captures
+  pub mids : List (Option (List ℕ))
+  pub wrote : AreWritten unit held mids (capture_at captures)
+  pub behind : EngineState
+  pub turn : TakesTurn last.port engine behind last.bytes
+  pub stopped : DrainsStopped unit last.time behind e' mids holds port
+
+-- a run stops in a round
+abbrev pub Stops : TimeUnit → EngineState → EngineState → List (Option (List ℕ)) → List (Option (List ℕ)) → List (Option (List ℕ)) → List (Option (List ℕ)) → List Progress → RunCause → Type 0
+Stops unit e e' olds news held holds progress (In port error) =
+    (inputs : List Input) × (map (λ (i : Input). i.state) inputs ≡ map (λ (p : Progress). p.state) progress)
+    × Went unit e e' olds news held holds inputs × HasFault olds news inputs port error
+Stops unit e e' olds news held holds progress (Out port) =
+    (inputs : List Input) × (map (λ (i : Input). i.state) inputs ≡ map (λ (p : Progress). p.state) progress)
+    × FailedAt unit e e' olds news held holds inputs port
+Stops unit e e' olds news held holds progress cause = ⊥
+
+-- a round, from a run in which its first port comes next
+abbrev pub IsRound : TimeUnit → EngineState → EngineState → EngineState → List (Option (List ℕ)) → List (Option (List ℕ)) → List (Option (List ℕ)) → List (Option (List ℕ)) → List Progress → ℕ → Result ⊤ RunCause → Type 0
+IsRound unit e0 e e' olds news held holds progress round (Ok done) = (inputs : List Input) × Along unit e0 e' olds news held holds progress inputs (round + 1) 0
+IsRound unit e0 e e' olds news held holds progress round (Err cause) = Stops unit e0 e' olds news held holds progress cause
+
+-- all rounds: at the end every input has ended
+abbrev pub AreRounds : TimeUnit → EngineState → EngineState → List (Option (List ℕ)) → List (Option (List ℕ)) → List (Option (List ℕ)) → List (Option (List ℕ)) → List Progress → Result ⊤ RunCause → Type 0
+AreRounds unit e e' olds news held holds progress (Ok done) =
+    (inputs : List Input) × (map (λ (i : Input). i.state) inputs ≡ map (λ (p : Progress). p.state) progress)
+    × Went unit e e' olds news held holds inputs × AllByRecursion (λ (i : Input). is_over i.state ≡ true) inputs
+AreRounds unit e e' olds news held holds progress (Err cause) = Stops unit e e' olds news held holds progress cause
+
+-- every input has ended
+abbrev pub NoneIsOpen : List Progress → Type 0
+NoneIsOpen progress = (q : ℕ) (p : Progress) → slice_get progress q ≡ Some p → p.state ≡ Open → ⊥

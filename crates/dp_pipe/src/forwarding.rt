@@ -1,0 +1,251 @@
+//! A run from captures to captures, over an engine that is open: headers, then record by record, round by round.
+ghost use Rattle.std.specs.Prelude.{◌≡◌, ℕ, ◌+◌, ◌<◌, ◌≤◌, ◌↔◌, true, false, [], List, Option, Ok, Err, length, map, take, slice_get, Some, OnOk, OnErr, IfOk, IfErr, IsOk, IsErr, IsErrOf, IsTrue};
+ghost use Rattle.dp_pcap.specs.Source.{body_in, IsInRange, Moves, failed_pulls};
+ghost use Rattle.std.specs.List.{AllByRecursion};
+ghost use Rattle.dp_pipe.specs.Forwarding.{Input, ReadsTurn, DrainedAll, DrainsStopped, DrainedFirst, Advances, Along, IsRound, AreRounds, NoneIsOpen};
+ghost use Rattle.dp_engine.specs.Engines.{EngineState};
+ghost use Rattle.dp_pcap.specs.declared.time.Time.{Time as InSeconds};
+ghost use Rattle.dp_pcap.specs.declared.time.Unit.{Unit as TimeUnit};
+
+use dp_engine::{Engine, InputState};
+use dp_pcap::{
+    Feed, Next, PcapError, Sink, Source, Time, Unit, next_record, pass_record, put_header,
+    read_header, record_at_hand,
+};
+
+/// Why a run stopped.
+#[derive(Clone, Copy, Debug, PartialEq, Eq)]
+pub enum RunCause {
+    /// There was not enough memory. Nothing was read or written.
+    Memory,
+    /// The region is smaller than the engine needs. Nothing was read or written.
+    NoRoom,
+    /// The input of this port has this fault, in its header or behind the records that were read.
+    In(u8, PcapError),
+    /// The writer of this port failed.
+    Out(u8),
+}
+
+/// How far an input was read.
+#[derive(Drop)]
+pub(crate) struct Progress {
+    pub source: Source,
+    pub state: InputState,
+}
+
+// The bytes of a record: those that the reader has at hand, or those in the buffer.
+#[inline(always)]
+fn bytes_of<'a, R: Feed>(r: &'a R, buf: &'a [u8], is_held: bool, len: usize) -> &'a [u8]
+    requires held { IsTrue is_held → 16 + len ≤ length (R.at_hand r.now) }
+    requires copied { is_held ≡ false → len ≤ length buf.now }
+    ensures held { IsTrue is_held → (result.now ≡ body_in (R.at_hand r.now) len) × (R.is_broken r.now ≡ false) }
+    ensures copied { is_held ≡ false → result.now ≡ take len buf.now }
+{
+    if is_held {
+        &r.held()[16..16 + len]
+    } else {
+        &buf[..len]
+    }
+}
+
+// Reads what comes next in an input and, where it is a record, takes a turn with it. Mostly the reader has it at hand, and the
+// mbuf's is the only copy of its bytes.
+#[inline(always)]
+fn next_turn<R: Feed>(
+    engine: &mut Engine,
+    port: u8,
+    r: &mut R,
+    source: &mut Source,
+    buf: &mut [u8],
+) -> Result<Next, PcapError>
+    requires exists { port < length engine.old.setting.env.ports }
+    requires buf { 262144 ≤ length buf.old }
+    // Eight inputs of so many records at most are as many turns as an engine takes.
+    requires limit { engine.old.turns + 16777216 ≤ 134217728 + source.old.given }
+    requires open { source.old.is_open ≡ true }
+    ensures turn { ReadsTurn port engine.old engine.new source.old source.new (R.remaining r.old) (R.remaining r.new) result }
+    ensures in_range { IsInRange source.old result }
+    ensures source { Moves source.old source.new result }
+    ensures failed { IsErrOf result PcapError.Read ↔ IsTrue (R.is_broken r.new) }
+    ensures failures { R.failures r.new ≡ R.failures r.old + failed_pulls result }
+{
+    let (time, len, is_held) = match record_at_hand(r, source) {
+        Some((time, len)) => (time, len, true),
+        None => match next_record(r, source, buf) {
+            Ok(Next::Record(time, len)) => (time, len, false),
+            other => return other,
+        },
+    };
+    let _turn = engine.turn(port, bytes_of(r, buf, is_held, len));
+    if is_held {
+        pass_record(r, source, len);
+    }
+    Ok(Next::Record(time, len))
+}
+
+// Drains the transmit lists of all ports, in port order, at one time. The port whose writer failed, if one did.
+fn drain_all<W: Sink>(engine: &mut Engine, time: Time, unit: Unit, outs: &mut [W]) -> Result<(), u8>
+    requires many { length outs.old ≡ length engine.old.setting.env.ports }
+    requires few { length outs.old ≤ 8 }
+    requires counted { length engine.old.tallies ≡ 8 }
+    requires nano { time.nano < 1000000000 }
+    ensures ok { OnOk result (DrainedAll unit time engine.old engine.new (map W.contents outs.old) (map W.contents outs.new)) }
+    ensures err { IfErr result (λ port. DrainsStopped unit time engine.old engine.new (map W.contents outs.old) (map W.contents outs.new) port) }
+    ensures many_out { length outs.new ≡ length outs.old }
+    ensures broken { IfErr result (λ port. (w : W) → slice_get outs.new port ≡ Some w → IsTrue (W.is_broken w)) }
+    ensures sound { IsOk result → AllByRecursion (λ w. W.is_broken w ≡ false) outs.old → AllByRecursion (λ w. W.is_broken w ≡ false) outs.new }
+{
+    for port in 0..outs.len() as u8 {
+        if engine
+            .drain(port, time, unit, &mut outs[port as usize])
+            .is_err()
+        {
+            return Err(port);
+        }
+    }
+    Ok(())
+}
+
+// Asks an input that is open for what comes next. Behind a record there is a turn, and then all ports are drained.
+fn advance<R: Feed, W: Sink>(
+    engine: &mut Engine,
+    port: u8,
+    input: &mut Progress,
+    r: &mut R,
+    outs: &mut [W],
+    unit: Unit,
+    buf: &mut [u8],
+) -> Result<(), RunCause>
+    requires exists { port < length engine.old.setting.env.ports }
+    requires many { length outs.old ≡ length engine.old.setting.env.ports }
+    requires few { length outs.old ≤ 8 }
+    requires counted { length engine.old.tallies ≡ 8 }
+    requires buf { 262144 ≤ length buf.old }
+    requires open { input.old.source.is_open ≡ true }
+    requires state { input.old.state ≡ InputState.Open }
+    requires limit { engine.old.turns + 16777216 ≤ 134217728 + input.old.source.given }
+    ensures step { Advances port unit engine.old engine.new input.old input.new (R.remaining r.old) (R.remaining r.new) (map W.contents outs.old) (map W.contents outs.new) result }
+    ensures many { length outs.new ≡ length outs.old }
+    ensures buf { length buf.new ≡ length buf.old }
+    ensures reader { IsTrue (R.is_broken r.new) → result ≡ Err (RunCause.In port PcapError.Read) }
+    ensures sound { IsOk result → AllByRecursion (λ w. W.is_broken w ≡ false) outs.old → AllByRecursion (λ w. W.is_broken w ≡ false) outs.new }
+{
+    match next_turn(engine, port, r, &mut input.source, buf) {
+        Ok(Next::Record(time, _)) => match drain_all(engine, time, unit, outs) {
+            Ok(()) => Ok(()),
+            Err(failed) => Err(RunCause::Out(failed)),
+        },
+        Ok(Next::End) => {
+            input.state = InputState::Whole;
+            Ok(())
+        }
+        Ok(Next::Cut(byte)) => {
+            input.state = InputState::Cut(byte);
+            Ok(())
+        }
+        Err(error) => Err(RunCause::In(port, error)),
+    }
+}
+
+// Whether an input has not ended.
+fn is_open(input: &Progress) -> bool
+    ensures { IsTrue result ↔ (input.now.state ≡ InputState.Open) }
+{
+    input.state == InputState::Open
+}
+
+// Asks an input for what comes next, if it is open.
+fn ask<R: Feed, W: Sink>(
+    engine: &mut Engine,
+    port: u8,
+    input: &mut Progress,
+    r: &mut R,
+    outs: &mut [W],
+    unit: Unit,
+    buf: &mut [u8],
+) -> Result<(), RunCause>
+    requires exists { port < length engine.old.setting.env.ports }
+    requires many { length outs.old ≡ length engine.old.setting.env.ports }
+    requires few { length outs.old ≤ 8 }
+    requires counted { length engine.old.tallies ≡ 8 }
+    requires buf { 262144 ≤ length buf.old }
+    requires open { input.old.state ≡ InputState.Open → input.old.source.is_open ≡ true }
+    requires limit { input.old.state ≡ InputState.Open → engine.old.turns + 16777216 ≤ 134217728 + input.old.source.given }
+    ensures step { input.old.state ≡ InputState.Open → Advances port unit engine.old engine.new input.old input.new (R.remaining r.old) (R.remaining r.new) (map W.contents outs.old) (map W.contents outs.new) result }
+    ensures over { (input.old.state ≡ InputState.Open → ⊥) → (result ≡ Ok tt) × (engine.new ≡ engine.old) × (input.new ≡ input.old) × (r.new ≡ r.old) × (outs.new ≡ outs.old) }
+    ensures many { length outs.new ≡ length outs.old }
+    ensures buf { length buf.new ≡ length buf.old }
+{
+    if !is_open(input) {
+        return Ok(());
+    }
+    advance(engine, port, input, r, outs, unit, buf)
+}
+
+// Asks each input that is open once, in port order.
+fn round<R: Feed, W: Sink>(
+    engine: &mut Engine,
+    inputs: &mut [Progress],
+    ins: &mut [R],
+    outs: &mut [W],
+    unit: Unit,
+    buf: &mut [u8],
+) -> Result<(), RunCause>
+    requires inputs { length inputs.old ≡ length engine.old.setting.env.ports }
+    requires ins { length ins.old ≡ length engine.old.setting.env.ports }
+    requires outs { length outs.old ≡ length engine.old.setting.env.ports }
+    requires few { length outs.old ≤ 8 }
+    requires counted { length engine.old.tallies ≡ 8 }
+    requires buf { 262144 ≤ length buf.old }
+    requires along { (e0 : EngineState) × (olds : List (Option (List ℕ))) × (held : List (Option (List ℕ))) × (read : List Input) × (k : ℕ) × Along unit e0 engine.old olds (map R.remaining ins.old) held (map W.contents outs.old) inputs.old read k 0 }
+    ensures goes { (e0 : EngineState) (olds held : List (Option (List ℕ))) (read : List Input) (k : ℕ) → Along unit e0 engine.old olds (map R.remaining ins.old) held (map W.contents outs.old) inputs.old read k 0
+        → IsRound unit e0 engine.old engine.new olds (map R.remaining ins.new) held (map W.contents outs.new) inputs.new k result }
+    ensures many { (length inputs.new ≡ length inputs.old) × (length ins.new ≡ length ins.old) × (length outs.new ≡ length outs.old) × (length buf.new ≡ length buf.old) }
+{
+    for port in 0..inputs.len() as u8 {
+        let k = port as usize;
+        ask(engine, port, &mut inputs[k], &mut ins[k], outs, unit, buf)?;
+    }
+    Ok(())
+}
+
+// Whether an input has not ended.
+fn is_any_open(inputs: &[Progress]) -> bool
+    ensures { result ≡ false → NoneIsOpen inputs.now }
+{
+    for k in 0..inputs.len() {
+        if is_open(&inputs[k]) {
+            return true;
+        }
+    }
+    false
+}
+
+// Round by round, until every input has ended. An input has at most 16,777,216 records.
+pub(crate) fn rounds<R: Feed, W: Sink>(
+    engine: &mut Engine,
+    inputs: &mut [Progress],
+    ins: &mut [R],
+    outs: &mut [W],
+    unit: Unit,
+    buf: &mut [u8],
+) -> Result<(), RunCause>
+    requires inputs { length inputs.old ≡ length engine.old.setting.env.ports }
+    requires ins { length ins.old ≡ length engine.old.setting.env.ports }
+    requires outs { length outs.old ≡ length engine.old.setting.env.ports }
+    requires few { length outs.old ≤ 8 }
+    requires counted { length engine.old.tallies ≡ 8 }
+    requires buf { 262144 ≤ length buf.old }
+    requires along { (e0 : EngineState) × (olds : List (Option (List ℕ))) × (held : List (Option (List ℕ))) × (read : List Input) × Along unit e0 engine.old olds (map R.remaining ins.old) held (map W.contents outs.old) inputs.old read 0 0 }
+    ensures goes { (e0 : EngineState) (olds held : List (Option (List ℕ))) (read : List Input) → Along unit e0 engine.old olds (map R.remaining ins.old) held (map W.contents outs.old) inputs.old read 0 0
+        → AreRounds unit e0 engine.new olds (map R.remaining ins.new) held (map W.contents outs.new) inputs.new result }
+    ensures many { length inputs.new ≡ length inputs.old }
+{
+    for k in 0..16_777_217u32 {
+        if !is_any_open(inputs) {
+            return Ok(());
+        }
+        round(engine, inputs, ins, outs, unit, buf)?;
+    }
+    Ok(())
+}
