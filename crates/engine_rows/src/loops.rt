@@ -10,9 +10,14 @@ const COUNT: &str = "set r1,0\na: add r1,1\njlt r1,257,a\ntx p0,r0,d\nexit\nd: f
 
 const COUNT_ON: &str = "set r1,0\na: add r1,1\njlt r1,258,a\ntx p0,r0,d\nexit\nd: free p0\nexit\n";
 
-// Holds three packets, and has nowhere to go.
-const HELD_BACK: &str =
-    "clone p1,p0,0,d\nclone p2,p0,0,c\na: jmp a\nc: free p1\nd: free p0\nexit\n";
+// Holds three packets, of which one is new and one a clone, and has nowhere to go.
+const HELD_BACK: &str = "alloc p1,0,d\nclone p2,p0,0,c\na: jmp a\nc: free p1\nd: free p0\nexit\n";
+
+// Asks for a buffer until there is one.
+const ASKS: &str = "a: alloc p1,0,a\nfree p1\nfree p0\nexit\n";
+
+// Clones until the list is full, and then tries again.
+const FILLS: &str = "a: clone p1,p0,0,d\nb: tx p1,r0,b\njmp a\nd: free p0\nexit\n";
 
 #[test]
 fn backward_jumps_have_a_budget(rt: HostRuntime) -> Result<(), Fail> {
@@ -47,11 +52,36 @@ fn cut_runs_free_their_packets(rt: HostRuntime) -> Result<(), Fail> {
         (COUNT, 1, 1, 0),
         (COUNT_ON, 0, 1, 1),
         (HELD_BACK, 0, 3, 1),
+        (FILLS, 31, 33, 1),
     ] {
         let ran = run(&rt, &env, text, &[record])?;
         assert!(&rt; says(&ran.report, 1, sent, 64, calls, 0), "{text}");
         assert_eq!(&rt; ran.report.cut, cut, "{text}");
         assert_eq!(&rt; ran.output.len(), 24 + sent as usize * 76, "{text}");
     }
+    Ok(())
+}
+
+// A call that is refused jumps back, and is made again.
+#[test]
+fn a_refused_call_that_jumps_back_is_a_step(rt: HostRuntime) -> Result<(), Fail> {
+    let env = one_port(64, 32)?;
+    let checked = checked(&rt, ASKS, &env)?;
+    let Ok(mut engine) = Engine::open_plain(rt.alloc(), &env, checked) else {
+        return Err(Fail::from("memory"));
+    };
+    let mut pattern = Vec::new(rt.alloc());
+    pattern.push(2)?;
+    engine.refuse(pattern);
+    let turn = engine.turn(0, &[7; 60]);
+    let wanted = Turn {
+        outcome: Outcome::Got,
+        runs: 1,
+        cuts: 0,
+        steps: 5,
+    };
+    assert_eq!(&rt; turn, wanted);
+    let report = engine.report();
+    assert_eq!(&rt; (report.calls, report.refused, report.cut), (3, 1, 0));
     Ok(())
 }
