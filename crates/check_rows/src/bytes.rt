@@ -1,23 +1,28 @@
-//! Each byte of strip's certificate, set to each other value.
+//! Each byte of two certificates, one of each version, set to each other value.
 
-use crate::given::{STRIP, environment, program, strip_text};
+use crate::given::{RESOLE, RESOLE_ROWS, STRIP, environment, program, resole_text, strip_text};
 use dp_cert::decode;
 use dp_check::check;
-use dp_lang::print;
 use dp_model::{Entry, Env};
 use std::test::Fail;
 
-/// Whether a text is refused, or strip is accepted with it as it stands.
-fn is_harmless(rt: &HostRuntime, text: &[u8], env: &Env) -> Result<bool, Fail> {
-    match decode(rt.alloc(), text, 6) {
+/// Whether a text of so many rows is refused, or the program is accepted with it as it stands.
+fn is_harmless(
+    rt: &HostRuntime,
+    node: &str,
+    text: &[u8],
+    rows: usize,
+    env: &Env,
+) -> Result<bool, Fail> {
+    match decode(rt.alloc(), text, rows) {
         Err(_) => Ok(true),
-        Ok(cert) => match check(program(rt, STRIP)?, cert, env, Entry::Port(0)) {
+        Ok(cert) => match check(program(rt, node)?, cert, env, Entry::Port(0)) {
             Err(_) => Ok(true),
             Ok(checked) => {
-                let same = print(rt.alloc(), checked.program())?.as_str() == STRIP;
+                let same = checked.program().instrs() == program(rt, node)?.instrs();
                 Ok(
                     same && matches!(checked.entry(), Entry::Port(0))
-                        && checked.cert().rows().len() == 6,
+                        && checked.cert().rows().len() == rows,
                 )
             }
         },
@@ -25,17 +30,23 @@ fn is_harmless(rt: &HostRuntime, text: &[u8], env: &Env) -> Result<bool, Fail> {
 }
 
 /// How many of the texts with another byte at these places do harm.
-fn harmful(rt: &HostRuntime, from: usize, to: usize) -> Result<u64, Fail> {
+fn harmful(
+    rt: &HostRuntime,
+    node: &str,
+    text: &str,
+    rows: usize,
+    from: usize,
+    to: usize,
+) -> Result<u64, Fail> {
     let env = environment(1)?;
-    let text = strip_text(rt, 6, "")?;
-    let mut bytes = text.as_str().as_bytes().to_vec(rt.alloc())?;
+    let mut bytes = text.as_bytes().to_vec(rt.alloc())?;
     let mut count = 0u64;
     for place in from..to {
         for value in 0..=255u8 {
             if place < bytes.len() {
                 let old = bytes[place];
                 bytes[place] = value;
-                if !is_harmless(rt, bytes.as_slice(), &env)? {
+                if !is_harmless(rt, node, bytes.as_slice(), rows, &env)? {
                     count = count.saturating_add(1);
                 }
                 bytes[place] = old;
@@ -45,38 +56,50 @@ fn harmful(rt: &HostRuntime, from: usize, to: usize) -> Result<u64, Fail> {
     Ok(count)
 }
 
+/// How many of the texts with another byte in strip's certificate do harm.
+fn harmful_to_strip(rt: &HostRuntime, from: usize, to: usize) -> Result<u64, Fail> {
+    let text = strip_text(rt, 6, "")?;
+    harmful(rt, STRIP, text.as_str(), 6, from, to)
+}
+
+/// The same of resole's, which has a sharing group.
+fn harmful_to_resole(rt: &HostRuntime, from: usize, to: usize) -> Result<u64, Fail> {
+    let text = resole_text(rt, "dpv-cert 2\n", RESOLE_ROWS[1].0)?;
+    harmful(rt, RESOLE, text.as_str(), 9, from, to)
+}
+
 #[test]
-fn the_head_and_the_first_row(rt: HostRuntime) -> Result<(), Fail> {
-    assert_eq!(rt; harmful(&rt, 0, 318)?, 0);
+fn the_head_and_the_first_rows_of_version_1(rt: HostRuntime) -> Result<(), Fail> {
+    assert_eq!(rt; harmful_to_strip(&rt, 0, 625)?, 0);
     Ok(())
 }
 
 #[test]
-fn the_second_row(rt: HostRuntime) -> Result<(), Fail> {
-    assert_eq!(rt; harmful(&rt, 318, 625)?, 0);
+fn the_next_rows_of_version_1(rt: HostRuntime) -> Result<(), Fail> {
+    assert_eq!(rt; harmful_to_strip(&rt, 625, 1239)?, 0);
     Ok(())
 }
 
 #[test]
-fn the_third_row(rt: HostRuntime) -> Result<(), Fail> {
-    assert_eq!(rt; harmful(&rt, 625, 932)?, 0);
+fn the_last_rows_of_version_1(rt: HostRuntime) -> Result<(), Fail> {
+    assert_eq!(rt; harmful_to_strip(&rt, 1239, 1853)?, 0);
     Ok(())
 }
 
 #[test]
-fn the_fourth_row(rt: HostRuntime) -> Result<(), Fail> {
-    assert_eq!(rt; harmful(&rt, 932, 1239)?, 0);
+fn the_head_and_the_first_rows_of_version_2(rt: HostRuntime) -> Result<(), Fail> {
+    assert_eq!(rt; harmful_to_resole(&rt, 0, 932)?, 0);
     Ok(())
 }
 
 #[test]
-fn the_fifth_row(rt: HostRuntime) -> Result<(), Fail> {
-    assert_eq!(rt; harmful(&rt, 1239, 1546)?, 0);
+fn the_next_rows_of_version_2(rt: HostRuntime) -> Result<(), Fail> {
+    assert_eq!(rt; harmful_to_resole(&rt, 932, 1853)?, 0);
     Ok(())
 }
 
 #[test]
-fn the_last_row(rt: HostRuntime) -> Result<(), Fail> {
-    assert_eq!(rt; harmful(&rt, 1546, 1853)?, 0);
+fn the_last_rows_of_version_2(rt: HostRuntime) -> Result<(), Fail> {
+    assert_eq!(rt; harmful_to_resole(&rt, 1853, 2774)?, 0);
     Ok(())
 }

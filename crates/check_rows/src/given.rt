@@ -20,14 +20,31 @@ pub const MULTICAST: &str =
 pub const ALL_FORMS: &str =
     "ifhead p0,64,out\niftail p0,4,out\niflen p0,14,out\niflast p0,14,out\nload r1,p0,12,2\nand r1,7\nloadx r2,p0,r1,2,4\nstore p0,0,4,r2\nstorex p0,r1,2,4,r2\nset r3,5\nmov r4,r3\nadd r4,r3\nsub r4,1\nor r3,2\nxor r3,r3\nshl r3,1\nshr r3,1\njeq r3,7,out\njlt r3,2,out\nlookup r5,0,r2,out\nprepend p0,4\nadj p0,4\nappend p0,2\ntrim p0,2\nclone p1,p0,0,out\nfree p1\nalloc p1,0,out\nchain p1,p0\nenq p1,0,drop\nexit\ndrop: free p1\nexit\nout: jmp end\nend: tx p0,r0,left\nexit\nleft: free p0\nexit\n";
 
-/// The digits of the rows of strip's certificate, without the zeros behind them.
-const STRIP_ROWS: [&str; 6] = [
-    "010102008000000000000001",
-    "01010200800000000e000001",
-    "010102008e00000000000001",
-    "01",
-    "010102008000000000000001",
-    "01",
+/// The rows of strip's certificate, as `cert_text` has them.
+const STRIP_ROWS: [(&str, &str); 6] = [
+    ("010102008000000000000001", "0000"),
+    ("01010200800000000e000001", "0000"),
+    ("010102008e00000000000001", "0000"),
+    ("01", "0000"),
+    ("010102008000000000000001", "0000"),
+    ("01", "0000"),
+];
+
+/// Clones a packet, frees the clone and stores to the packet, which is sole again.
+pub const RESOLE: &str =
+    "clone p1,p0,0,d\nfree p1\niflen p0,1,d\nset r1,7\nstore p0,0,1,r1\ntx p0,r0,d\nexit\nd: free p0\nexit\n";
+
+/// The rows of its certificate.
+pub const RESOLE_ROWS: [(&str, &str); 9] = [
+    ("010102008000000000000001", "0000"),
+    ("0101080080000000000000010108008000000000000001", "0000"),
+    ("010102008000000000000001", "0000"),
+    ("010102008000000001000001", "0000"),
+    ("010102008000000001000001", "0007"),
+    ("010102008000000001000001", "0007"),
+    ("01", "0007"),
+    ("010102008000000000000001", "0007"),
+    ("01", "0007"),
 ];
 
 /// A fact that promises nothing but a packet.
@@ -110,18 +127,38 @@ pub fn refusal(program: Program, cert: Cert, env: &Env, entry: Entry) -> Option<
     }
 }
 
-/// Strip's certificate, where one row may have other digits.
-pub fn strip_text(rt: &HostRuntime, label: usize, digits: &str) -> Result<String, Fail> {
-    let mut text = String::from_str(rt.alloc(), "dpv-cert 1\n")?;
-    for (k, row) in STRIP_ROWS.iter().enumerate() {
-        let row = if k == label { digits } else { *row };
-        text.push_str(row)?;
-        for _ in row.len()..306 {
+/// The text of a certificate with this first line, whose rows begin with these digits: what is known of p0, p1 and so on.
+/// The last four digits of r1's bound come with them, and all others are zeros.
+pub fn cert_text(rt: &HostRuntime, head: &str, rows: &[(&str, &str)]) -> Result<String, Fail> {
+    let mut text = String::from_str(rt.alloc(), head)?;
+    for (packets, bound) in rows {
+        text.push_str(packets)?;
+        for _ in packets.len()..206 {
+            text.push('0')?;
+        }
+        text.push_str(bound)?;
+        for _ in 210..306u64 {
             text.push('0')?;
         }
         text.push('\n')?;
     }
     Ok(text)
+}
+
+/// Strip's certificate, where one row may have other digits.
+pub fn strip_text(rt: &HostRuntime, label: usize, digits: &str) -> Result<String, Fail> {
+    let mut rows = STRIP_ROWS;
+    if label < 6 {
+        rows[label] = (digits, "0000");
+    }
+    cert_text(rt, "dpv-cert 1\n", rows.as_slice())
+}
+
+/// Resole's certificate with this first line and these digits in the row of label 1.
+pub fn resole_text(rt: &HostRuntime, head: &str, digits: &str) -> Result<String, Fail> {
+    let mut rows = RESOLE_ROWS;
+    rows[1] = (digits, "0000");
+    cert_text(rt, head, rows.as_slice())
 }
 
 /// The line and the cause for which a text of n rows is no certificate, or nothing.

@@ -1,43 +1,12 @@
 //! Certificates with sharing groups.
 
-use crate::given::{environment, inferred, program, refusal, strip_text};
+use crate::given::{
+    RESOLE, RESOLE_ROWS, STRIP, environment, inferred, program, refusal, resole_text, strip_text,
+};
 use dp_cert::{CertError, decode, encode};
 use dp_infer::infer;
 use dp_model::Entry;
 use std::test::Fail;
-
-/// A packet is sole again after its clone is freed.
-const RESOLE: &str =
-    "clone p1,p0,0,d\nfree p1\niflen p0,1,d\nset r1,7\nstore p0,0,1,r1\ntx p0,r0,d\nexit\nd: free p0\nexit\n";
-
-/// The digits of the rows of its certificate, without the zeros behind them, and where r1 is bounded by 7.
-const ROWS: [(&str, bool); 9] = [
-    ("010102008000000000000001", false),
-    ("0101080080000000000000010108008000000000000001", false),
-    ("010102008000000000000001", false),
-    ("010102008000000001000001", false),
-    ("010102008000000001000001", true),
-    ("010102008000000001000001", true),
-    ("01", true),
-    ("010102008000000000000001", true),
-    ("01", true),
-];
-
-/// The same with another line of label 1, under this head.
-fn text(rt: &HostRuntime, head: &str, second: &str) -> Result<String, Fail> {
-    let mut text = String::new(rt.alloc());
-    text.push_str(head)?;
-    for i in 0..9 {
-        let (digits, bounded) = ROWS[i];
-        let digits = if i == 1 { second } else { digits };
-        text.push_str(digits)?;
-        for k in digits.len()..306 {
-            text.push_str(if bounded && k == 209 { "7" } else { "0" })?;
-        }
-        text.push_str("\n")?;
-    }
-    Ok(text)
-}
 
 fn cause(rt: &HostRuntime, text: &str) -> u8 {
     match decode(rt.alloc(), text.as_bytes(), 9) {
@@ -50,7 +19,7 @@ fn cause(rt: &HostRuntime, text: &str) -> u8 {
 #[test]
 fn a_packet_is_sole_again(rt: HostRuntime) -> Result<(), Fail> {
     let env = environment(1)?;
-    let two = text(&rt, "dpv-cert 2\n", ROWS[1].0)?;
+    let two = resole_text(&rt, "dpv-cert 2\n", RESOLE_ROWS[1].0)?;
     let cert = decode(rt.alloc(), two.as_str().as_bytes(), 9)?;
     assert_eq!(rt; cert.version(), 2);
     let spelled = encode(rt.alloc(), &cert)?;
@@ -59,7 +28,7 @@ fn a_packet_is_sole_again(rt: HostRuntime) -> Result<(), Fail> {
         refusal(program(&rt, RESOLE)?, cert, &env, Entry::Port(0)),
         None
     );
-    let loose = text(
+    let loose = resole_text(
         &rt,
         "dpv-cert 1\n",
         "0101000080000000000000010100008000000000000001",
@@ -71,7 +40,8 @@ fn a_packet_is_sole_again(rt: HostRuntime) -> Result<(), Fail> {
         Some((1, 11))
     );
     let found = inferred(&rt, RESOLE, &env)?;
-    assert_eq!(rt; found.version(), 2);
+    let spelled = encode(rt.alloc(), &found)?;
+    assert_eq!(rt; spelled.as_slice(), two.as_str().as_bytes());
     assert_eq!(rt;
         refusal(program(&rt, RESOLE)?, found, &env, Entry::Port(0)),
         None
@@ -81,19 +51,19 @@ fn a_packet_is_sole_again(rt: HostRuntime) -> Result<(), Fail> {
 
 #[test]
 fn groups_are_judged(rt: HostRuntime) -> Result<(), Fail> {
-    let alone = text(&rt, "dpv-cert 2\n", "010108008000000000000001")?;
+    let alone = resole_text(&rt, "dpv-cert 2\n", "010108008000000000000001")?;
     assert_eq!(rt; cause(&rt, alone.as_str()), 3);
-    let misnamed = text(
+    let misnamed = resole_text(
         &rt,
         "dpv-cert 2\n",
         "0101090080000000000000010109008000000000000001",
     )?;
     assert_eq!(rt; cause(&rt, misnamed.as_str()), 3);
-    let first = text(&rt, "dpv-cert 1\n", ROWS[1].0)?;
+    let first = resole_text(&rt, "dpv-cert 1\n", RESOLE_ROWS[1].0)?;
     assert_eq!(rt; cause(&rt, first.as_str()), 3);
-    let third = text(&rt, "dpv-cert 3\n", ROWS[1].0)?;
+    let third = resole_text(&rt, "dpv-cert 3\n", RESOLE_ROWS[1].0)?;
     assert_eq!(rt; cause(&rt, third.as_str()), 1);
-    let two = text(&rt, "dpv-cert 2\n", ROWS[1].0)?;
+    let two = resole_text(&rt, "dpv-cert 2\n", RESOLE_ROWS[1].0)?;
     assert_eq!(rt; cause(&rt, two.as_str()), 0);
     Ok(())
 }
@@ -105,12 +75,7 @@ fn a_raised_certificate_serves_as_well(rt: HostRuntime) -> Result<(), Fail> {
     let cert = decode(rt.alloc(), stored.as_str().as_bytes(), 6)?.raise();
     assert_eq!(rt; cert.version(), 2);
     assert_eq!(rt;
-        refusal(
-            program(&rt, crate::given::STRIP)?,
-            cert,
-            &env,
-            Entry::Port(0)
-        ),
+        refusal(program(&rt, STRIP)?, cert, &env, Entry::Port(0)),
         None
     );
     Ok(())

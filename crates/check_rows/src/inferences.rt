@@ -140,7 +140,7 @@ fn the_longest_loops(rt: HostRuntime) -> Result<(), Fail> {
     // constants of all sizes, and no test that keeps the bound
     let mut steps = String::from_str(rt.alloc(), "a: add r1,1\n")?;
     for k in 1..1022 {
-        let line = format!(in rt.alloc(); "set r2,{}\n", k * 1000)?;
+        let line = format!(in rt.alloc(); "set r2,{k}000\n")?;
         steps.push_str(line.as_str())?;
     }
     steps.push_str("jmp a\n")?;

@@ -11,6 +11,8 @@ mod groups;
 #[cfg(test)]
 mod inferences;
 #[cfg(test)]
+mod loops;
+#[cfg(test)]
 mod programs;
 #[cfg(test)]
 mod refusals;

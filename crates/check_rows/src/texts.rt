@@ -34,8 +34,16 @@ fn lines_are_counted(rt: HostRuntime) -> Result<(), Fail> {
     text.push('\n')?;
     assert_eq!(rt; fault(&rt, text.as_str().as_bytes(), 6), Some((8, 4)));
     assert_eq!(rt; fault(&rt, b"", 6), Some((1, 1)));
-    assert_eq!(rt; fault(&rt, b"dpv-cert 2\n", 0), Some((1, 1)));
-    assert_eq!(rt; fault(&rt, b"dpv-cert 1\n", 0), None);
+    for (head, at) in [
+        ("dpv-cert 1\n", None),
+        ("dpv-cert 2\n", None),
+        ("dpv-cert 3\n", Some((1, 1))),
+        ("dpv-cert 0\n", Some((1, 1))),
+        ("dpv-cert 2", Some((1, 1))),
+        ("dpv-cert 2\n\n", Some((2, 4))),
+    ] {
+        assert_eq!(rt; fault(&rt, head.as_bytes(), 0), at, "{head}");
+    }
     Ok(())
 }
 

@@ -1,7 +1,11 @@
 //! Printed texts and statuses.
 
 use crate::mem::mem_line;
-use crate::one::{one_load, one_run};
+use crate::one::{one_env, one_load, one_run};
+use dp_cert::encode;
+use dp_infer::infer;
+use dp_lang::assemble;
+use dp_model::Entry;
 use dp_pcap::{FailingFeed, FailingSink, OfRead, OfWrite};
 use std::alloc::{AllocError, Global};
 
@@ -228,19 +232,148 @@ fn a_header_is_taken_off_a_record(rt: HostRuntime) {
     assert_eq!(&rt; written.as_slice(), stripped.as_slice());
 }
 
+/// The certificate that is inferred for a program of the one port.
+fn certified(alloc: Global, node: &str) -> Result<Vec<u8>, AllocError> {
+    let Ok(program) = assemble(alloc, node.as_bytes()) else {
+        return Ok(Vec::new(alloc));
+    };
+    match infer(alloc, &program, &one_env(), Entry::Port(0)) {
+        Ok(cert) => encode(alloc, &cert),
+        Err(_) => Ok(Vec::new(alloc)),
+    }
+}
+
+/// Clones a packet, frees the clone and stores 7 to the packet, which is sole again.
+const RESOLE: &str =
+    "clone p1,p0,0,d\nfree p1\niflen p0,1,d\nset r1,7\nstore p0,0,1,r1\ntx p0,r0,d\nexit\nd: free p0\nexit\n";
+
 #[test]
-fn a_node_run_that_does_not_end_is_cut(rt: HostRuntime) {
+fn a_packet_is_sole_again_behind_its_clone(rt: HostRuntime) {
     let alloc = rt.alloc();
-    let cert = cert_text(alloc, ["010102008000000000000001"].as_slice()).expect(&rt, "memory");
-    let input = one_record(alloc, 0).expect(&rt, "memory");
-    let (status, out, err, written) = run(alloc, "a: jmp a\n", cert.as_slice(), input.as_slice());
+    let cert = certified(alloc, RESOLE).expect(&rt, "memory");
+    let mut wanted = one_record(alloc, 0).expect(&rt, "memory");
+    let (status, out, err, written) = run(alloc, RESOLE, cert.as_slice(), wanted.as_slice());
     let report =
-        "port 0 received 1 nobuf 0 oversize 0 sent 0 input whole\npool 0 free 64 of 64\ncalls 1 refused 0\ncut 1\n";
+        "port 0 received 1 nobuf 0 oversize 0 sent 1 input whole\npool 0 free 64 of 64\ncalls 2 refused 0\n";
     assert_eq!(&rt;
         (status, out.as_slice(), err.as_slice()),
         (0, report.as_bytes(), b"".as_slice())
     );
-    assert_eq!(&rt; written.as_slice(), HEADER.as_slice());
+    if let Some(first) = wanted.get_mut(40) {
+        *first = 7;
+    }
+    assert_eq!(&rt; written.as_slice(), wanted.as_slice());
+}
+
+/// The version of its certificate and the last digits of the shares of p0 and p1 in the row of label 1, and what is told
+/// and printed.
+static OTHER_SHARES: [([u8; 3], u8, &str, &str); 5] = [
+    // without a group, in either version
+    (*b"100", 1, "port 0 refused at 1 by J11\n", ""),
+    (*b"200", 1, "port 0 refused at 1 by J11\n", ""),
+    // a group of one, one that is not named by its least register, and a group in version 1
+    (
+        *b"280",
+        3,
+        "",
+        "fault: pipeline 7 BadCert port 0 line 3 cause 3\n",
+    ),
+    (
+        *b"299",
+        3,
+        "",
+        "fault: pipeline 7 BadCert port 0 line 3 cause 3\n",
+    ),
+    (
+        *b"188",
+        3,
+        "",
+        "fault: pipeline 7 BadCert port 0 line 3 cause 3\n",
+    ),
+];
+
+/// Sets a byte, if there is one at the place.
+fn set(bytes: &mut Vec<u8>, place: usize, value: u8) {
+    if let Some(byte) = bytes.get_mut(place) {
+        *byte = value;
+    }
+}
+
+/// What `dpv one` makes of its certificate with another version and other shares: its status, and what it prints on both
+/// writers.
+fn regrouped(alloc: Global, digits: [u8; 3]) -> Result<(u8, Vec<u8>, Vec<u8>), AllocError> {
+    let mut cert = certified(alloc, RESOLE)?;
+    set(&mut cert, 9, digits[0]);
+    set(&mut cert, 323, digits[1]);
+    set(&mut cert, 345, digits[2]);
+    let (status, out, err, _written) = run(alloc, RESOLE, cert.as_slice(), b"".as_slice());
+    Ok((status, out, err))
+}
+
+#[test]
+fn a_packet_and_its_clone_are_a_group(rt: HostRuntime) {
+    for (digits, wanted, printed, told) in OTHER_SHARES.iter() {
+        let (status, out, err) = regrouped(rt.alloc(), *digits).expect(&rt, "memory");
+        assert_eq!(&rt; status, *wanted, "{told}");
+        assert_eq!(&rt; out.as_slice(), printed.as_bytes(), "{told}");
+        assert_eq!(&rt; err.as_slice(), told.as_bytes(), "{told}");
+    }
+}
+
+/// A program that comes back to labels, how many packets it sends, and what is printed behind that.
+static LOOPS: [(&str, usize, &str); 6] = [
+    (
+        "a: jmp a\n",
+        0,
+        "pool 0 free 64 of 64\ncalls 1 refused 0\ncut 1\n",
+    ),
+    (
+        "set r1,0\na: add r1,1\njlt r1,257,a\ntx p0,r0,d\nexit\nd: free p0\nexit\n",
+        1,
+        "pool 0 free 64 of 64\ncalls 1 refused 0\n",
+    ),
+    (
+        "set r1,0\na: add r1,1\njlt r1,258,a\ntx p0,r0,d\nexit\nd: free p0\nexit\n",
+        0,
+        "pool 0 free 64 of 64\ncalls 1 refused 0\ncut 1\n",
+    ),
+    // the cut run holds three packets, of which one is new and one a clone
+    (
+        "alloc p1,0,d\nclone p2,p0,0,c\na: jmp a\nc: free p1\nd: free p0\nexit\n",
+        0,
+        "pool 0 free 64 of 64\ncalls 3 refused 0\ncut 1\n",
+    ),
+    // a packet of all the pool's buffers, so that each call afterwards is refused, and jumps back
+    (
+        "clone p1,p0,0,d\nchain p0,p1\nclone p1,p0,0,d\nchain p0,p1\nclone p1,p0,0,d\nchain p0,p1\nclone p1,p0,0,d\nchain p0,p1\nclone p1,p0,0,d\nchain p0,p1\nclone p1,p0,0,d\nchain p0,p1\na: alloc p1,0,a\nfree p1\nd: free p0\nexit\n",
+        0,
+        "pool 0 free 64 of 64\ncalls 264 refused 0\ncut 1\n",
+    ),
+    // clones until the list is full, and then tries again
+    (
+        "a: clone p1,p0,0,d\nb: tx p1,r0,b\njmp a\nd: free p0\nexit\n",
+        31,
+        "pool 0 free 64 of 64\ncalls 33 refused 0\ncut 1\n",
+    ),
+];
+
+#[test]
+fn node_runs_take_256_backward_jumps(rt: HostRuntime) {
+    let alloc = rt.alloc();
+    let input = one_record(alloc, 0).expect(&rt, "memory");
+    for (node, sent, counts) in LOOPS.iter() {
+        let cert = certified(alloc, node).expect(&rt, "memory");
+        let (status, out, err, written) = run(alloc, node, cert.as_slice(), input.as_slice());
+        let printed = format!(in alloc;
+            "port 0 received 1 nobuf 0 oversize 0 sent {sent} input whole\n{counts}"
+        ).expect(&rt, "memory");
+        assert_eq!(&rt;
+            (status, out.as_slice(), err.as_slice()),
+            (0, printed.as_str().as_bytes(), b"".as_slice()),
+            "{node}"
+        );
+        assert_eq!(&rt; written.len(), 24 + *sent * 76, "{node}");
+    }
 }
 
 #[test]

@@ -3,8 +3,9 @@
 use dp_model::{
     Env, Fact, Instr, Leads, NumberRegister, Operand, Packet, PacketRegister, PoolSpec, PortSpec,
     Row, Rule, Width, accepted_programs_are_safe, accepted_programs_are_sound,
-    layers_stay_well_formed, longest_prefixes_agree, numbers_are_as_called, runs_are_as_they_read,
-    turns_stay_ready, worlds_stay_well_formed,
+    budgets_are_as_they_read, layers_stay_well_formed, longest_prefixes_agree,
+    numbers_are_as_called, runs_are_as_they_read, turns_stay_ready,
+    whole_runs_end_with_whole_pools, worlds_stay_well_formed,
 };
 
 /// What is known of a packet in one segment.
@@ -22,6 +23,18 @@ fn single(share: u8, head: u16, tail: u16, first: u16, last: u16) -> Fact {
 /// The first row of strip, on a port whose packets have one segment.
 fn at_port() -> Row {
     Row::of_entry(single(2, 128, 0, 0, 0), 0)
+}
+
+/// That row, where the first packet registers have these shares, and the others nothing.
+fn with_shares(shares: &[Option<u8>]) -> Row {
+    let mut row = at_port();
+    for (fact, share) in row.facts.iter_mut().zip(shares) {
+        *fact = match share {
+            Some(share) => single(*share, 128, 0, 0, 0),
+            None => Fact::Empty,
+        };
+    }
+    row
 }
 
 /// A row that says nothing.
@@ -110,6 +123,11 @@ fn small_words_have_numbers(rt: HostRuntime) {
 
 /// The row that is known at the next instruction after one in the first row of strip.
 fn row_after(instr: Instr) -> Option<Row> {
+    next_row(&at_port(), instr)
+}
+
+/// The row that is known at the next instruction after one in this row.
+fn next_row(row: &Row, instr: Instr) -> Option<Row> {
     let pools = [PoolSpec {
         count: 64,
         cache: 0,
@@ -121,11 +139,10 @@ fn row_after(instr: Instr) -> Option<Row> {
         queue: 32,
     }];
     let env = Env::new(&pools, 0, &[], &ports).ok()?;
-    let row = at_port();
     if !row.is_well_formed() {
         return None;
     }
-    match instr.leads(&env, 0, &row) {
+    match instr.leads(&env, 0, row) {
         Leads::Ends => None,
         Leads::One(lead) => Some(lead.row),
         Leads::Two(lead, _) => Some(lead.row),
@@ -160,20 +177,87 @@ fn instructions_leave_rows(rt: HostRuntime) {
         refused: 9,
     };
     assert_eq!(rt; row_after(alloc), Some(new), "a new packet");
-    let mut both = first;
-    both.facts[0] = single(0, 128, 0, 0, 0);
-    both.facts[1] = single(0, 128, 0, 0, 0);
-    let clone = Instr::Clone {
-        into,
-        from: packet,
-        pool: 0,
-        refused: 9,
-    };
-    assert_eq!(rt; row_after(clone), Some(both), "both are loose");
     let mut gone = first;
     gone.facts[0] = Fact::Empty;
     assert_eq!(rt; row_after(Instr::Free { packet }), Some(gone), "given up");
     assert_eq!(rt; row_after(Instr::Exit), None, "no successor");
+}
+
+#[test]
+fn groups_are_judged(rt: HostRuntime) {
+    let pair = with_shares(&[Some(8), Some(8)]);
+    assert!(rt; pair.is_well_formed());
+    assert!(rt; pair.has_groups());
+    assert!(rt; !at_port().has_groups());
+    for shares in [[Some(8), None], [Some(9), Some(9)], [Some(8), Some(9)]] {
+        assert!(rt; !with_shares(&shares).is_well_formed(), "{shares:?}");
+    }
+    let loose = with_shares(&[Some(0), Some(0)]);
+    assert!(rt; pair.entails(&pair));
+    assert!(rt; pair.entails(&loose));
+    assert!(rt; !loose.entails(&pair));
+    assert!(rt; !with_shares(&[Some(2), Some(2)]).entails(&pair));
+    let three = with_shares(&[Some(8), Some(8), Some(8)]);
+    assert!(rt; !three.entails(&with_shares(&[Some(8), Some(8), Some(0)])));
+    assert!(rt; pair.shares_group(&pair, 0));
+    assert!(rt; !pair.shares_group(&three, 0));
+    assert!(rt; !pair.shares_group(&pair, 1));
+    let fact = single(9, 128, 0, 0, 0);
+    assert_eq!(rt; fact.group(), Some(1));
+    assert_eq!(rt; single(2, 128, 0, 0, 0).group(), None);
+    assert!(rt; fact.is_in(1));
+    assert!(rt; !fact.is_in(0));
+    assert_eq!(rt; fact.reshared(1, 2), single(2, 128, 0, 0, 0));
+    assert_eq!(rt; fact.reshared(0, 2), fact);
+}
+
+/// A clone of one register's packet into another.
+fn clone(into: PacketRegister, from: PacketRegister) -> Instr {
+    Instr::Clone {
+        into,
+        from,
+        pool: 0,
+        refused: 9,
+    }
+}
+
+/// What a clone, a free and a send leave of shares.
+#[test]
+fn groups_come_and_go(rt: HostRuntime) {
+    let p0 = PacketRegister::new(0);
+    let p1 = PacketRegister::new(1);
+    let p2 = PacketRegister::new(2);
+    let send = Instr::Tx {
+        packet: p0,
+        port: NumberRegister::new(0),
+        full: 9,
+    };
+    let pair = with_shares(&[Some(8), Some(8)]);
+    let three = with_shares(&[Some(8), Some(8), Some(8)]);
+    for (row, instr, left) in [
+        (at_port(), clone(p1, p0), pair),
+        (pair, clone(p2, p1), three),
+        (with_shares(&[None, Some(9), Some(9)]), clone(p0, p2), three),
+        (
+            with_shares(&[Some(1)]),
+            clone(p1, p0),
+            with_shares(&[Some(0), Some(0)]),
+        ),
+        (pair, Instr::Free { packet: p1 }, at_port()),
+        (
+            pair,
+            Instr::Free { packet: p0 },
+            with_shares(&[None, Some(2)]),
+        ),
+        (
+            three,
+            Instr::Free { packet: p0 },
+            with_shares(&[None, Some(9), Some(9)]),
+        ),
+        (three, send, with_shares(&[None, Some(0), Some(0)])),
+    ] {
+        assert_eq!(rt; next_row(&row, instr), Some(left), "{instr:?}");
+    }
 }
 
 #[test]
@@ -234,4 +318,6 @@ fn laws_can_be_called(_rt: HostRuntime) {
     longest_prefixes_agree();
     numbers_are_as_called();
     runs_are_as_they_read::<u32>();
+    whole_runs_end_with_whole_pools::<u32>();
+    budgets_are_as_they_read();
 }
