@@ -3,6 +3,12 @@
 #![tactic(auto)]
 
 mod checked;
+mod diagnosis;
+mod gap;
+mod reason;
 mod rules;
+mod shortfall;
 
 pub use checked::{Checked, Refused, check, fault_of};
+pub use diagnosis::{Diagnosis, diagnose};
+pub use reason::{Gap, Measure, Reason};

@@ -8,6 +8,7 @@ mod cut;
 mod form;
 mod labels;
 mod laws;
+mod line_numbers;
 mod operand;
 mod printer;
 mod program;
@@ -19,6 +20,7 @@ mod statement;
 pub use assembler::assemble;
 pub use cause::{AsmError, Cause, Fault};
 pub use laws::printed_texts_read_back;
+pub use line_numbers::source_lines;
 pub use printer::print;
 pub use program::Program;
 
