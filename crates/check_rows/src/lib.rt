@@ -10,6 +10,8 @@ mod groups;
 #[cfg(test)]
 mod inferences;
 #[cfg(test)]
+mod reasons;
+#[cfg(test)]
 mod refusals;
 #[cfg(test)]
 mod texts;
