@@ -44,6 +44,10 @@ is_row_of Two row = is_well_formed_row row
 abbrev pub version_for : List Row → Version
 version_for rows = if list_any (λ row. have_groups row.facts) rows then Two else One
 
+-- the certificate of rows, of the version that is theirs
+abbrev pub certificate_of : List Row → Certificate
+certificate_of rows = record { version = version_for rows; rows = rows }
+
 -- the certificate of version 2 with the same rows
 abbrev pub raised : Certificate → Certificate
 raised cert = record cert { version = Two }

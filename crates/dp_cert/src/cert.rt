@@ -3,7 +3,7 @@
 ghost use Rattle.std.specs.Prelude.{◌≡◌, ◌==◌, IsTrue};
 ghost use Rattle.std.specs.List.{list_all, list_any};
 ghost use Rattle.dp_model.specs.Rows.{is_well_formed_row, have_groups};
-ghost use Rattle.dp_cert.specs.Spelling.{is_row_of, version_for, number_of_version, raised};
+ghost use Rattle.dp_cert.specs.Spelling.{is_row_of, version_for, certificate_of, number_of_version, raised};
 
 use dp_model::Row;
 use std::marker::Model;
@@ -79,8 +79,7 @@ impl Cert {
     #[tactic(auto, using(crate::proofs::Versions::rows_of_version))]
     pub fn new(rows: Vec<Row>) -> Cert
         requires { IsTrue (list_all is_well_formed_row rows.items) }
-        ensures rows { result.rows ≡ rows.items }
-        ensures version { result.version ≡ version_for rows.items }
+        ensures { result ≡ certificate_of rows.items }
     {
         let version = version_for(&rows);
         Cert { version, rows }

@@ -1,18 +1,23 @@
 -- The question that a check answers.
 use Rattle.std.specs.Prelude.{◌≡◌, ℕ, not, List, Option, find, IsTrue}
 use Rattle.std.specs.List.{list_all}
-use Rattle.dp_model.specs.declared.row.Row.{Row}
 use Rattle.dp_model.specs.declared.env.Entry.{Entry}
 use Rattle.dp_model.specs.declared.instr.Instr.{Instr}
 use Rattle.dp_model.specs.Environments.{Environment}
 use Rattle.dp_model.specs.Rows.{is_well_formed_row}
 use Rattle.dp_lang.specs.Programs.{IsProgram}
+use Rattle.dp_cert.specs.Spelling.{Certificate, number_of_version}
 use Rattle.dp_model.specs.Rules.{Question, holds, later_rules, number_of, IsAccepted, IsRefused}
 use Rattle.dp_model.specs.declared.rule.Rule.{Rule}
 
 -- whether a program with a certificate may be run in an environment, at an entry
-abbrev pub question : List Instr → List Row → Environment → Entry → Question
-question program rows env entry = record { program = program; rows = rows; env = env; entry = entry }
+abbrev pub question : List Instr → Certificate → Environment → Entry → Question
+question program cert env entry =
+    record { program = program; version = number_of_version cert.version; rows = cert.rows; env = env; entry = entry }
+
+-- the question is asked with this certificate
+abbrev pub IsWith : Question → Certificate → Type 0
+IsWith q cert = q ≡ question q.program cert q.env q.entry
 
 -- the first of the rules from J3 on that fails at a label
 abbrev pub later_fault : Question → ℕ → Option Rule

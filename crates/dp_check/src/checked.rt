@@ -5,7 +5,9 @@ ghost use Rattle.std.specs.List.{list_all};
 ghost use Rattle.dp_model.specs.Rows.{is_well_formed_row};
 ghost use Rattle.dp_model.specs.Rules.{begins_well, IsAccepted, IsRefused};
 ghost use Rattle.dp_lang.specs.Programs.{IsProgram};
-ghost use Rattle.dp_check.specs.Faults.{question, IsChecked, IsRefusedWith};
+ghost use Rattle.dp_cert.specs.Spelling.{Certificate};
+ghost use Rattle.dp_cert.specs.declared.cert.Version.{Version};
+ghost use Rattle.dp_check.specs.Faults.{question, IsWith, IsChecked, IsRefusedWith};
 
 use crate::rules::{fault_at, is_entailed};
 use dp_cert::Cert;
@@ -29,9 +31,9 @@ impl Model for Checked {
 
     ghost Value = { Question };
 
-    ghost view = { λ a. question a.program a.cert.rows a.env a.entry };
+    ghost view = { λ a. question a.program a.cert a.env a.entry };
 
-    ghost invariant = { λ a. IsChecked (question a.program a.cert.rows a.env a.entry) };
+    ghost invariant = { λ a. IsChecked (question a.program a.cert a.env a.entry) };
 }
 
 impl Checked {
@@ -47,9 +49,11 @@ impl Checked {
         &self.program
     }
 
-    /// Its certificate.
+    /// Its certificate, of the version in which it was handed in.
+    #[tactic(auto, using(crate::proofs::Versions::same_certificate))]
     pub fn cert(&self) -> &Cert
-        ensures { result.now.rows ≡ self.now.rows }
+        ensures is { IsWith self.now result.now }
+        ensures only { (cert : Certificate) → IsWith self.now cert → result.now ≡ cert }
     {
         &self.cert
     }
@@ -87,7 +91,7 @@ impl Display for Refused {
 
 /// Whether the entry's row entails the first.
 fn begins_well(program: &[Instr], rows: &[Row], env: &Env, entry: Entry) -> bool
-    ensures { result ≡ begins_well (question program.now rows.now env.now entry) }
+    ensures { (version : Version) → result ≡ begins_well (question program.now (record { version = version; rows = rows.now }) env.now entry) }
 {
     match env.entry_row(entry) {
         Some(row) => is_entailed(rows, &row, 0),
@@ -97,12 +101,13 @@ fn begins_well(program: &[Instr], rows: &[Row], env: &Env, entry: Entry) -> bool
 
 /// The least failing label with its first failing rule.
 #[tactic(auto, using(crate::proofs::RuleLemmas::later_is, crate::proofs::RuleLemmas::later_past))]
-fn first_fault(program: &[Instr], rows: &[Row], env: &Env, entry: Entry) -> Option<(u16, Rule)>
+fn first_fault(program: &[Instr], cert: &Cert, env: &Env, entry: Entry) -> Option<(u16, Rule)>
     requires at_most { length program.now ≤ 1024 }
-    requires well_formed { IsTrue (list_all is_well_formed_row rows.now) }
-    ensures none { IfNone result (IsAccepted (question program.now rows.now env.now entry)) }
-    ensures some { IfSome result (λ f. IsRefused (question program.now rows.now env.now entry) f.0 f.1) }
+    ensures none { IfNone result (IsAccepted (question program.now cert.now env.now entry)) }
+    ensures some { IfSome result (λ f. IsRefused (question program.now cert.now env.now entry) f.0 f.1) }
+    ensures well_formed { IsTrue (list_all is_well_formed_row cert.now.rows) }
 {
+    let rows = cert.rows();
     if rows.len() != program.len() {
         return Some((0, Rule::J1));
     }
@@ -120,10 +125,10 @@ fn first_fault(program: &[Instr], rows: &[Row], env: &Env, entry: Entry) -> Opti
 /// Why a program would be refused: the least failing label and its first failing rule, or nothing where it would be
 /// accepted. This is what `check` finds, for one who only wants to know.
 pub fn fault_of(program: &Program, cert: &Cert, env: &Env, entry: Entry) -> Option<(u16, Rule)>
-    ensures none { IfNone result (IsAccepted (question program.now cert.now.rows env.now entry)) }
-    ensures some { IfSome result (λ f. IsRefused (question program.now cert.now.rows env.now entry) f.0 f.1) }
+    ensures none { IfNone result (IsAccepted (question program.now cert.now env.now entry)) }
+    ensures some { IfSome result (λ f. IsRefused (question program.now cert.now env.now entry) f.0 f.1) }
 {
-    first_fault(program.instrs(), cert.rows(), env, entry)
+    first_fault(program.instrs(), cert, env, entry)
 }
 
 /// Whether a program may be run in an environment at an entry, as its certificate shows. Each instruction is looked
@@ -133,13 +138,13 @@ pub fn fault_of(program: &Program, cert: &Cert, env: &Env, entry: Entry) -> Opti
 /// `Refused` where a rule fails, with the least failing label and the first rule that fails there. An entry that the
 /// environment does not have is refused at label 0 by J2.
 pub fn check(program: Program, cert: Cert, env: &Env, entry: Entry) -> Result<Checked, Refused>
-    ensures same { IfOk result (λ checked. checked ≡ question program cert.rows env.now entry) }
+    ensures same { IfOk result (λ checked. checked ≡ question program cert env.now entry) }
     ensures accepted { IfOk result (λ checked. IsChecked checked) }
-    ensures refused { IfErr result (λ r. IsRefusedWith (question program cert.rows env.now entry) r.label r.rule) }
+    ensures refused { IfErr result (λ r. IsRefusedWith (question program cert env.now entry) r.label r.rule) }
     ensures program_back { IfErr result (λ r. r.program ≡ program) }
     ensures cert_back { IfErr result (λ r. r.cert ≡ cert) }
 {
-    match first_fault(program.instrs(), cert.rows(), env, entry) {
+    match first_fault(program.instrs(), &cert, env, entry) {
         Some((label, rule)) => Err(Refused {
             label,
             rule: rule.number(),

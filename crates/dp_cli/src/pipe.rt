@@ -2,7 +2,8 @@
 
 ghost use Rattle.std.specs.Prelude.{◌≡◌, IfSome, IfNone, IfOk, IfErr, OnOk, MatchOption, option_map};
 ghost use Rattle.std.specs.Io.KnownBytes.{Appends};
-ghost use Rattle.dp_cert.specs.Spelling.{spelling};
+ghost use Rattle.dp_cert.specs.Spelling.{Certificate, spelling};
+ghost use Rattle.dp_check.specs.Faults.{IsWith};
 ghost use Rattle.dp_pipe.specs.Loads.{IsLoadedFrom};
 ghost use Rattle.dp_cli.specs.Pipe as spec;
 ghost use Rattle.dp_cli.specs.Told.{IsTold};
@@ -98,7 +99,7 @@ pub fn infer_line<O: Write, E: Write>(
     err: &mut E,
 ) -> u8
     ensures status { MatchOption (spec.node_at pipeline.now which) (IsTold USAGE result) (λ _. IsTold DONE result) }
-    ensures printed { result ≡ DONE → IfSome (spec.node_at pipeline.now which) (λ node. Appends (O.contents out.old) (O.contents out.new) (spelling node.rows)) }
+    ensures printed { result ≡ DONE → IfSome (spec.node_at pipeline.now which) (λ node. (cert : Certificate) → IsWith node cert → Appends (O.contents out.old) (O.contents out.new) (spelling cert)) }
     ensures silent { result ≡ DONE → err.new ≡ err.old }
     ensures nothing { IfNone (spec.node_at pipeline.now which) (out.new ≡ out.old) }
 {

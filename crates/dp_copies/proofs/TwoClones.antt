@@ -70,7 +70,7 @@ all_sixes (suc n) = (omega arith, all_sixes n)
 
 -- and the run starts as runs do
 pub starts : IsStart one_port before
-starts = record { rings = refl; outboxes = refl; rooms = λ b is. room b.pool b.index is; bytes = λ b. bytes b.pool b.index; cuts = refl }
+starts = record { rings = refl; outboxes = refl; rooms = λ b is. room b.pool b.index is; bytes = λ b. bytes b.pool b.index; calls = refl; steps = refl; cuts = refl }
   where
     room : (p i : ℕ) → i < count_at one_port.pools p → length (slice_index_or (slice_index_or before.buffers p []) i []) ≡ room_at one_port.pools p
     room zero zero is = refl

@@ -120,6 +120,8 @@ starts env s room = record {
   outboxes = sym (ap (map (λ _. [])) s.port_is);
   rooms = λ b lt. (let P : List PoolSpec → Type 0 = λ pools. IsNumber pools b → length (bytes_of (zero_buffers s.pool ∷ []) b) ≡ room_at pools b.pool in subst P (sym s.pool_is) (rooms_are s.pool b) lt);
   bytes = all_bytes s.pool;
+  calls = refl;
+  steps = refl;
   cuts = refl;
 }
 

@@ -14,6 +14,7 @@ use Rattle.dp_model.specs.Environments.{Environment}
 use Rattle.dp_model.specs.Jumps.{IsForward}
 use Rattle.dp_model.specs.Rows.{entails, leads, entry_row, is_well_formed_row}
 use Rattle.dp_model.specs.Rules.{Question, row_passes, holds, holds_at, uses, places_exist, later_rules, IsAccepted, IsRefused}
+use Rattle.dp_cert.specs.Spelling.{Certificate, certificate_of}
 use Rattle.dp_check.specs.Faults.{question}
 use Rattle.dp_cert.specs.Spelling.{Certificate}
 use Rattle.dp_infer.specs.Joins.{joined, dead_row, begun, found_rows}
@@ -84,7 +85,7 @@ found_sound q forward accepted fits some =
 
 -- the rules hold of a live row
 live_hold : (q : Question) (rows : List Row) (label : ℕ) (i : Instr) (row : Row) → IsAccepted q → list_all is_well_formed_row q.rows ≡ true → Sound q rows (length q.program) → slice_get q.program label ≡ Some i → slice_get rows label ≡ Some row → row.live ≡ true
-    → list_all (holds_at (question q.program rows q.env q.entry) label i row) later_rules ≡ true
+    → list_all (holds_at (question q.program (certificate_of rows) q.env q.entry) label i row) later_rules ≡ true
 live_hold q rows label i row accepted cert_fits so at_i at_row live =
     let (u, at_u, s) = passes_at q.rows label row (so.fit.below label row at_row live) in
     let fits : AreWellFormed row = fits_from row (all_at is_well_formed_row rows label row so.well_formed at_row) in
@@ -103,11 +104,11 @@ live_hold q rows label i row accepted cert_fits so at_i at_row live =
     (both_are (end_keeps row u i s each.1.1.1.1.1.1.1.0)
     (both_are entailed refl))))))))
 
-later_hold : (q : Question) (rows : List Row) (label : ℕ) → IsAccepted q → list_all is_well_formed_row q.rows ≡ true → Sound q rows (length q.program) → list_all (holds (question q.program rows q.env q.entry) label) later_rules ≡ true
+later_hold : (q : Question) (rows : List Row) (label : ℕ) → IsAccepted q → list_all is_well_formed_row q.rows ≡ true → Sound q rows (length q.program) → list_all (holds (question q.program (certificate_of rows) q.env q.entry) label) later_rules ≡ true
 later_hold q rows label accepted cert_fits so = go (slice_get q.program label) (slice_get rows label) refl refl
   where
     r : Question
-    r = question q.program rows q.env q.entry
+    r = question q.program (certificate_of rows) q.env q.entry
 
     at : (i : Instr) (row : Row) (b : Bool) → row.live ≡ b → slice_get q.program label ≡ Some i → slice_get rows label ≡ Some row → list_all (λ rule. not b || holds_at r label i row rule) later_rules ≡ true
     at i row false dead at_i at_row = refl
@@ -118,30 +119,30 @@ later_hold q rows label accepted cert_fits so = go (slice_get q.program label) (
     go (Some i) None e f = rw (e, f) refl
     go (Some i) (Some row) e f = rw (e, f) (at i row row.live refl e f)
 
-pub sound_accepted : (q : Question) (rows : List Row) → IsAccepted q → list_all is_well_formed_row q.rows ≡ true → Sound q rows (length q.program) → IsAccepted (question q.program rows q.env q.entry)
+pub sound_accepted : (q : Question) (rows : List Row) → IsAccepted q → list_all is_well_formed_row q.rows ≡ true → Sound q rows (length q.program) → IsAccepted (question q.program (certificate_of rows) q.env q.entry)
 sound_accepted q rows accepted cert_fits so =
-    is_accepted (question q.program rows q.env q.entry) (eq-eqb (length rows) (length q.program) so.long) so.begins (λ label. later_hold q rows label accepted cert_fits so)
+    is_accepted (question q.program (certificate_of rows) q.env q.entry) (eq-eqb (length rows) (length q.program) so.long) so.begins (λ label. later_hold q rows label accepted cert_fits so)
 
 -- ---- what is owed
 
 pub says_most : (program : List Instr) (env : Environment) (entry : Entry) → 0 < length program → SaysMost program env entry (found_rows program env entry)
 says_most program env entry some forward rows h label row at live =
-    (found_sound (question program rows env entry) forward h.1 h.0 some).fit.below label row at live
+    (found_sound (question program (certificate_of rows) env entry) forward h.1 h.0 some).fit.below label row at live
 
 pub none_other : (program : List Instr) (env : Environment) (entry : Entry) (label : ℕ) (rule : Rule) → IsForward program → 0 < length program
-    → IsRefused (question program (found_rows program env entry) env entry) label rule → (rows : List Row) → ¬ Certifies program env entry rows
+    → IsRefused (question program (certificate_of (found_rows program env entry)) env entry) label rule → (rows : List Row) → ¬ Certifies program env entry rows
 none_other program env entry label rule forward some refused rows h =
-    let so = found_sound (question program rows env entry) forward h.1 h.0 some in
-    let accepted = sound_accepted (question program rows env entry) (found_rows program env entry) h.1 h.0 so in
+    let so = found_sound (question program (certificate_of rows) env entry) forward h.1 h.0 some in
+    let accepted = sound_accepted (question program (certificate_of rows) env entry) (found_rows program env entry) h.1 h.0 so in
     cc (refused.0, accepted label)
 
 pub most_of : (program : List Instr) (env : Environment) (entry : Entry) (found : List Row) → 1 ≤ length program → found ≡ found_rows program env entry → SaysMost program env entry found
 most_of program env entry found some e = subst (λ (rows : List Row). SaysMost program env entry rows) (sym e) (says_most program env entry (omega arith))
 
-pub none_of : (program : List Instr) (env : Environment) (entry : Entry) (found : List Row) (label : ℕ) (rule : Rule) → 1 ≤ length program → found ≡ found_rows program env entry
-    → IsRefused (question program found env entry) label rule → IsForward program → (rows : List Row) → ¬ Certifies program env entry rows
-none_of program env entry found label rule some e refused forward =
-    none_other program env entry label rule forward (omega arith) (subst (λ (rows : List Row). IsRefused (question program rows env entry) label rule) e refused)
+pub none_of : (program : List Instr) (env : Environment) (entry : Entry) (cert : Certificate) (label : ℕ) (rule : Rule) → 1 ≤ length program → cert ≡ certificate_of (found_rows program env entry)
+    → IsRefused (question program cert env entry) label rule → IsForward program → (rows : List Row) → ¬ Certifies program env entry rows
+none_of program env entry cert label rule some e refused forward =
+    none_other program env entry label rule forward (omega arith) (subst (λ (found : Certificate). IsRefused (question program found env entry) label rule) e refused)
 
 pub begun_well_formed : (rows : List Row) (entry : Option Row) (n : ℕ) → rows ≡ begun entry n → IsTrue (list_all is_well_formed_row rows)
 begun_well_formed rows None n e = rw e (dead_well_formed n)

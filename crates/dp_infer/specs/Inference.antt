@@ -8,13 +8,14 @@ use Rattle.dp_model.specs.Environments.{Environment}
 use Rattle.dp_model.specs.Jumps.{IsForward}
 use Rattle.dp_model.specs.Rows.{entails, is_well_formed_row}
 use Rattle.dp_model.specs.Rules.{IsAccepted, row_passes}
+use Rattle.dp_cert.specs.Spelling.{certificate_of}
 use Rattle.dp_check.specs.Faults.{question}
 use Rattle.dp_infer.specs.declared.inferring.InferError.{InferError}
 use Rattle.dp_infer.specs.declared.inferring.InferError.TheVariants.{Memory, NoCert}
 
--- the rows are a certificate with which the program is accepted
+-- the rows are those of a certificate with which the program is accepted
 abbrev pub Certifies : List Instr → Environment → Entry → List Row → Type 0
-Certifies program env entry rows = IsTrue (list_all is_well_formed_row rows) × IsAccepted (question program rows env entry)
+Certifies program env entry rows = IsTrue (list_all is_well_formed_row rows) × IsAccepted (question program (certificate_of rows) env entry)
 
 -- each live row says all that the row of any such certificate does, if the program is forward
 abbrev pub SaysMost : List Instr → Environment → Entry → List Row → Type 0

@@ -23,6 +23,7 @@ at_once q rule e = (e, λ earlier h. absurd (omega (arith, h)))
 clone_then_store_question : Question
 clone_then_store_question = record {
   program = Clone 1 0 0 3 ∷ Store 0 0 One 0 ∷ Free 1 ∷ Free 0 ∷ Exit ∷ [];
+  version = 1;
   rows = row_of (Held 2 128 0 0 0 1 ∷ []) 7 ∷ row_of (Held 2 128 0 0 0 1 ∷ Held 0 128 0 0 0 1 ∷ []) 6 ∷ row_of (Held 2 128 0 0 0 1 ∷ Held 0 128 0 0 0 1 ∷ []) 6 ∷ row_of (Held 2 128 0 0 0 1 ∷ []) 7 ∷ row_of [] 8 ∷ [];
   env = one_port;
   entry = Port 0;
@@ -36,6 +37,7 @@ clone_then_store_refused = at_once clone_then_store_question J11 refl
 strip_loose_question : Question
 strip_loose_question = record {
   program = strip;
+  version = 1;
   rows = record { live = true; facts = Held 2 128 0 0 0 1 ∷ replicate 7 Empty; bounds = replicate 7 0 ++ 1 ∷ [] } ∷ row_of (Held 2 128 0 14 0 1 ∷ []) 7 ∷ row_of (Held 2 142 0 0 0 1 ∷ []) 7 ∷ row_of [] 8 ∷ row_of (Held 2 128 0 0 0 1 ∷ []) 7 ∷ row_of [] 8 ∷ [];
   env = one_port;
   entry = Port 0;
@@ -47,7 +49,7 @@ strip_loose_refused = at_once strip_loose_question J11 refl
 
 -- control may not leave the program
 no_exit_question : Question
-no_exit_question = record { program = Free 0 ∷ []; rows = row_of (Held 2 128 0 0 0 1 ∷ []) 7 ∷ []; env = one_port; entry = Port 0 }
+no_exit_question = record { program = Free 0 ∷ []; version = 1; rows = row_of (Held 2 128 0 0 0 1 ∷ []) 7 ∷ []; env = one_port; entry = Port 0 }
 
 no_exit_refused : IsRefused no_exit_question 0 J3
 unfolding no_exit_question row_of one_port
@@ -59,6 +61,7 @@ no_exit_refused = at_once no_exit_question J3 refl
 exit_question : Question
 exit_question = record {
   program = Clone 1 0 0 3 ∷ Free 0 ∷ Exit ∷ Free 0 ∷ Exit ∷ [];
+  version = 1;
   rows = row_of (Held 2 128 0 0 0 1 ∷ []) 7 ∷ row_of (Held 0 128 0 0 0 1 ∷ Held 0 128 0 0 0 1 ∷ []) 6 ∷ row_of (Empty ∷ Held 0 128 0 0 0 1 ∷ []) 6 ∷ row_of (Held 2 128 0 0 0 1 ∷ []) 7 ∷ row_of [] 8 ∷ [];
   env = one_port;
   entry = Port 0;
@@ -78,6 +81,7 @@ exit_held_refused = (refl, exit_before)
 clone_question : Question
 clone_question = record {
   program = Clone 1 0 0 4 ∷ Clone 1 0 0 4 ∷ Free 0 ∷ Exit ∷ Free 0 ∷ Exit ∷ [];
+  version = 1;
   rows = row_of (Held 2 128 0 0 0 1 ∷ []) 7 ∷ row_of (Held 0 128 0 0 0 1 ∷ Held 0 128 0 0 0 1 ∷ []) 6 ∷ dead ∷ dead ∷ row_of (Held 0 128 0 0 0 1 ∷ []) 7 ∷ row_of [] 8 ∷ [];
   env = one_port;
   entry = Port 0;
@@ -142,7 +146,7 @@ loop_leaves_one = refl
 loop_rows : List Row
 loop_rows = row_of (Held 0 0 0 0 0 64 ∷ []) 7 ∷ row_of [] 8 ∷ row_of (Held 0 0 0 0 0 64 ∷ []) 7 ∷ row_of [] 8 ∷ []
 
-loop_accepted_at_port : IsAccepted (record { program = loop; rows = loop_rows; env = looped; entry = Port 0 })
+loop_accepted_at_port : IsAccepted (record { program = loop; version = 1; rows = loop_rows; env = looped; entry = Port 0 })
 unfolding loop loop_rows row_of looped
 loop_accepted_at_port zero = refl
 loop_accepted_at_port (suc zero) = refl
@@ -150,7 +154,7 @@ loop_accepted_at_port (suc (suc zero)) = refl
 loop_accepted_at_port (suc (suc (suc zero))) = refl
 loop_accepted_at_port (suc (suc (suc (suc label)))) = refl
 
-loop_accepted_at_ring : IsAccepted (record { program = loop; rows = loop_rows; env = looped; entry = Ring 0 })
+loop_accepted_at_ring : IsAccepted (record { program = loop; version = 1; rows = loop_rows; env = looped; entry = Ring 0 })
 unfolding loop loop_rows row_of looped
 loop_accepted_at_ring zero = refl
 loop_accepted_at_ring (suc zero) = refl
@@ -183,7 +187,7 @@ count_rows =
     ∷ counting 257 [] 8
     ∷ []
 
-count_accepted : IsAccepted (record { program = count_to 257; rows = count_rows; env = one_port; entry = Port 0 })
+count_accepted : IsAccepted (record { program = count_to 257; version = 1; rows = count_rows; env = one_port; entry = Port 0 })
 unfolding count_to count_rows counting one_port
 count_accepted zero = refl
 count_accepted (suc zero) = refl

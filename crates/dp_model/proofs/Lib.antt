@@ -22,6 +22,7 @@ pub mod OwnedSteps
 pub mod PacketSteps
 pub mod Refs
 pub mod RowLemmas
+pub mod RunEnds
 pub mod RunSteps
 pub mod SafeRuns
 pub mod SafeTurns

@@ -17,11 +17,11 @@ use Rattle.dp_model.proofs.SafeTurns.{safe_never_stuck, turn_rest, turn_exists, 
 
 -- ---- between turns
 
-nothing_mapped : {Z : Type 0} (zs : List Z) → segments_listed (map (λ _. []) zs) ≡ []
+pub nothing_mapped : {Z : Type 0} (zs : List Z) → segments_listed (map (λ _. []) zs) ≡ []
 nothing_mapped [] = refl
 nothing_mapped (z ∷ zs) = nothing_mapped zs
 
-no_lists : {Z : Type 0} (zs : List Z) → AllByRecursion (AllByRecursion IsPacket) (map (λ _. []) zs)
+pub no_lists : {Z : Type 0} (zs : List Z) → AllByRecursion (AllByRecursion IsPacket) (map (λ _. []) zs)
 no_lists [] = tt
 no_lists (z ∷ zs) = (tt, no_lists zs)
 

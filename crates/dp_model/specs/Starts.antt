@@ -10,10 +10,12 @@ abbrev pub HaveRoom : Environment → Type 0
 HaveRoom env = (port : ℕ) (spec : PortSpec) → slice_get env.ports port ≡ Some spec → 129 ≤ room_at env.pools spec.pool
 
 -- the world before the first record: every ring and transmit list is there and empty, each buffer has its room, with any
--- bytes, and no node run was cut
+-- bytes, and nothing has been counted
 pub record IsStart (env : Environment) (w : World) : Type 0 where
   pub rings : w.rings ≡ map (λ _. []) env.rings
   pub outboxes : w.outboxes ≡ map (λ _. []) env.ports
   pub rooms : (b : Number) → IsNumber env.pools b → length (bytes_of w.buffers b) ≡ room_at env.pools b.pool
   pub bytes : AreBytes w.buffers
+  pub calls : w.calls ≡ 0
+  pub steps : w.steps ≡ 0
   pub cuts : w.cuts ≡ 0

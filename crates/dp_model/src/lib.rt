@@ -22,5 +22,6 @@ pub use row::{Fact, Row};
 pub use rule::Rule;
 pub use words::{
     budgets_are_as_they_read, layers_stay_well_formed, longest_prefixes_agree,
-    numbers_are_as_called, runs_are_as_they_read, worlds_stay_well_formed,
+    numbers_are_as_called, runs_are_as_they_read, whole_runs_end_with_whole_pools,
+    worlds_stay_well_formed,
 };

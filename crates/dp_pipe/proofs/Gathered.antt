@@ -1,5 +1,5 @@
 -- What is loaded, and why it is not, from the parts that were read.
-use Rattle.std.proofs.Common.{◌≡◌, ℕ, suc, ◌+◌, ◌≤◌, ◌⊎◌, inl, inr, List, [], ◌∷◌, ◌++◌, length, take, drop, Option, None, Some, sym, subst, arith, length-append}
+use Rattle.std.proofs.Common.{◌≡◌, ℕ, suc, ◌+◌, ◌≤◌, ◌⊎◌, inl, inr, List, [], ◌∷◌, ◌++◌, length, take, drop, Option, None, Some, refl, sym, subst, arith, length-append}
 use Rattle.std.specs.Prelude.{slice_get, Result, Ok, Err, IfOk}
 use Rattle.std.proofs.lemmas.List.{take_all}
 use Rattle.dp_model.specs.declared.instr.Instr.{Instr}
@@ -7,7 +7,8 @@ use Rattle.dp_model.specs.declared.env.Entry.{Entry}
 use Rattle.dp_model.specs.declared.env.Entry.TheVariants.{Port, Ring}
 use Rattle.dp_model.specs.Environments.{Environment}
 use Rattle.dp_model.specs.Rules.{Question}
-use Rattle.dp_check.specs.Faults.{IsChecked}
+use Rattle.dp_cert.specs.Spelling.{Certificate, certificate_of}
+use Rattle.dp_check.specs.Faults.{question, IsWith, IsChecked}
 use Rattle.dp_infer.specs.Inference.{SaysMost}
 use Rattle.dp_pipe.specs.declared.error.PipeError.{PipeError}
 use Rattle.dp_pipe.specs.declared.error.PipeError.TheVariants.{Memory}
@@ -22,20 +23,19 @@ use Rattle.dp_pipe.proofs.Places.{taken_more, parted, zipped_more, length-number
 pub program_fails : (known : Option FileMap) (env : Environment) (node : Node) (e : PipeError) → (e ≡ Memory) ⊎ HasNoProgram known node.entry node.program e → Fails known env node e
 program_fails known env node e h = elim h [ inl memory ↦ inl memory | inr none ↦ inr (inl none) ]
 
-given_cert : (known : Option FileMap) (node : Node) (program : List Instr) (name : List ℕ) (q : Question) → Some name ≡ node.cert → q.program ≡ program → IsCertOf known name (length program) q.rows → HasCert known node.cert q
-given_cert known node program name q is same cert =
-    let at : IsCertOf known name (length q.program) q.rows = subst (λ (p : List Instr). IsCertOf known name (length p) q.rows) (sym same) cert in
-    subst (λ (c : Option (List ℕ)). HasCert known c q) is at
+-- what is checked with the certificate that its file spells has this one
+pub spelled_cert : (known : Option FileMap) (name : List ℕ) (program : List Instr) (cert : Certificate) (env : Environment) (entry : Entry) (q : Question) → q ≡ question program cert env entry → IsCertOf known name (length program) cert → HasCert known (Some name) q
+spelled_cert known name program cert env entry q is spelled = subst (HasCert known (Some name)) (sym is) (cert, refl, spelled)
 
 pub given_loaded : (known later : Option FileMap) (env : Environment) (node : Node) (program : List Instr) (name : List ℕ) (q : Question)
     → later ≡ known → IsProgramOf known node.program program → Some name ≡ node.cert
-    → q.env ≡ env → q.entry ≡ node.entry → q.program ≡ program → IsChecked q → IsCertOf later name (length program) q.rows → IsLoaded known env node q
+    → q.env ≡ env → q.entry ≡ node.entry → q.program ≡ program → IsChecked q → HasCert later (Some name) q → IsLoaded known env node q
 given_loaded known later env node program name q stays reads is e n p checked cert = record {
   env_is = e;
   entry_is = n;
   checked = checked;
   program = subst (λ (x : List Instr). IsProgramOf known node.program x) (sym p) reads;
-  cert = given_cert known node program name q is p (subst (λ (k : Option FileMap). IsCertOf k name (length program) q.rows) stays cert);
+  cert = subst (λ (c : Option (List ℕ)). HasCert known c q) is (subst (λ (k : Option FileMap). HasCert k (Some name) q) stays cert);
 }
 
 abbrev GivenFails : Option FileMap → Environment → Entry → List ℕ → List Instr → PipeError → Type 0
@@ -61,21 +61,21 @@ most_of program env entry q e n p most =
 
 pub inferred_loaded : (known : Option FileMap) (env : Environment) (node : Node) (program : List Instr) (q : Question)
     → IsProgramOf known node.program program → None ≡ node.cert
-    → q.env ≡ env → q.entry ≡ node.entry → q.program ≡ program → IsChecked q → SaysMost program env node.entry q.rows → IsLoaded known env node q
-inferred_loaded known env node program q reads is e n p checked most = record {
+    → q.env ≡ env → q.entry ≡ node.entry → q.program ≡ program → IsChecked q → IsWith q (certificate_of q.rows) → SaysMost program env node.entry q.rows → IsLoaded known env node q
+inferred_loaded known env node program q reads is e n p checked same most = record {
   env_is = e;
   entry_is = n;
   checked = checked;
   program = subst (λ (x : List Instr). IsProgramOf known node.program x) (sym p) reads;
-  cert = subst (λ (c : Option (List ℕ)). HasCert known c q) is (most_of program env node.entry q e n p most);
+  cert = subst (λ (c : Option (List ℕ)). HasCert known c q) is (same, most_of program env node.entry q e n p most);
 }
 
 pub all_loaded : (known : Option FileMap) (env : Environment) (node : Node) (program : List Instr) (result : Result Question PipeError)
     → IsProgramOf known node.program program → None ≡ node.cert
-    → IfOk result (λ q. q.env ≡ env) → IfOk result (λ q. q.entry ≡ node.entry) → IfOk result (λ q. q.program ≡ program) → IfOk result IsChecked → IfOk result (λ q. SaysMost program env node.entry q.rows)
+    → IfOk result (λ q. q.env ≡ env) → IfOk result (λ q. q.entry ≡ node.entry) → IfOk result (λ q. q.program ≡ program) → IfOk result IsChecked → IfOk result (λ q. IsWith q (certificate_of q.rows)) → IfOk result (λ q. SaysMost program env node.entry q.rows)
     → IfOk result (IsLoaded known env node)
-all_loaded known env node program (Ok q) reads is e n p checked most = inferred_loaded known env node program q reads is e n p checked most
-all_loaded known env node program (Err fault) reads is e n p checked most = tt
+all_loaded known env node program (Ok q) reads is e n p checked same most = inferred_loaded known env node program q reads is e n p checked same most
+all_loaded known env node program (Err fault) reads is e n p checked same most = tt
 
 pub inferred_fails : (known : Option FileMap) (env : Environment) (node : Node) (program : List Instr) (e : PipeError)
     → IsProgramOf known node.program program → None ≡ node.cert → (e ≡ Memory) ⊎ IsWithoutCert env node.entry program e → Fails known env node e

@@ -10,10 +10,9 @@ use Rattle.dp_model.specs.Rules.{Question}
 use Rattle.dp_lang.specs.declared.cause.Fault.{Fault as AsmFault}
 use Rattle.dp_lang.specs.Reading.{Reads, program_of}
 use Rattle.dp_cert.specs.declared.error.Fault.{Fault as CertFault}
-use Rattle.dp_cert.specs.declared.cert.Version.{Version}
-use Rattle.dp_cert.specs.Spelling.{CertText}
+use Rattle.dp_cert.specs.Spelling.{Certificate, certificate_of, CertText}
 use Rattle.dp_cert.specs.Reading.{cert_of}
-use Rattle.dp_check.specs.Faults.{question, IsChecked, IsRefusedWith}
+use Rattle.dp_check.specs.Faults.{question, IsWith, IsChecked, IsRefusedWith}
 use Rattle.dp_model.specs.Jumps.{IsForward}
 use Rattle.dp_infer.specs.Inference.{Certifies, SaysMost}
 use Rattle.dp_pipe.specs.declared.nodes.How.{How}
@@ -56,18 +55,17 @@ pub record IsProgramOf (known : Option FileMap) (name : List ℕ) (program : Lis
   pub file : IsFile known name text
   pub reads : Reads text program
 
--- the file spells a certificate of some version with the rows, so many
-pub record IsCertOf (known : Option FileMap) (name : List ℕ) (n : ℕ) (rows : List Row) : Type 0 where
+-- the file spells the certificate, with so many rows
+pub record IsCertOf (known : Option FileMap) (name : List ℕ) (n : ℕ) (cert : Certificate) : Type 0 where
   pub text : List ℕ
-  pub version : Version
   pub file : IsFile known name text
-  pub spelled : CertText n text (record { version = version; rows = rows })
+  pub spelled : CertText n text cert
 
--- the certificate is the one that its file spells, where one is read, and else no other says more, if the program is
--- forward
+-- The certificate is the one that its file spells, where one is read. Else it has the version of its rows, and no other says
+-- more, if the program is forward
 abbrev pub HasCert : Option FileMap → Option (List ℕ) → Question → Type 0
-HasCert known None q = SaysMost q.program q.env q.entry q.rows
-HasCert known (Some name) q = IsCertOf known name (length q.program) q.rows
+HasCert known None q = IsWith q (certificate_of q.rows) × SaysMost q.program q.env q.entry q.rows
+HasCert known (Some name) q = (cert : Certificate) × IsWith q cert × IsCertOf known name (length q.program) cert
 
 -- a program is loaded: it is checked for the environment and the node's entry, and comes from the node's files
 pub record IsLoaded (known : Option FileMap) (env : Environment) (node : Node) (q : Question) : Type 0 where
@@ -102,12 +100,12 @@ pub record IsBadCert (known : Option FileMap) (entry : Entry) (name : List ℕ) 
 
 -- the program is refused with the certificate that the file spells
 pub record IsRefusedBy (known : Option FileMap) (env : Environment) (entry : Entry) (name : List ℕ) (program : List Instr) (e : PipeError) : Type 0 where
-  pub rows : List Row
+  pub cert : Certificate
   pub label : ℕ
   pub rule : ℕ
   pub is : e ≡ errors.Refused entry label rule
-  pub cert : IsCertOf known name (length program) rows
-  pub refused : IsRefusedWith (question program rows env entry) label rule
+  pub spelled : IsCertOf known name (length program) cert
+  pub refused : IsRefusedWith (question program cert env entry) label rule
 
 -- no certificate is found; if the program is forward, it is accepted with none
 pub record IsWithoutCert (env : Environment) (entry : Entry) (program : List Instr) (e : PipeError) : Type 0 where

@@ -5,8 +5,9 @@ ghost use Rattle.std.specs.Option.{option_map};
 ghost use Rattle.dp_pipe.specs.Files.{IsFile};
 ghost use Rattle.dp_pipe.specs.declared.nodes.How.{How};
 ghost use Rattle.dp_pipe.specs.Views.{node_names};
-ghost use Rattle.dp_pipe.specs.Nodes.{cert_read, node_of, nodes_of, IsProgramOf, IsCertOf, IsLoaded, IsMissing, HasNoProgram, IsBadCert, IsRefusedBy, IsWithoutCert, HasNoCert, Fails, AreLoaded, FailsAtFirst};
-ghost use Rattle.dp_check.specs.Faults.{question, IsChecked};
+ghost use Rattle.dp_pipe.specs.Nodes.{cert_read, node_of, nodes_of, IsProgramOf, IsCertOf, HasCert, IsLoaded, IsMissing, HasNoProgram, IsBadCert, IsRefusedBy, IsWithoutCert, HasNoCert, Fails, AreLoaded, FailsAtFirst};
+ghost use Rattle.dp_cert.specs.Spelling.{certificate_of};
+ghost use Rattle.dp_check.specs.Faults.{question, IsWith, IsChecked};
 ghost use Rattle.dp_infer.specs.Inference.{SaysMost};
 
 use crate::error::{FetchFault, PipeError};
@@ -82,7 +83,7 @@ fn cert_of<F: Files>(
     name: &str,
     n: usize,
 ) -> Result<Cert, PipeError>
-    ensures read { IfOk result (λ cert. IsCertOf (F.known files.old) name.now n cert.rows) }
+    ensures read { IfOk result (λ cert. IsCertOf (F.known files.old) name.now n cert) }
     ensures fails { IfErr result (λ e. (e ≡ PipeError.Memory) ⊎ IsMissing (F.known files.old) node name.now e
         ⊎ IsBadCert (F.known files.old) node name.now n e) }
     ensures stays { F.known files.new ≡ F.known files.old }
@@ -96,6 +97,7 @@ fn cert_of<F: Files>(
 }
 
 // The program, checked with the certificate that a file spells.
+#[tactic(auto, using(crate::proofs::Gathered::spelled_cert))]
 fn given<F: Files>(
     alloc: Global,
     files: &mut F,
@@ -108,7 +110,7 @@ fn given<F: Files>(
     ensures entry { IfOk result (λ q. q.entry ≡ node) }
     ensures program { IfOk result (λ q. q.program ≡ program) }
     ensures checked { IfOk result IsChecked }
-    ensures cert { IfOk result (λ q. IsCertOf (F.known files.old) name.now (length program) q.rows) }
+    ensures cert { IfOk result (λ q. HasCert (F.known files.old) (Some name.now) q) }
     ensures fails { IfErr result (λ e. (e ≡ PipeError.Memory) ⊎ IsMissing (F.known files.old) node name.now e
         ⊎ IsBadCert (F.known files.old) node name.now (length program) e
         ⊎ IsRefusedBy (F.known files.old) env.now node name.now program e) }
@@ -131,6 +133,7 @@ fn inferred(alloc: Global, env: &Env, node: Entry, program: Program) -> Result<C
     ensures entry { IfOk result (λ q. q.entry ≡ node) }
     ensures program { IfOk result (λ q. q.program ≡ program) }
     ensures checked { IfOk result IsChecked }
+    ensures cert { IfOk result (λ q. IsWith q (certificate_of q.rows)) }
     ensures most { IfOk result (λ q. SaysMost program env.now node q.rows) }
     ensures fails { IfErr result (λ e. (e ≡ PipeError.Memory) ⊎ IsWithoutCert env.now node program e) }
 {

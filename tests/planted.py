@@ -1,0 +1,376 @@
+#!/usr/bin/env python3
+"""Tries wrong bodies that the prover must refuse: crates/NAME/planted/*.edit, each written as an edit of must-fail/ is.
+
+Usage: tests/planted.py [--jobs N] [--alone] [--must-fail] [--since COMMIT] [--part N OF] [--most N] [CRATE ..]
+       tests/planted.py [--jobs N] --gate
+
+Where nothing says which, all are tried.
+  CRATE        those of this crate
+  --since C    those of the crates whose code, definitions or proofs differ from commit C, and those that are new since
+  --part N OF  the N-th part of all (0 <= N < OF): the parts 0 .. OF - 1 have each once, and which has one never changes
+  --most N     of what CRATE and --since ask for beyond the part no more than N, beginning with the part behind it; the others
+               are left for another time, and counted
+  --must-fail  those of must-fail/ as well, which `rt ci` tries each time
+  --gate       what the gate tries at this commit: --since the commit 7 changes back, --part N 7, where N is the number of
+               changes so far by 7, and --most 120; where there is no such history every crate counts as changed, and the day is N
+  --alone      each in a check of its own
+  --jobs N     N checks side by side (by default as many as there are processors and memory)
+
+Edits of different functions share a check, which proves those functions alone: the prover judges a function by the contracts
+of what it calls. An edit is refused where the check says of a function that it changes that this one has no proof for a cause
+of its own; where only something that it calls has none, it is tried again beside few, and then alone. One that cannot be tried
+(its old text stands there twice, or not at all, or outside of a function) counts as not refused.
+
+It reads the libraries below a crate as `rt ci` left them in crates/*/out/rlib; `rt all check` makes them too.
+Prints a line for each check and each edit, a table by crate, and last 'planted: N refused, M not'; exits with 1 where M is not 0."""
+import argparse
+import collections
+import concurrent.futures
+import dataclasses
+import functools
+import os
+import pathlib
+import re
+import shutil
+import subprocess
+import sys
+import tempfile
+import threading
+import time
+import zlib
+
+TOP = pathlib.Path(__file__).resolve().parent.parent
+# Where the gate's turn comes round, and how many more edits than those of its turn it tries at most.
+PARTS, MOST = 7, 120
+# How many edits share a check when they are tried first, and where something else hid what was said of one, again.
+SHARING = (32, 4, 1)
+# A check's memory, in bytes.
+ROOM = 3 << 30
+FUNCTION = re.compile(r'( *)(?:pub(?:\([^)]*\))? )?(?:const )?(?:unsafe )?(?:extern "C" )?fn (\w+)')
+IMPL = re.compile(r"(?:unsafe )?impl\b(?:<.*?>)? *(?:([\w:]+)(?:<.*>)? for )?&?(?:'\w+ )?(?:mut )?(\w+)")
+TRAIT = re.compile(r"(?:pub )?(?:unsafe )?trait (\w+)")
+# What a check says of a function that has no proof for a cause of its own.
+UNPROVED = re.compile(r"^fn (\S+): (?:not proved|no proof)(?!(?:; |: )it calls).*$", re.M)
+PRINTING = threading.Lock()
+
+
+def say(*lines: str) -> None:
+    """Prints lines that stay together."""
+    with PRINTING:
+        print(*lines, sep="\n", flush=True)
+
+
+@functools.cache
+def toolchain() -> pathlib.Path:
+    """The toolchain's folder."""
+    page = subprocess.run(["rt", "doc"], capture_output=True, text=True, check=True).stdout
+    return pathlib.Path(page.strip()).parent
+
+
+@dataclasses.dataclass(frozen=True)
+class Crate:
+    """A line of crates.txt."""
+
+    name: str
+    is_static: bool
+    uses: tuple[str, ...]
+
+    @property
+    def folder(self) -> pathlib.Path:
+        return TOP / "crates" / self.name
+
+    @property
+    def library(self) -> pathlib.Path:
+        return self.folder / "out/rlib" / f"{self.name}.rlib"
+
+    def below(self) -> list["Crate"]:
+        """The crates that it stands on, lowest first."""
+        found: dict[str, Crate] = {}
+        for dep in (CRATES[it] for it in self.uses if it in CRATES):
+            found |= {it.name: it for it in [*dep.below(), dep]}
+        return list(found.values())
+
+    def words(self) -> list[str]:
+        """What a check of the crate is asked for."""
+        kit, is_program = toolchain(), (self.folder / "src/main.rt").is_file()
+        words = ["--crate-name", self.name, "src/main.rt" if is_program else "src/lib.rt"]
+        for name in ["std", *(it for it in self.uses if it not in CRATES)]:
+            words += ["--extern", f"{name}={kit}/rlibs/{name}.rlib"]
+        for name in (it for it in self.uses if it in CRATES):
+            words += ["--extern", f"{name}={CRATES[name].library}"]
+        for folder in [kit / "rlibs", *(it.library.parent for it in self.below())]:
+            words += ["-L", f"dependency={folder}"]
+        words += ["--antt-project", f"{kit}/rattle/logic/antt-project.json", "--logic-built", f"{kit}/logic_built"]
+        words += ["--crate-type", "staticlib"] if self.is_static else []
+        return [*words, "--jobs", "1", "--links", f"{self.name}="]
+
+
+def listed() -> dict[str, Crate]:
+    """The crates by name, as crates.txt lists them."""
+    rows = [it.partition("#")[0].partition(":") for it in (TOP / "crates.txt").read_text().splitlines()]
+    named = [(head.split(), tuple(uses.split())) for head, _, uses in rows if head.strip()]
+    return {name: Crate(name, "staticlib" in kind, uses) for (name, *kind), uses in named}
+
+
+CRATES = listed()
+
+
+def function_at(text: str, at: int) -> tuple[str, ...] | None:
+    """The end of the name by which a check prints the function around this place, if there is one."""
+    rows = (text[:at] + text[at:].partition("\n")[0]).split("\n")
+    depth, name = len(rows[-1]) - len(rows[-1].lstrip()), ""
+    for row in reversed(rows):
+        found = FUNCTION.match(row)
+        if found and not name and (len(found[1]) < depth or row is rows[-1]):
+            name, depth = found[2], len(found[1])
+            if depth == 0:
+                return (name,)
+        if name and row and not row[0].isspace():
+            impl, trait = IMPL.match(row), TRAIT.match(row)
+            if impl:
+                return impl[2] + (impl[1] or "").rpartition("::")[2], name
+            if trait:
+                return trait[1], name
+    return None
+
+
+class Unfit(Exception):
+    """Why an edit cannot be tried."""
+
+
+class Edit:
+    """A wrong body: what stands where, and what takes its place."""
+
+    def __init__(self, crate: Crate, file: pathlib.Path) -> None:
+        self.crate, self.file, self.name = crate, file, f"{crate.name}/{file.name}"
+        self.pairs: list[tuple[str, str, str]] = []
+        path = old = ""
+        for line in file.read_text().split("\n"):
+            if line.startswith("file: "):
+                path = line[6:].strip()
+            elif line.startswith("old: "):
+                old = line[5:]
+            elif line.startswith("new:"):
+                self.pairs.append((path, old, line[4:].removeprefix(" ")))
+
+    def applied(self, texts: dict[str, str]) -> dict[str, str]:
+        """These texts, and those of the crate's own that it changes, with the edit made."""
+        texts = dict(texts)
+        for path, old, new in self.pairs:
+            text = texts.get(path) or (self.crate.folder / path).read_text()
+            if text.count(old) != 1:
+                raise Unfit(f"its old text stands in {path} {text.count(old)} times, and not once")
+            texts[path] = text.replace(old, new)
+        return texts
+
+    @functools.cached_property
+    def functions(self) -> set[str]:
+        """The ends of the names of the functions that it changes."""
+        found, texts = set(), {}
+        for path, old, new in self.pairs:
+            text = texts.get(path) or (self.crate.folder / path).read_text()
+            at = function_at(text, text.index(old))
+            if not at:
+                raise Unfit("it changes what is in no function, so no check of functions judges it")
+            modules = [it for it in path.removeprefix("src/").removesuffix(".rt").split("/") if it not in ("lib", "main", "mod")]
+            found.add("::".join(at if len(at) == 2 else [*modules[-1:], *at]))
+            texts[path] = text.replace(old, new)
+        return found
+
+    def turn(self, parts: int) -> int:
+        """The part that it is in."""
+        return zlib.crc32(self.name.encode()) % parts
+
+
+@dataclasses.dataclass
+class Tally:
+    """What became of a crate's edits, and what their checks took."""
+
+    refused: int = 0
+    passed: int = 0
+    unfit: int = 0
+    checks: int = 0
+    seconds: float = 0.0
+
+
+def run(words: list[str], folder: str) -> tuple[int, str, float]:
+    """Runs a command: its status, what it said, and the seconds of processor time that it took."""
+    how = {"stdin": subprocess.DEVNULL, "stdout": subprocess.PIPE, "stderr": subprocess.STDOUT}
+    with subprocess.Popen(words, cwd=folder, text=True, errors="replace", **how) as started:
+        said = started.stdout.read()
+        _, status, used = os.wait4(started.pid, 0)
+        started.returncode = os.waitstatus_to_exitcode(status)
+    return started.returncode, said, used.ru_utime + used.ru_stime
+
+
+def refused_of(crate: Crate, edits: list[Edit], tally: Tally) -> dict[Edit, str] | None:
+    """Tries these edits in one check. Those that are refused, each with what was said of it, or None where nothing was judged."""
+    names, texts = sorted(set().union(*(it.functions for it in edits))), functools.reduce(lambda texts, it: it.applied(texts), edits, {})
+    with tempfile.TemporaryDirectory(prefix="planted-") as room:
+        for part in (it for it in ("src", "specs", "proofs") if (crate.folder / it).is_dir()):
+            shutil.copytree(crate.folder / part, f"{room}/{part}")
+        for path, text in texts.items():
+            pathlib.Path(room, path).write_text(text)
+        only = [word for name in names for word in ("--only", name)]
+        status, said, seconds = run([f"{toolchain()}/bin/rattle", "check", *crate.words(), *only], room)
+    tally.checks, tally.seconds = tally.checks + 1, tally.seconds + seconds
+    last = said.rstrip("\n").rpartition("\n")[2]
+    causes = {it[1]: it[0] for it in UNPROVED.finditer(said)}
+    found = {it: why for it in edits for name, why in causes.items() if any(name.endswith(f"::{end}") for end in it.functions)}
+    is_judged = status in (0, 1) and last.startswith("only=")
+    shown = f"{len(edits)} tried, {len(found)} refused" if is_judged else f"{len(edits)} tried, nothing judged: {last[:200]}"
+    say(f"{crate.name}: check {tally.checks}: {shown}, {seconds:.0f} s", *(f"{it.name}: refused: {why[:160]}" for it, why in found.items() if is_judged))
+    return found if is_judged else None
+
+
+def together(edits: list[Edit], most: int) -> list[Edit]:
+    """As many of these edits as one check can tell apart: each changes other functions, and no text that another changes."""
+    chosen: list[Edit] = []
+    texts: dict[str, str] = {}
+    for it in edits:
+        if len(chosen) == most:
+            break
+        if any(it.functions & other.functions for other in chosen):
+            continue
+        try:
+            texts = it.applied(texts)
+        except Unfit:
+            continue
+        chosen.append(it)
+    return chosen
+
+
+def fit(edits: list[Edit], tally: Tally) -> list[Edit]:
+    """Those that can be tried; tells of the others."""
+    found = []
+    for it in edits:
+        try:
+            it.applied({})
+            found += [it] * bool(it.functions)
+        except Unfit as why:
+            tally.unfit += 1
+            say(f"{it.name}: NOT TRIED: {why}")
+    return found
+
+
+def try_crate(crate: Crate, edits: list[Edit], is_alone: bool) -> Tally:
+    """Tries a crate's edits, in as few checks as can tell them apart."""
+    tally = Tally()
+    left = fit(edits, tally)
+    for most in (1,) if is_alone else SHARING:
+        again, waiting = [], left
+        while waiting:
+            now = together(waiting, most)
+            refused = refused_of(crate, now, tally)
+            hidden = [it for it in now if it not in (refused or ())]
+            tally.refused += len(now) - len(hidden)
+            waiting = [it for it in waiting if it not in now]
+            if refused:
+                waiting += hidden
+            elif refused is None or len(now) > 1:
+                again += hidden
+            else:
+                say(f"{now[0].name}: NOT REFUSED")
+                tally.passed += 1
+        left = again
+    for it in left:
+        say(f"{it.name}: NOT TRIED: its check judged nothing; the edited text has to compile")
+    tally.unfit += len(left)
+    return tally
+
+
+def git(*words: str) -> str | None:
+    """What git says, or None where it cannot."""
+    ran = subprocess.run(["git", "-C", str(TOP), *words], capture_output=True, text=True)
+    return ran.stdout.strip() if ran.returncode == 0 else None
+
+
+def changed_since(commit: str) -> tuple[set[str], set[str]]:
+    """The crates whose code, definitions or proofs differ from a commit, and the edits that are new or other than there."""
+    said = git("diff", "--name-status", "-M", commit, "--", "crates")
+    if said is None:
+        sys.exit(f"planted: there is no commit {commit} here")
+    rows = [row.split("\t") for row in said.splitlines()]
+    places = [(row[0], path.split("/")) for row in rows for path in row[1:]]
+    crates = {at[1] for _, at in places if len(at) > 3 and at[2] in ("src", "specs", "proofs") and at[1] in CRATES}
+    return crates, {f"{at[1]}/{at[-1]}" for how, at in places if how in ("A", "M") and at[-1].endswith(".edit")}
+
+
+def at_this_commit() -> tuple[int, str | None]:
+    """The gate's turn, and the commit whose differences it tries whole, if the history goes back that far."""
+    count = git("rev-list", "--count", "--first-parent", "HEAD")
+    if count is None or git("rev-parse", "--is-shallow-repository") != "false":
+        return int(time.time()) // 86_400 % PARTS, None
+    return int(count) % PARTS, git("rev-parse", "-q", "--verify", f"HEAD~{PARTS}")
+
+
+def asked() -> argparse.Namespace:
+    """What the command line asks for."""
+    words = argparse.ArgumentParser(usage=__doc__, add_help=False)
+    words.add_argument("--jobs", type=int, default=0)
+    words.add_argument("--alone", action="store_true")
+    words.add_argument("--must-fail", action="store_true")
+    words.add_argument("--since")
+    words.add_argument("--part", type=int, nargs=2)
+    words.add_argument("--most", type=int)
+    words.add_argument("--gate", action="store_true")
+    words.add_argument("crates", nargs="*")
+    by = words.parse_args()
+    unknown = [it for it in by.crates if it not in CRATES]
+    if unknown:
+        words.error(f"crates.txt lists no crate {unknown[0]}")
+    return by
+
+
+def chosen(by: argparse.Namespace) -> tuple[list[Edit], int]:
+    """The edits to try, and how many are left for another time."""
+    folders = ["planted", "must-fail"] if by.must_fail else ["planted"]
+    files = [(it, file) for it in CRATES.values() for name in folders for file in sorted((it.folder / name).glob("*.edit"))]
+    edits = [Edit(*it) for it in files]
+    part, crates, news, most = by.part, set(by.crates), set(), by.most
+    if by.gate:
+        turn, since = at_this_commit()
+        part, most, by.since = (turn, PARTS), MOST, since
+        crates |= set() if since else set(CRATES)
+    if by.since:
+        found = changed_since(by.since)
+        crates, news = crates | found[0], news | found[1]
+    if not (crates or by.since or part):
+        crates = set(CRATES)
+    turn, parts = part or (0, 1)
+    distance = lambda it: (it.turn(parts) - turn) % parts
+    first = [it for it in edits if part and distance(it) == 0]
+    others = sorted((it for it in edits if it not in first and (it.crate.name in crates or it.name in news)), key=distance)
+    return first + others[:most], len(others) - len(others[:most])
+
+
+def lanes(jobs: int) -> int:
+    """How many checks run side by side."""
+    memory = os.sysconf("SC_PHYS_PAGES") * os.sysconf("SC_PAGE_SIZE")
+    return jobs or max(1, min(len(os.sched_getaffinity(0)), memory // ROOM))
+
+
+def main() -> int:
+    by = asked()
+    edits, left = chosen(by)
+    groups: dict[Crate, list[Edit]] = collections.defaultdict(list)
+    for it in edits:
+        groups[it.crate].append(it)
+    lacking = sorted({dep.name for it in groups for dep in it.below() if not dep.library.is_dir()})
+    if lacking:
+        sys.exit(f"planted: no library of {', '.join(lacking)} is built yet: run `rt ci` or `rt all check` at the top of the repository first")
+    tasks = sorted(groups.items(), key=lambda it: -len(it[1]))
+    with concurrent.futures.ThreadPoolExecutor(lanes(by.jobs)) as pool:
+        tallies = list(pool.map(lambda it: try_crate(*it, by.alone), tasks))
+    for (crate, tried), it in zip(tasks, tallies):
+        said = f"{it.checks} checks, {it.refused} refused, {it.passed} not refused, {it.unfit} not tried, {it.seconds:.0f} s"
+        say(f"{crate.name}: {len(tried)} edits, {said}")
+    refused, unfit = sum(it.refused for it in tallies), sum(it.unfit for it in tallies)
+    failed = unfit + sum(it.passed for it in tallies)
+    more = [f"{unfit} of them could not be tried"] * bool(unfit) + [f"{left} are left for another time"] * bool(left)
+    say("; ".join([f"planted: {refused} refused, {failed} not", *more, f"{sum(it.seconds for it in tallies):.0f} s of processor time"]))
+    return 1 if failed else 0
+
+
+if __name__ == "__main__":
+    sys.exit(main())
