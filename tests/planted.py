@@ -48,6 +48,8 @@ SHARING = (32, 4, 1)
 ROOM = 3 << 30
 FUNCTION = re.compile(r'( *)(?:pub(?:\([^)]*\))? )?(?:const )?(?:unsafe )?(?:extern "C" )?fn (\w+)')
 IMPL = re.compile(r"(?:unsafe )?impl\b(?:<.*?>)? *(?:([\w:]+)(?:<.*>)? for )?&?(?:'\w+ )?(?:mut )?(\w+)")
+# An impl of a type at other types, which a check prints behind a plus.
+IMPL_AT = re.compile(r"(?:unsafe )?impl (\w+)<(\w+)>(?! for)")
 TRAIT = re.compile(r"(?:pub )?(?:unsafe )?trait (\w+)")
 # What a check says of a function that has no proof for a cause of its own.
 UNPROVED = re.compile(r"^fn (\S+): (?:not proved|no proof)(?!(?:; |: )it calls).*$", re.M)
@@ -126,7 +128,9 @@ def function_at(text: str, at: int) -> tuple[str, ...] | None:
             if depth == 0:
                 return (name,)
         if name and row and not row[0].isspace():
-            impl, trait = IMPL.match(row), TRAIT.match(row)
+            impl, impl_at, trait = IMPL.match(row), IMPL_AT.match(row), TRAIT.match(row)
+            if impl_at:
+                return f"{impl_at[1]}+{impl_at[2]}", name
             if impl:
                 return impl[2] + (impl[1] or "").rpartition("::")[2], name
             if trait:
@@ -187,8 +191,8 @@ class Tally:
     """What became of a crate's edits, and what their checks took."""
 
     refused: int = 0
-    passed: int = 0
-    unfit: int = 0
+    passed: list[str] = dataclasses.field(default_factory=list)
+    unfit: list[str] = dataclasses.field(default_factory=list)
     checks: int = 0
     seconds: float = 0.0
 
@@ -248,7 +252,7 @@ def fit(edits: list[Edit], tally: Tally) -> list[Edit]:
             it.applied({})
             found += [it] * bool(it.functions)
         except Unfit as why:
-            tally.unfit += 1
+            tally.unfit.append(it.name)
             say(f"{it.name}: NOT TRIED: {why}")
     return found
 
@@ -271,11 +275,11 @@ def try_crate(crate: Crate, edits: list[Edit], is_alone: bool) -> Tally:
                 again += hidden
             else:
                 say(f"{now[0].name}: NOT REFUSED")
-                tally.passed += 1
+                tally.passed.append(now[0].name)
         left = again
     for it in left:
         say(f"{it.name}: NOT TRIED: its check judged nothing; the edited text has to compile")
-    tally.unfit += len(left)
+    tally.unfit += [it.name for it in left]
     return tally
 
 
@@ -363,12 +367,12 @@ def main() -> int:
     with concurrent.futures.ThreadPoolExecutor(lanes(by.jobs)) as pool:
         tallies = list(pool.map(lambda it: try_crate(*it, by.alone), tasks))
     for (crate, tried), it in zip(tasks, tallies):
-        said = f"{it.checks} checks, {it.refused} refused, {it.passed} not refused, {it.unfit} not tried, {it.seconds:.0f} s"
+        said = f"{it.checks} checks, {it.refused} refused, {len(it.passed)} not refused, {len(it.unfit)} not tried, {it.seconds:.0f} s"
         say(f"{crate.name}: {len(tried)} edits, {said}")
-    refused, unfit = sum(it.refused for it in tallies), sum(it.unfit for it in tallies)
-    failed = unfit + sum(it.passed for it in tallies)
-    more = [f"{unfit} of them could not be tried"] * bool(unfit) + [f"{left} are left for another time"] * bool(left)
-    say("; ".join([f"planted: {refused} refused, {failed} not", *more, f"{sum(it.seconds for it in tallies):.0f} s of processor time"]))
+    failed, unfit = [[name for it in tallies for name in names(it)] for names in (lambda it: it.passed + it.unfit, lambda it: it.unfit)]
+    told = [f"planted: {sum(it.refused for it in tallies)} refused, {len(failed)} not{': ' * bool(failed)}{' '.join(failed)}"]
+    told += [f"{len(unfit)} of them could not be tried"] * bool(unfit) + [f"{left} are left for another time"] * bool(left)
+    say("; ".join([*told, f"{sum(it.seconds for it in tallies):.0f} s of processor time"]))
     return 1 if failed else 0
 
 

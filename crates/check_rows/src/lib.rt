@@ -1,4 +1,5 @@
-//! Worked examples of certificates, of the checker and of the inferrer, as tests over the three crates.
+//! Worked examples of the texts of programs, of certificates, of the checker and of the inferrer, as tests over the four crates,
+//! so that they cost those no time.
 #![tactic(auto)]
 
 #[cfg(test)]
@@ -10,7 +11,7 @@ mod groups;
 #[cfg(test)]
 mod inferences;
 #[cfg(test)]
-mod reasons;
+mod programs;
 #[cfg(test)]
 mod refusals;
 #[cfg(test)]

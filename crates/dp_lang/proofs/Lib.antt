@@ -1,5 +1,6 @@
 pub mod Again
 pub mod Assembled
+pub mod Built
 pub mod Bytes
 pub mod Cutting
 pub mod Digits

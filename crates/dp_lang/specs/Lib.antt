@@ -1,4 +1,5 @@
 pub mod Arguments
+pub mod Building
 pub mod Causes
 pub mod Forms
 pub mod LabelMaps

@@ -3,6 +3,7 @@
 
 mod argument;
 mod assembler;
+mod building;
 mod cause;
 mod cut;
 mod form;
@@ -23,6 +24,3 @@ pub use laws::printed_texts_read_back;
 pub use line_numbers::source_lines;
 pub use printer::print;
 pub use program::Program;
-
-#[cfg(test)]
-mod tests;

@@ -7,8 +7,6 @@ mod lpm;
 mod rule;
 mod store;
 mod table;
-#[cfg(test)]
-mod tests;
 
 pub use error::{LpmError, Memory};
 pub use lpm::Lpm;

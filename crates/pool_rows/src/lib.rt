@@ -1,9 +1,11 @@
-//! Zones, rings and pools whose answers are known, worked out by hand. It is a crate of its own over `dp_zone`, `dp_ring`
-//! and `dp_pool`, so that the tests cost those no time.
+//! Regions, zones, rings and pools whose answers are known, worked out by hand. It is a crate of its own over `dp_region`,
+//! `dp_zone`, `dp_ring` and `dp_pool`, so that the tests cost those no time.
 #![tactic(auto)]
 
 #[cfg(test)]
 mod pools;
+#[cfg(test)]
+mod regions;
 #[cfg(test)]
 mod rings;
 #[cfg(test)]

@@ -2,7 +2,7 @@
 
 mod plain;
 
-use crate::{Lpm, LpmError};
+use dp_lpm::{Lpm, LpmError};
 use plain::Plain;
 use std::test::Fail;
 

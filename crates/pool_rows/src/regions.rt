@@ -1,7 +1,7 @@
 //! What the loads and stores answer, on bytes and numbers worked out by hand.
 ghost use Rattle.std.specs.Prelude.{◌≡◌, ◌≤◌, [], length};
 
-use crate::{Block, Memory, Region};
+use dp_region::{Block, Memory, Region};
 use std::test::Fail;
 
 fn write_low(low: &mut Block)

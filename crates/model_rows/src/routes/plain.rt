@@ -1,6 +1,6 @@
 //! The plain form of a table: one list of rules, gone over whole at each call.
 
-use crate::LpmError;
+use dp_lpm::LpmError;
 use std::alloc::{AllocError, Global};
 
 #[derive(Clone, Copy)]

@@ -1,4 +1,6 @@
-use super::*;
+//! Texts of programs: what they read as, how they are printed, and their faults.
+
+use dp_lang::{AsmError, assemble, print};
 use dp_model::{Instr, NumberRegister, PacketRegister};
 use std::test::*;
 
