@@ -6,6 +6,7 @@ ghost use Rattle.std.specs.Option.{option_map};
 ghost use Rattle.dp_model.specs.declared.rule.Rule.TheVariants.{J2};
 ghost use Rattle.dp_model.specs.Rows.{is_well_formed_row};
 ghost use Rattle.dp_model.specs.Rules.{begins_well, IsAccepted};
+ghost use Rattle.dp_cert.specs.declared.cert.Version.{Version};
 ghost use Rattle.dp_check.specs.Faults.{question, later_fault};
 ghost use Rattle.dp_check.specs.Diagnoses.{rule_of, Explains, IsDiagnosis, SaysOfWhole};
 
@@ -26,10 +27,10 @@ pub struct Diagnosis {
 /// Why the entry's row does not entail the first, if it does not.
 fn entry_reason(program: &[Instr], rows: &[Row], env: &Env, entry: Entry) -> Option<Reason>
     requires { 0 < length rows.now }
-    ensures none { IfNone result (begins_well (question program.now rows.now env.now entry) ≡ true) }
-    ensures fails { IfSome result (λ reason. begins_well (question program.now rows.now env.now entry) ≡ false) }
+    ensures none { (version : Version) → IfNone result (begins_well (question program.now (record { version = version; rows = rows.now }) env.now entry) ≡ true) }
+    ensures fails { (version : Version) → IfSome result (λ reason. begins_well (question program.now (record { version = version; rows = rows.now }) env.now entry) ≡ false) }
     ensures rule { IfSome result (λ reason. rule_of reason ≡ J2) }
-    ensures says { IfSome result (SaysOfWhole (question program.now rows.now env.now entry)) }
+    ensures says { (version : Version) → IfSome result (SaysOfWhole (question program.now (record { version = version; rows = rows.now }) env.now entry)) }
 {
     let Some(row) = env.entry_row(entry) else {
         return Some(Reason::NoEntry);
@@ -48,8 +49,8 @@ fn reason_at(program: &[Instr], rows: &[Row], env: &Env, label: u16) -> Option<R
     requires at_most { length program.now ≤ 1024 }
     requires same_length { length rows.now ≡ length program.now }
     requires well_formed { IsTrue (list_all is_well_formed_row rows.now) }
-    ensures rule { (entry : Entry) → option_map rule_of result ≡ later_fault (question program.now rows.now env.now entry) label }
-    ensures explains { (entry : Entry) → IfSome result (Explains (question program.now rows.now env.now entry) label) }
+    ensures rule { (version : Version) (entry : Entry) → option_map rule_of result ≡ later_fault (question program.now (record { version = version; rows = rows.now }) env.now entry) label }
+    ensures explains { (version : Version) (entry : Entry) → IfSome result (Explains (question program.now (record { version = version; rows = rows.now }) env.now entry) label) }
 {
     let row = &rows[label as usize];
     if !row.live {
@@ -64,8 +65,8 @@ fn first_reason(program: &[Instr], rows: &[Row], env: &Env, entry: Entry) -> Opt
     requires some { 0 < length program.now }
     requires at_most { length program.now ≤ 1024 }
     requires well_formed { IsTrue (list_all is_well_formed_row rows.now) }
-    ensures accepted { IfNone result (IsAccepted (question program.now rows.now env.now entry)) }
-    ensures refused { IfSome result (IsDiagnosis (question program.now rows.now env.now entry)) }
+    ensures accepted { (version : Version) → IfNone result (IsAccepted (question program.now (record { version = version; rows = rows.now }) env.now entry)) }
+    ensures refused { (version : Version) → IfSome result (IsDiagnosis (question program.now (record { version = version; rows = rows.now }) env.now entry)) }
 {
     if rows.len() != program.len() {
         let reason = Reason::RowCount {
@@ -88,8 +89,8 @@ fn first_reason(program: &[Instr], rows: &[Row], env: &Env, entry: Entry) -> Opt
 /// Why [`check`](crate::check) refuses a program, or nothing where it accepts it. Label and rule are those that `check`
 /// answers; the reason says what is known there and what the rule wants. Nothing is allocated.
 pub fn diagnose(program: &Program, cert: &Cert, env: &Env, entry: Entry) -> Option<Diagnosis>
-    ensures accepted { IfNone result (IsAccepted (question program.now cert.now.rows env.now entry)) }
-    ensures refused { IfSome result (IsDiagnosis (question program.now cert.now.rows env.now entry)) }
+    ensures accepted { IfNone result (IsAccepted (question program.now cert.now env.now entry)) }
+    ensures refused { IfSome result (IsDiagnosis (question program.now cert.now env.now entry)) }
 {
     first_reason(program.instrs(), cert.rows(), env, entry)
 }

@@ -34,7 +34,7 @@ fn explained(alloc: Global, program: &str) -> (u8, Vec<u8>) {
 fn an_accepted_program_is_told(rt: HostRuntime) -> Result<(), Fail> {
     let (status, out) = explained(rt.alloc(), STRIP);
     assert_eq!(rt; status, 0);
-    assert!(rt; out.as_slice() == b"port 0 accepted\n");
+    assert!(rt; out.as_slice() == "port 0 accepted\n".as_bytes());
     Ok(())
 }
 
