@@ -145,18 +145,6 @@ def infer_cases() -> list[Case]:
     """Those of `dpv infer`: faults of loading come first, named certificates are not read, and then the node has to be there."""
     cert = (STRIP / "strip.cert").read_text()
     return [
-        Case(["infer", "none"], *node_fault("5 File port 0")),
-        Case(["infer", "bad.dpv"], *node_fault("6 Asm port 0 line 2 cause 5")),
-        Case(["infer", "lost.dpv"], 1, "port 0 not inferred at 0 by J10\n", ""),
-        Case(["infer", "strip.dpv"], 0, (STRIP / "strip.cert").read_text(), ""),
-        Case(["explain", "none"], *node_fault("5 File port 0")),
-        Case(["explain", "none.toml", "port9"], 3, "", "fault: file none.toml\n"),
-        Case(["explain", "bad.dpv", "none"], *node_fault("5 File port 0")),
-        Case(["explain", "strip.dpv", "bad.cert"], *node_fault("7 BadCert port 0 line 7 cause 2")),
-        Case(["explain", "strip.dpv", "strip.cert"], 0, "port 0 accepted\n", ""),
-        Case(["explain", "sound.toml", "port2"], 2, "", "error: the pipeline has no port 2\n"),
-        Case(["show", "bad.dpv"], *node_fault("6 Asm port 0 line 2 cause 5")),
-        Case(["show", "sound.toml", "ring1"], 2, "", "error: the pipeline has no ring 1\n"),
         Case(["infer", "none", "port9"], 3, "", "fault: file none\n"),
         Case(["infer", "text.toml", "port9"], *node_fault("1 NotToml")),
         Case(["infer", "file.toml", "port9"], *node_fault("5 File port 0")),
@@ -228,11 +216,11 @@ def main() -> int:
     with tempfile.TemporaryDirectory() as name:
         folder = pathlib.Path(name)
         make_files(folder)
-        asked = (["help"], ["--help"], ["one", "--help"], ["check", "--help"], ["infer", "--help"], ["explain", "--help"], ["show", "--help"], ["--version"])
+        asked = (["help"], ["--help"], ["one", "--help"], ["check", "--help"], ["infer", "--help"], ["--version"])
         passed = [shows_usage(program, list(words), 0, folder) for words in asked]
         wrong = ([], ["two"], ["one"], ["one", *strip[1:]], ["one", *strip, "more"], ["one", "--fast", *strip], ["mem"])
         passed += [shows_usage(program, list(words), 2, folder) for words in wrong]
-        wrong = (["check"], ["check", "none", "more"], ["infer"], ["infer", "none", "port0", "more"], ["explain"], ["show"])
+        wrong = (["check"], ["check", "none", "more"], ["infer", "none"], ["infer", "none", "port0", "more"])
         passed += [shows_usage(program, list(words), 2, folder) for words in wrong]
         nodes = ("", "port", "port10", "Port0", "ring-1", "ringx", "port0 ", "pool0", "0")
         passed += [shows_usage(program, ["infer", "none", name], 2, folder) for name in nodes]

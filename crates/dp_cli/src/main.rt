@@ -1,18 +1,13 @@
 //! The program `dpv`: words, files, and what is told of a run.
 #![tactic(auto)]
 
-mod explain;
 mod fault;
 mod files;
 mod mem;
-mod nodes;
 mod one;
 mod pipe;
-mod reasons;
 mod report;
-mod rows;
 mod script;
-mod show;
 mod words;
 
 ghost use Rattle.dp_cli.specs.One.{IsForOnePort};
@@ -27,10 +22,8 @@ use dp_pipe::{How, PipeError, Pipeline};
 use fault::{DONE, FAULT, Fault, USAGE, tell, tell_fault, tell_unloaded};
 use files::ReadFault;
 use mem::mem_line;
-use nodes::{Question, ask, infer_program};
 use one::{asm_error, one_load, one_run};
 use pipe::{HostFiles, check_line, infer_line, load_line};
-use show::View;
 use std::alloc::Global;
 use std::io::{BufReader, BufWriter, Write};
 use std::process::ExitCode;
@@ -114,9 +107,7 @@ fn infer_file<R: Files + Print, E: io::Write>(
     words: &ArgMatches<'_>,
     err: &mut E,
 ) -> u8 {
-    let Some(which) = words.get_str("WHICH") else {
-        return infer_program(rt, alloc, word(words, "FILE"), &mut io::writer(rt), err);
-    };
+    let which = word(words, "WHICH");
     let Some(node) = node_named(which) else {
         return tell(
             err,
@@ -128,18 +119,6 @@ fn infer_file<R: Files + Print, E: io::Write>(
         Ok(pipeline) => infer_line(alloc, &pipeline, node, &mut io::writer(rt), err),
         Err(status) => status,
     }
-}
-
-/// Answers what is asked about the nodes of a pipeline, or about a program.
-fn ask_files<R: Files + Print, E: io::Write>(
-    rt: &R,
-    alloc: Global,
-    question: Question,
-    words: &ArgMatches<'_>,
-    err: &mut E,
-) -> u8 {
-    let names = (word(words, "FILE"), words.get_str("WHICH"));
-    ask(rt, alloc, question, names, &mut io::writer(rt), err)
 }
 
 /// The texts of a program and its certificate; or the status, once the first fault is told. Where the certificate cannot be
@@ -265,15 +244,6 @@ fn run<R: Files + Print, E: io::Write>(
         Some(("one", words)) => run_one_port(rt, alloc, words, err),
         Some(("check", words)) => check_file(rt, alloc, words, err),
         Some(("infer", words)) => infer_file(rt, alloc, words, err),
-        Some(("explain", words)) => ask_files(rt, alloc, Question::Explain, words, err),
-        Some(("show", words)) => {
-            let view = if words.get_flag("dot") {
-                View::Graph
-            } else {
-                View::Listing
-            };
-            ask_files(rt, alloc, Question::Show(view), words, err)
-        }
         Some(("mem", words)) => run_script(rt, alloc, word(words, "FILE"), err),
         _ => USAGE,
     }
@@ -299,8 +269,6 @@ fn main(rt: HostRuntime) -> ExitCode {
     ExitCode::from(status)
 }
 
-#[cfg(test)]
-mod node_tests;
 #[cfg(test)]
 mod pipe_tests;
 #[cfg(test)]

@@ -16,7 +16,7 @@ use std::alloc::Global;
 use std::io::Write;
 
 /// The environment of one port.
-pub fn one_env() -> Env
+fn one_env() -> Env
     ensures { result ≡ one_port }
 {
     let pool = PoolSpec {

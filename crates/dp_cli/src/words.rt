@@ -4,7 +4,7 @@ ghost use Rattle.std.specs.Prelude.{◌≡◌, ◌<◌, Some, IfSome};
 ghost use Rattle.dp_model.specs.declared.env.Entry.{Entry};
 ghost use Rattle.dp_cli.specs.Words.{place_of, word_of};
 
-use clap::{Arg, ArgAction, Command};
+use clap::{Arg, Command};
 use dp_model::Entry;
 use std::alloc::{AllocError, Global};
 
@@ -39,50 +39,15 @@ fn check<'a>(alloc: Global) -> Result<Command<'a>, AllocError> {
         .arg(file(alloc, "the pipeline file"))
 }
 
-/// `dpv infer FILE [WHICH]`.
+/// `dpv infer FILE WHICH`.
 fn infer<'a>(alloc: Global) -> Result<Command<'a>, AllocError> {
-    let which = Arg::new(alloc, "WHICH").help(
-        "the node of a pipeline: port or ring, and one digit, as port0",
-    );
+    let which = Arg::new(alloc, "WHICH")
+        .required(true)
+        .help("the node: port or ring, and one digit, as port0");
     Command::new(alloc, "infer")
-        .about(
-            "Prints the certificate of a program of a pipeline, all inferred, or of one program by itself",
-        )
-        .arg(file(alloc, "the pipeline file, or without WHICH a program"))?
+        .about("Prints the certificate of a program of a pipeline, all inferred")
+        .arg(file(alloc, "the pipeline file"))?
         .arg(which)
-}
-
-/// The operands of a command that takes a pipeline with its nodes, or one program by itself.
-fn with_node<'a>(alloc: Global, command: Command<'a>) -> Result<Command<'a>, AllocError> {
-    let second = Arg::new(alloc, "WHICH").help(
-        "the node of the pipeline, as port0; or the program's certificate, if it has one",
-    );
-    command
-        .arg(file(
-            alloc,
-            "the pipeline file, whose name ends in .toml, or a program",
-        ))?
-        .arg(second)
-}
-
-/// `dpv explain FILE [WHICH]`.
-fn explain<'a>(alloc: Global) -> Result<Command<'a>, AllocError> {
-    let explain = Command::new(alloc, "explain").about(
-        "Says whether programs are accepted, and where one is refused, why and what helps",
-    );
-    with_node(alloc, explain)
-}
-
-/// `dpv show FILE [WHICH]`.
-fn show<'a>(alloc: Global) -> Result<Command<'a>, AllocError> {
-    let dot = Arg::new(alloc, "dot")
-        .long("dot")
-        .action(ArgAction::SetTrue)
-        .help("print a graph for dot(1)");
-    let show = Command::new(alloc, "show").about(
-        "Prints programs with what is known before each instruction",
-    );
-    with_node(alloc, show)?.arg(dot)
 }
 
 /// `dpv mem FILE`.
@@ -102,8 +67,6 @@ pub fn command<'a>(alloc: Global) -> Result<Command<'a>, AllocError> {
         .subcommand(one(alloc)?)?
         .subcommand(check(alloc)?)?
         .subcommand(infer(alloc)?)?
-        .subcommand(explain(alloc)?)?
-        .subcommand(show(alloc)?)?
         .subcommand(mem(alloc)?)
 }
 
