@@ -1,5 +1,5 @@
 -- What the rules say of all labels.
-use Rattle.std.proofs.Common.{◌≡◌, ℕ, zero, suc, ◌≤◌, ◌<◌, true, List, [], ◌∷◌, length, Some, Option, None, refl, subst, ◌∙◌, ◌+◌, inl, inr, arith}
+use Rattle.std.proofs.Common.{◌≡◌, ℕ, zero, suc, ◌≤◌, ◌<◌, true, false, List, [], ◌∷◌, length, Some, Option, None, refl, subst, ◌∙◌, ◌+◌, inl, inr, arith}
 use Rattle.std.specs.Prelude.{slice_get, IsTrue}
 use Rattle.std.specs.List.{list_all}
 use Rattle.std.proofs.lemmas.Bool.{and_parts, eq-eqb, cases_lt}
@@ -51,3 +51,7 @@ none_left q n same begins below end label =
       | inl before ↦ below label before
       | inr past ↦ later_is q label (eq-eqb (length q.rows) (length q.program) same) begins ∙ later_past q label (omega arith)
     ]
+
+-- the entry's row is at fault first
+pub second_fails : (q : Question) → holds q 0 J1 ≡ true → holds q 0 J2 ≡ false → fault_at q 0 ≡ Some J2
+second_fails q one two = rw (one, two)

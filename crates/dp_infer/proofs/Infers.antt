@@ -1,6 +1,6 @@
 -- The rows that are found pass where some rows do.
-use Rattle.std.proofs.Common.{◌≡◌, ℕ, zero, suc, ◌+◌, ◌<◌, ◌≤◌, Bool, true, false, not, ◌||◌, List, length, set, Option, Some, None, refl, sym, ap, ◌∙◌, subst, arith}
-use Rattle.std.specs.Prelude.{nat_lt, slice_get, replicate, IsTrue, Result, Ok, Err, IfOk, IfErr}
+use Rattle.std.proofs.Common.{◌≡◌, ℕ, zero, suc, ◌+◌, ◌<◌, ◌≤◌, Bool, true, false, not, ◌||◌, List, length, set, Option, Some, None, refl, sym, ap, ◌∙◌, subst, inl, inr, arith}
+use Rattle.std.specs.Prelude.{nat_lt, slice_get, replicate, IsTrue, ◌⊎◌, Result, Ok, Err, IfOk, IfErr}
 use Rattle.std.specs.List.{list_all}
 use Rattle.std.specs.Option.{option_map_or}
 use Rattle.std.proofs.lemmas.Bool.{and_parts, eq-eqb}
@@ -18,7 +18,7 @@ use Rattle.dp_cert.specs.Spelling.{Certificate, certificate_of}
 use Rattle.dp_check.specs.Faults.{question}
 use Rattle.dp_cert.specs.Spelling.{Certificate}
 use Rattle.dp_infer.specs.Joins.{joined, dead_row, begun, found_rows}
-use Rattle.dp_infer.specs.Inference.{Certifies, SaysMost, IsWithout}
+use Rattle.dp_infer.specs.Inference.{Certifies, HasNone, SaysMost, IsWithout}
 use Rattle.dp_infer.specs.declared.inferring.InferError.{InferError}
 use Rattle.dp_infer.specs.declared.inferring.InferError.TheVariants.{Memory, NoCert}
 use Rattle.dp_infer.proofs.Stronger.{both_are}
@@ -153,6 +153,10 @@ pub none_but : (program : List Instr) (env : Environment) (entry : Entry) (resul
 none_but program env entry (Ok cert) never = tt
 none_but program env entry (Err Memory) never = tt
 none_but program env entry (Err (NoCert label rule)) never = never
+
+pub best_anyway : {E : Type 0} → (program : List Instr) (env : Environment) (entry : Entry) (result : Result Certificate E) → HasNone program env entry → IfOk result (λ cert. Certifies program env entry cert.rows ⊎ HasNone program env entry)
+best_anyway program env entry (Ok cert) never = inr never
+best_anyway program env entry (Err e) never = tt
 
 pub most_anyway : (program : List Instr) (env : Environment) (entry : Entry) (result : Result Certificate InferError) → IfOk result (λ cert. Certifies program env entry cert.rows) → (IsForward program → (rows : List Row) → ¬ Certifies program env entry rows) → IfOk result (λ cert. SaysMost program env entry cert.rows)
 most_anyway program env entry (Ok cert) is never = λ forward. absurd (never forward cert.rows is)

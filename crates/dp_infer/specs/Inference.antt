@@ -22,7 +22,11 @@ abbrev pub SaysMost : List Instr → Environment → Entry → List Row → Type
 SaysMost program env entry found = IsForward program → (rows : List Row) → Certifies program env entry rows
     → (label : ℕ) (row : Row) → slice_get found label ≡ Some row → row.live ≡ true → row_passes rows label (entails row) ≡ true
 
+-- the program is accepted with no certificate, if it is forward
+abbrev pub HasNone : List Instr → Environment → Entry → Type 0
+HasNone program env entry = IsForward program → (rows : List Row) → ¬ Certifies program env entry rows
+
 -- why there is no certificate: memory, or that the program is accepted with none, if it is forward
 abbrev pub IsWithout : List Instr → Environment → Entry → InferError → Type 0
 IsWithout program env entry Memory = Unit {0}
-IsWithout program env entry (NoCert label rule) = IsForward program → (rows : List Row) → ¬ Certifies program env entry rows
+IsWithout program env entry (NoCert label rule) = HasNone program env entry

@@ -1,11 +1,11 @@
 //! Certificates inferred from programs.
 
-ghost use Rattle.std.specs.Prelude.{◌≡◌, ◌<◌, ◌≤◌, length, IsTrue, IfOk, IfErr};
+ghost use Rattle.std.specs.Prelude.{◌≡◌, ◌⊎◌, ◌<◌, ◌≤◌, length, IsTrue, IfOk, IfErr};
 ghost use Rattle.std.specs.List.{list_all};
 ghost use Rattle.dp_model.specs.Rows.{is_well_formed_row};
 ghost use Rattle.dp_cert.specs.Spelling.{version_for};
 ghost use Rattle.dp_infer.specs.Joins as spec;
-ghost use Rattle.dp_infer.specs.Inference.{Certifies, SaysMost, IsWithout};
+ghost use Rattle.dp_infer.specs.Inference.{Certifies, HasNone, SaysMost, IsWithout};
 
 use crate::join::{joined, pass_on};
 use crate::settling::settle;
@@ -107,14 +107,27 @@ fn found_rows(
     Ok(rows)
 }
 
+/// The rows of a program that comes back to labels, weakened until they stay.
+fn settled_rows(
+    alloc: Global,
+    program: &Program,
+    env: &Env,
+    entry: Entry,
+) -> Result<Cert, AllocError>
+    ensures well_formed { IfOk result (λ cert. IsTrue (list_all is_well_formed_row cert.rows)) }
+    ensures version { IfOk result (λ cert. cert.version ≡ version_for cert.rows) }
+{
+    let mut rows = found_rows(alloc, program.instrs(), env, entry)?;
+    settle(&mut rows, program.instrs(), env);
+    Ok(Cert::new(rows))
+}
+
 /// A certificate of a program that comes back to labels, if the rows that are found serve.
 fn settled(alloc: Global, program: &Program, env: &Env, entry: Entry) -> Result<Cert, InferError>
     ensures accepted { IfOk result (λ cert. Certifies program.now env.now entry cert.rows) }
     ensures version { IfOk result (λ cert. cert.version ≡ version_for cert.rows) }
 {
-    let mut rows = found_rows(alloc, program.instrs(), env, entry)?;
-    settle(&mut rows, program.instrs(), env);
-    let cert = Cert::new(rows);
+    let cert = settled_rows(alloc, program, env, entry)?;
     match fault_of(program, &cert, env, entry) {
         Some((label, rule)) => Err(InferError::NoCert {
             label,
@@ -144,6 +157,29 @@ pub fn infer(alloc: Global, program: &Program, env: &Env, entry: Entry) -> Resul
     let cert = Cert::new(found_rows(alloc, program.instrs(), env, entry)?);
     match fault_of(program, &cert, env, entry) {
         Some(_) => settled(alloc, program, env, entry),
+        None => Ok(cert),
+    }
+}
+
+/// The certificate with which [`infer`] ends: the one that it answers, or, where it answers none, the one with which the
+/// program is refused, so that one can ask why.
+///
+/// # Errors
+/// `AllocError` where the memory for the rows is refused.
+pub fn attempt(
+    alloc: Global,
+    program: &Program,
+    env: &Env,
+    entry: Entry,
+) -> Result<Cert, AllocError>
+    // A forward program that is accepted with any certificate is accepted with this one.
+    ensures best { IfOk result (λ cert. Certifies program.now env.now entry cert.rows ⊎ HasNone program.now env.now entry) }
+    // It has version 1 exactly where no row has a group.
+    ensures version { IfOk result (λ cert. cert.version ≡ version_for cert.rows) }
+{
+    let cert = Cert::new(found_rows(alloc, program.instrs(), env, entry)?);
+    match fault_of(program, &cert, env, entry) {
+        Some(_) => settled_rows(alloc, program, env, entry),
         None => Ok(cert),
     }
 }

@@ -15,5 +15,6 @@ pub mod Operands
 pub mod Placing
 pub mod Ranges
 pub mod Resolving
+pub mod SourceLines
 pub mod Spellings
 pub mod StatementTexts

@@ -7,6 +7,7 @@ pub mod Lines
 pub mod Printing
 pub mod Programs
 pub mod Reading
+pub mod SourceLines
 pub mod Sources
 pub mod Spelling
 pub mod Views

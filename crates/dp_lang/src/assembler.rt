@@ -15,7 +15,7 @@ use crate::source::Source;
 use std::alloc::Global;
 
 /// What the lines give, or the first line with a fault.
-fn read_lines<'a>(alloc: Global, lines: &[&'a [u8]]) -> Result<Source<'a>, AsmError>
+pub(crate) fn read_lines<'a>(alloc: Global, lines: &[&'a [u8]]) -> Result<Source<'a>, AsmError>
     ensures { Gives view.source result (lines_of 1 nothing (map (λ line. line.now) lines.now)) }
 {
     let mut source = Source {

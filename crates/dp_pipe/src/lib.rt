@@ -15,6 +15,7 @@ mod pipeline;
 mod reader;
 mod routes;
 mod says;
+mod surveying;
 mod text;
 
 pub use error::{FetchFault, Part, PipeError, RouteError};
@@ -24,6 +25,7 @@ pub use listed::{Listed, NamedBytes};
 pub use loading::load;
 pub use nodes::How;
 pub use pipeline::Pipeline;
+pub use surveying::{Survey, survey_of};
 pub use text::NodeName;
 
 #[cfg(test)]

@@ -1,7 +1,7 @@
 -- There are as many rows as instructions.
 use Rattle.std.proofs.Common.{length, ap, sym, ◌∙◌}
 use Rattle.dp_infer.proofs.Infers.{found_long}
-use Rattle.dp_infer.proofs.inferring.settled.Goals as goal
+use Rattle.dp_infer.proofs.inferring.settled_rows.Goals as goal
 
 pub settle-requires-clause-same_length : goal.settle-requires-clause-same_length
 settle-requires-clause-same_length c =

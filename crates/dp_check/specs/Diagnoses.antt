@@ -1,0 +1,212 @@
+-- What a diagnosis says of a program that is refused: what is known, and what the rule wants.
+use Rattle.std.specs.Prelude.{◌≡◌, ◌≢◌, ◌⊎◌, ℕ, ◌+◌, ◌<◌, ◌≤◌, ◌==◌, Bool, true, false, ◌&&◌, not, if◌then◌else◌, List, [], ◌∷◌, length, Option, Some, None, MatchOption, slice_get}
+use Rattle.std.proofs.Math.Bool.{beq}
+use Rattle.std.specs.Option.{option_map_or}
+use Rattle.dp_model.specs.declared.row.Fact.{Fact}
+use Rattle.dp_model.specs.declared.row.Fact.TheVariants.{Empty, Held}
+use Rattle.dp_model.specs.declared.row.Row.{Row}
+use Rattle.dp_model.specs.declared.after.Lead.{Lead}
+use Rattle.dp_model.specs.declared.registers.Operand.TheVariants.{Register}
+use Rattle.dp_model.specs.declared.instr.Instr.{Instr}
+use Rattle.dp_model.specs.declared.instr.Instr.TheVariants.{Alloc, Clone, Prepend, Adj, Append, Trim, Chain, Load, Store, LoadX, StoreX, Lookup, Tx, Enq, Exit}
+use Rattle.dp_model.specs.Arithmetic.{bytes_in}
+use Rattle.dp_model.specs.Groups.{group_of, is_in}
+use Rattle.dp_model.specs.Rows.{is_empty, entails_fact, entails_share, entry_row, fact_of_ring, bound, leads}
+use Rattle.dp_model.specs.Rules.{Question, is_held, uses, IsRefused}
+use Rattle.dp_model.specs.declared.rule.Rule.{Rule}
+use Rattle.dp_model.specs.declared.rule.Rule.TheVariants.{J1, J2, J3, J4, J5, J6, J7, J8, J9, J10, J11}
+use Rattle.dp_check.specs.declared.reason.Measure.{Measure}
+use Rattle.dp_check.specs.declared.reason.Measure.TheVariants as measure
+use Rattle.dp_check.specs.declared.reason.Gap.{Gap}
+use Rattle.dp_check.specs.declared.reason.Gap.TheVariants as gap
+use Rattle.dp_check.specs.declared.reason.Reason.{Reason}
+use Rattle.dp_check.specs.declared.reason.Reason.TheVariants.{RowCount, NoEntry, EntryRow, NoPool, NoTable, NoRing, NoInstruction, NotHeld, NotEmpty, OneRegister, TooLittle, NotAlone, TooLong, NoPort, LessThanRing, LeftOver, Successor}
+use Rattle.dp_check.specs.declared.diagnosis.Diagnosis.{Diagnosis}
+
+-- ---- which rule a reason belongs to
+
+abbrev pub rule_of : Reason → Rule
+rule_of (RowCount known wanted) = J1
+rule_of NoEntry = J2
+rule_of (EntryRow gap) = J2
+rule_of (NoPool pool known) = J3
+rule_of (NoTable table known) = J3
+rule_of (NoRing ring known) = J3
+rule_of (NoInstruction to known) = J3
+rule_of (NotHeld p) = J4
+rule_of (NotEmpty p known) = J5
+rule_of (OneRegister p) = J5
+rule_of (TooLittle p part known start count) = J6
+rule_of (NotAlone p known wanted) = J7
+rule_of (TooLong p q known more) = J8
+rule_of (NoPort r known ports) = J9
+rule_of (LessThanRing p ring known wanted) = J9
+rule_of (LeftOver p known) = J10
+rule_of (Successor to gap) = J11
+
+-- ---- words
+
+-- one of a list is such
+abbrev pub SomeOf : {A : Type 0} → (A → Type 0) → List A → Type 0
+SomeOf P [] = ⊥
+SomeOf P (x ∷ xs) = P x ⊎ SomeOf P xs
+
+-- there is one, and it is such
+abbrev pub Is : {A : Type 0} → Option A → (A → Type 0) → Type 0
+Is o P = MatchOption o ⊥ P
+
+-- ---- two rows, the first of which does not entail the second
+
+-- of a packet register the first row says not all that the second does
+abbrev pub IsFactGap : List Fact → List Fact → ℕ → Fact → Fact → Type 0
+IsFactGap facts others p known wanted =
+    (slice_get facts p ≡ Some known) × (slice_get others p ≡ Some wanted) × (entails_fact known wanted ≡ false)
+
+-- the register is in a group of the second row in one of them alone
+abbrev pub IsGroupGap : List Fact → List Fact → ℕ → ℕ → Fact → Fact → Type 0
+IsGroupGap facts others g p known wanted =
+    SomeOf (λ other. group_of other ≡ Some g) others × (slice_get facts p ≡ Some known) × (slice_get others p ≡ Some wanted)
+    × (beq (is_in g known) (is_in g wanted) ≡ false)
+
+-- the number can be greater in the first row than in the second
+abbrev pub IsBoundGap : List ℕ → List ℕ → ℕ → ℕ → ℕ → Type 0
+IsBoundGap bounds others r known wanted =
+    (slice_get bounds r ≡ Some known) × (slice_get others r ≡ Some wanted) × (wanted < known)
+
+-- what the first row does not say of what the second does
+abbrev pub IsGap : Row → Row → Gap → Type 0
+IsGap a b gap.Dead = (a.live && b.live) ≡ false
+IsGap a b (gap.Packet p known wanted) = IsFactGap a.facts b.facts p known wanted
+IsGap a b (gap.Group g p known wanted) = IsGroupGap a.facts b.facts g p known wanted
+IsGap a b (gap.Number r known wanted) = IsBoundGap a.bounds b.bounds r known wanted
+
+-- ---- what an instruction asks for
+
+abbrev pub pool_of : Instr → Option ℕ
+pool_of (Alloc p pool l) = Some pool
+pool_of (Clone p q pool l) = Some pool
+pool_of _ = None
+
+abbrev pub table_of : Instr → Option ℕ
+table_of (Lookup r table s l) = Some table
+table_of _ = None
+
+-- the register and the ring of `enq`
+abbrev pub queued_at : Instr → Option (ℕ × ℕ)
+queued_at (Enq p ring l) = Some (p, ring)
+queued_at _ = None
+
+abbrev pub ring_of : Instr → Option ℕ
+ring_of (Enq p ring l) = Some ring
+ring_of _ = None
+
+-- the register that gets a new packet
+abbrev pub target_of : Instr → Option ℕ
+target_of (Alloc p pool l) = Some p
+target_of (Clone p q pool l) = Some p
+target_of _ = None
+
+-- the register that names a port
+abbrev pub port_of : Instr → Option ℕ
+port_of (Tx p r l) = Some r
+port_of _ = None
+
+-- bytes of a packet, or room at it: so many, counted from a place
+pub record Need : Type 0 where
+  pub packet : ℕ
+  pub part : Measure
+  pub start : ℕ
+  pub count : ℕ
+
+abbrev pub need : ℕ → Measure → ℕ → ℕ → Option Need
+need p part start count = Some (record { packet = p; part = part; start = start; count = count })
+
+-- what an instruction takes; an index counts with its greatest value
+abbrev pub need_of : Row → Instr → Option Need
+need_of row (Prepend p n) = need p measure.Headroom 0 n
+need_of row (Adj p n) = need p measure.First 0 n
+need_of row (Append p n) = need p measure.Tailroom 0 n
+need_of row (Trim p n) = need p measure.Last 0 n
+need_of row (Load r p off w) = need p measure.First 0 (off + bytes_in w)
+need_of row (Store p off w r) = need p measure.First 0 (off + bytes_in w)
+need_of row (LoadX r p s off w) = need p measure.First (bound row (Register s)) (off + bytes_in w)
+need_of row (StoreX p s off w r) = need p measure.First (bound row (Register s)) (off + bytes_in w)
+need_of row _ = None
+
+-- what a fact says of a part
+abbrev pub measured : Measure → Fact → ℕ
+measured part Empty = 0
+measured measure.Headroom (Held share head tail first last segs) = head
+measured measure.Tailroom (Held share head tail first last segs) = tail
+measured measure.First (Held share head tail first last segs) = first
+measured measure.Last (Held share head tail first last segs) = last
+
+-- what a row says of a part of the packet in a register
+abbrev pub measured_at : Row → ℕ → Measure → ℕ
+measured_at row p part = option_map_or (measured part) (slice_get row.facts p) 0
+
+abbrev pub share_in : Fact → ℕ
+share_in Empty = 0
+share_in (Held share head tail first last segs) = share
+
+abbrev pub segs_in : Fact → ℕ
+segs_in Empty = 0
+segs_in (Held share head tail first last segs) = segs
+
+-- the register whose packet is written, and the share that it must have: behind a packet of several segments 2, else 1
+abbrev pub written_with : Fact → Instr → Option (ℕ × ℕ)
+written_with fact (Prepend p n) = Some (p, 1)
+written_with fact (Store p off w r) = Some (p, 1)
+written_with fact (StoreX p s off w r) = Some (p, 1)
+written_with fact (Append p n) = Some (p, if segs_in fact == 1 then 1 else 2)
+written_with fact _ = None
+
+-- ---- what a reason says
+
+-- the row at a label wants what is not known where control comes there by one of these ways
+abbrev pub IsUnmet : List Row → List Lead → Reason → Type 0
+IsUnmet rows ways (Successor to gap) = SomeOf (λ lead. (lead.to ≡ to) × Is (slice_get rows to) (λ there. IsGap lead.row there gap)) ways
+IsUnmet rows ways _ = ⊥
+
+-- a reason of the rules that belong to an instruction with its row
+abbrev pub Says : Question → ℕ → Instr → Row → Reason → Type 0
+Says q label i row (NoPool pool known) = (pool_of i ≡ Some pool) × (known ≡ length q.env.pools) × (known ≤ pool)
+Says q label i row (NoTable table known) = (table_of i ≡ Some table) × (known ≡ q.env.tables) × (known ≤ table)
+Says q label i row (NoRing ring known) = (ring_of i ≡ Some ring) × (known ≡ length q.env.rings) × (known ≤ ring)
+Says q label i row (NoInstruction to known) =
+    SomeOf (λ lead. lead.to ≡ to) (leads q.env label row i) × (known ≡ length q.program) × (known ≤ to)
+Says q label i row (NotHeld p) = SomeOf (λ used. used ≡ p) (uses i) × (is_held row p ≡ false)
+Says q label i row (NotEmpty p known) = (target_of i ≡ Some p) × (slice_get row.facts p ≡ Some known) × (is_empty known ≡ false)
+Says q label i row (OneRegister p) = i ≡ Chain p p
+Says q label i row (TooLittle p part known start count) =
+    (need_of row i ≡ need p part start count) × (known ≡ measured_at row p part) × (known < start + count)
+Says q label i row (NotAlone p known wanted) =
+    (slice_get row.facts p ≡ Some known) × (written_with known i ≡ Some (p, wanted)) × (entails_share (share_in known) wanted ≡ false)
+Says q label i row (TooLong p r known more) =
+    (i ≡ Chain p r) × Is (slice_get row.facts p) (λ fact. known ≡ segs_in fact) × Is (slice_get row.facts r) (λ fact. more ≡ segs_in fact)
+    × (64 < known + more)
+Says q label i row (NoPort r known ports) =
+    (port_of i ≡ Some r) × (known ≡ bound row (Register r)) × (ports ≡ length q.env.ports) × (ports ≤ known)
+Says q label i row (LessThanRing p ring known wanted) =
+    (queued_at i ≡ Some (p, ring)) × (slice_get row.facts p ≡ Some known) × (fact_of_ring q.env.rings ring ≡ Some wanted)
+    × (entails_fact known wanted ≡ false)
+Says q label i row (LeftOver p known) = (i ≡ Exit) × (slice_get row.facts p ≡ Some known) × (is_empty known ≡ false)
+Says q label i row (Successor to gap) = IsUnmet q.rows (leads q.env label row i) (Successor to gap)
+Says q label i row _ = ⊥
+
+-- a reason of the rules that belong to the whole program
+abbrev pub SaysOfWhole : Question → Reason → Type 0
+SaysOfWhole q (RowCount known wanted) = (known ≡ length q.rows) × (wanted ≡ length q.program) × (known ≢ wanted)
+SaysOfWhole q NoEntry = entry_row q.env q.entry ≡ None
+SaysOfWhole q (EntryRow gap) = Is (entry_row q.env q.entry) (λ row. Is (slice_get q.rows 0) (λ there. IsGap row there gap))
+SaysOfWhole q _ = ⊥
+
+-- a reason at a label: what it says is known is, what it says is wanted the rule wants, and the first is not enough
+abbrev pub Explains : Question → ℕ → Reason → Type 0
+Explains q label reason =
+    SaysOfWhole q reason ⊎ Is (slice_get q.program label) (λ i. Is (slice_get q.rows label) (λ row. Says q label i row reason))
+
+-- a diagnosis is of the first fault, and its reason explains it
+pub record IsDiagnosis (q : Question) (d : Diagnosis) : Type 0 where
+  pub refused : IsRefused q d.label (rule_of d.reason)
+  pub explained : Explains q d.label d.reason

@@ -1,0 +1,116 @@
+//! What one row says and another does not.
+
+ghost use Rattle.std.specs.Prelude.{◌≡◌, ◌<◌, true, false, Some, nat_le, slice_get, IfSome, IfNone};
+ghost use Rattle.std.proofs.Math.Bool.{beq};
+ghost use Rattle.dp_model.specs.Groups.{at_each_place, group_of, is_in, keeps_groups, same_registers};
+ghost use Rattle.dp_model.specs.Rows.{entails, entails_fact};
+ghost use Rattle.std.specs.Option.{option_map_or};
+ghost use Rattle.dp_check.specs.Diagnoses.{Is, IsGap, SomeOf};
+
+use crate::reason::Gap;
+use dp_model::{Fact, NumberRegister, PacketRegister, Row};
+
+/// The first register of which the first facts do not say all that the second do.
+#[tactic(auto, using(dp_model::proofs::RowLemmas::each_place_drop))]
+fn fact_gap(facts: &[Fact; 8], others: &[Fact; 8]) -> Option<PacketRegister>
+    ensures none { IfNone result (at_each_place entails_fact facts.now others.now ≡ true) }
+    ensures some { IfSome result (λ p. Is (slice_get facts.now p) (λ known. Is (slice_get others.now p) (λ wanted. entails_fact known wanted ≡ false))) }
+{
+    for i in 0..8 {
+        if !facts[i].entails(others[i]) {
+            return Some(PacketRegister::new(i as u8));
+        }
+    }
+    None
+}
+
+/// The first register that belongs to the group in one of the two alone.
+#[tactic(auto, using(dp_model::proofs::RowLemmas::each_place_drop))]
+fn member_gap(facts: &[Fact; 8], others: &[Fact; 8], group: u8) -> Option<PacketRegister>
+    ensures none { IfNone result (same_registers facts.now others.now group ≡ true) }
+    ensures some { IfSome result (λ p. Is (slice_get facts.now p) (λ known. Is (slice_get others.now p) (λ wanted. beq (is_in group known) (is_in group wanted) ≡ false))) }
+{
+    for i in 0..8 {
+        if facts[i].is_in(group) != others[i].is_in(group) {
+            return Some(PacketRegister::new(i as u8));
+        }
+    }
+    None
+}
+
+/// The first number that the first bounds let be greater than the second.
+#[tactic(auto, using(dp_model::proofs::RowLemmas::each_place_drop))]
+fn bound_gap(bounds: &[u64; 8], others: &[u64; 8]) -> Option<NumberRegister>
+    ensures none { IfNone result (at_each_place nat_le bounds.now others.now ≡ true) }
+    ensures some { IfSome result (λ r. Is (slice_get bounds.now r) (λ known. Is (slice_get others.now r) (λ wanted. wanted < known))) }
+{
+    for i in 0..8 {
+        if bounds[i] > others[i] {
+            return Some(NumberRegister::new(i as u8));
+        }
+    }
+    None
+}
+
+/// The group of a register, and the first register that belongs to it in one of the two alone, where there is one.
+fn group_of_gap(
+    facts: &[Fact; 8],
+    others: &[Fact; 8],
+    member: usize,
+) -> Option<(u8, PacketRegister)>
+    requires { member < 8 }
+    ensures none { IfNone result (Is (slice_get others.now member) (λ other. option_map_or (same_registers facts.now others.now) (group_of other) true ≡ true)) }
+    ensures group { IfSome result (λ found. SomeOf (λ other. group_of other ≡ Some found.0) others.now) }
+    ensures some { IfSome result (λ found. Is (slice_get facts.now found.1) (λ known. Is (slice_get others.now found.1) (λ wanted. beq (is_in found.0 known) (is_in found.0 wanted) ≡ false))) }
+{
+    let group = others[member].group()?;
+    let packet = member_gap(facts, others, group)?;
+    Some((group, packet))
+}
+
+/// The first group of the second facts that has not the same registers in the first, and a register in which they differ.
+fn groups_gap(facts: &[Fact; 8], others: &[Fact; 8]) -> Option<(u8, PacketRegister)>
+    ensures none { IfNone result (keeps_groups facts.now others.now ≡ true) }
+    ensures group { IfSome result (λ found. SomeOf (λ other. group_of other ≡ Some found.0) others.now) }
+    ensures some { IfSome result (λ found. Is (slice_get facts.now found.1) (λ known. Is (slice_get others.now found.1) (λ wanted. beq (is_in found.0 known) (is_in found.0 wanted) ≡ false))) }
+{
+    for member in 0..8 {
+        if let Some(found) = group_of_gap(facts, others, member) {
+            return Some(found);
+        }
+    }
+    None
+}
+
+/// What the row does not say of what the other wants.
+pub(crate) fn gap(row: &Row, there: &Row) -> Gap
+    requires { entails row.now there.now ≡ false }
+    ensures { IsGap row.now there.now result }
+{
+    if !row.live || !there.live {
+        return Gap::Dead;
+    }
+    if let Some(packet) = fact_gap(&row.facts, &there.facts) {
+        return Gap::Packet {
+            packet,
+            known: row.fact(packet),
+            wanted: there.fact(packet),
+        };
+    }
+    if let Some((group, packet)) = groups_gap(&row.facts, &there.facts) {
+        return Gap::Group {
+            group,
+            packet,
+            known: row.fact(packet),
+            wanted: there.fact(packet),
+        };
+    }
+    match bound_gap(&row.bounds, &there.bounds) {
+        Some(register) => Gap::Number {
+            register,
+            known: row.bound_of(register),
+            wanted: there.bound_of(register),
+        },
+        None => unreachable!(),
+    }
+}

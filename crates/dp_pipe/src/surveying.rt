@@ -1,0 +1,63 @@
+//! What a pipeline file says of its nodes, before any of their files is opened.
+
+ghost use Rattle.std.specs.Prelude.{◌≡◌, IfOk, IfErr};
+ghost use Rattle.dp_pipe.specs.Config.{IsConfigOf, IsFaultOf};
+
+use crate::config::{Config, configure};
+use crate::error::PipeError;
+use crate::names::NodeNames;
+use dp_model::{Entry, Env};
+use std::alloc::Global;
+
+/// What a pipeline file says: its environment, and the names of its nodes' files.
+#[derive(Drop)]
+pub struct Survey {
+    config: Config,
+}
+
+impl Survey {
+    /// What its programs are written for.
+    pub fn env(&self) -> &Env
+        ensures { result.now ≡ self.now.config.env }
+    {
+        &self.config.env
+    }
+
+    /// The names of the files of a node.
+    fn names(&self, node: Entry) -> Option<&NodeNames> {
+        match node {
+            Entry::Port(port) => match self.config.ports.get(port as usize) {
+                Some(port) => Some(&port.files),
+                None => None,
+            },
+            Entry::Ring(ring) => self.config.rings.get(ring as usize),
+        }
+    }
+
+    /// The name of a node's program file, where the pipeline has the node.
+    pub fn program(&self, node: Entry) -> Option<&str> {
+        Some(self.names(node)?.node.as_str())
+    }
+
+    /// The name of a node's certificate file, where one is named.
+    pub fn cert(&self, node: Entry) -> Option<&str> {
+        match &self.names(node)?.cert {
+            Some(name) => Some(name.as_str()),
+            None => None,
+        }
+    }
+}
+
+/// What a pipeline's text says, where its format and its environment are in order.
+///
+/// # Errors
+///
+/// [`PipeError::Memory`], or the first of `NotToml`, `BadKey`, `BadEnv` and `BadTable` that there is.
+pub fn survey_of(alloc: Global, text: &[u8]) -> Result<Survey, PipeError>
+    ensures ok { IfOk result (λ survey. IsConfigOf text.now survey.config) }
+    ensures err { IfErr result (IsFaultOf text.now) }
+{
+    Ok(Survey {
+        config: configure(alloc, text)?,
+    })
+}
