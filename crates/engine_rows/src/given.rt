@@ -30,7 +30,7 @@ pub const ANY: Fact = Fact::Held {
 
 /// One pool of so many buffers, and one port with a transmit list of so many places.
 pub fn one_port(count: u32, queue: u32) -> Result<Env, Fail>
-    ensures { IfOk result (λ env. (0 < length env.ports) × (env.tables ≡ 0)) }
+    ensures { IfOk result (λ env. (length env.ports ≡ 1) × (length env.rings ≡ 0) × (env.tables ≡ 0)) }
 {
     Ok(Env::new(
         &[PoolSpec {
