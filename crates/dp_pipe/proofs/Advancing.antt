@@ -129,9 +129,11 @@ arrivals_more inputs round p i r order here goes =
     input_of [] q ys e = cc
     input_of (x ∷ inputs) zero ys e = (x, refl, sym (same_Some _ _ e))
     input_of (x ∷ inputs) (suc q) ys e = input_of inputs q ys e
+
     few_at : (q : ℕ) (ys : List (Time × List ℕ)) → slice_get (map records_in inputs) q ≡ Some ys → ((j : Input) × (slice_get inputs q ≡ Some j) × (ys ≡ records_in j)) → length (records_in i) ≡ round → length ys ≤ length (records_in i) + 1
     few_at q ys e (j, at, is) long =
         omega (arith, ap length is, length-map j.records timed, given_few round p q j.state (length j.records) (order q j at), asked_most round p q, long)
+
     behind_at : (q : ℕ) (ys : List (Time × List ℕ)) → p < q → ((j : Input) × (slice_get inputs q ≡ Some j) × (ys ≡ records_in j)) → length (records_in i) ≡ round → length ys ≤ length (records_in i)
     behind_at q ys lt (j, at, is) long =
         let none : asked round p q ≡ round = ap (λ b. if b then round + 1 else round) (le-ltb q p (omega (arith, lt))) in
@@ -157,6 +159,7 @@ order_next inputs round port i order answers q j at = go (split q port)
     here [] p x y e = cc
     here (z ∷ xs) zero x y e = same_Some x y e
     here (z ∷ xs) (suc p) x y e = here xs p x y e
+
     go : (q ≡ port) ⊎ (q ≢ port) → AnswersSo j.state (length j.records) (asked round (port + 1) q)
     go (inl same) =
         let is = here inputs port i j (ap (slice_get (slice_set inputs port i)) (sym same) ∙ at) in
@@ -181,6 +184,7 @@ order_ended inputs round port i here over order q j at = go (split q port)
     more Open count wanted over e = absurd (over refl)
     more Whole count wanted over lt = omega (arith, lt)
     more (Cut byte) count wanted over lt = omega (arith, lt)
+
     go : (q ≡ port) ⊎ (q ≢ port) → AnswersSo j.state (length j.records) (asked round (port + 1) q)
     go (inl same) =
         let is : i ≡ j = same_Some i j (sym here ∙ ap (slice_get inputs) (sym same) ∙ at) in

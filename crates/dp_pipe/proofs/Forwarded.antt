@@ -96,10 +96,12 @@ drained_none unit time e held = record {
   where
     none_below : (q : ℕ) → nat_lt q 0 ≡ false
     none_below q = le-ltb q 0 (omega arith)
+
     appends_same : (a b : Option (List ℕ)) → a ≡ b → Appends a b []
     appends_same None b e = tt
     appends_same (Some a) None e = cc
     appends_same (Some a) (Some b) e = sym (same_Some a b e) ∙ sym (append-nil a)
+
     add_none : (t : Tallies) → t ≡ record t { sent = t.sent + 0 }
     add_none t = ap (λ n. record t { sent = n }) (omega arith)
 
@@ -116,7 +118,7 @@ pub drained_next : (n : ℕ) (unit : TimeUnit) (time : Time) (e e1 e2 : EngineSt
 drained_next n unit time e e1 e2 held mids holds lt many first next =
     let world = ap (λ (x : EngineState). x.world) first.is in
     let at_time : slice_get (records_at time e.world) n ≡ Some next.records =
-      sym (records_same time e.world n) ∙ ap (λ (w : World). slice_get (records_at time w) n) (sym world) ∙ next.records_is in
+    sym (records_same time e.world n) ∙ ap (λ (w : World). slice_get (records_at time w) n) (sym world) ∙ next.records_is in
     let here : drained_at time e.world n ≡ capture_of next.records = ap (λ o. option_map_or capture_of o []) at_time in
     let count : length (drained_at time e.world n) ≡ length next.records = ap length here ∙ length-map next.records captured in
     record {
@@ -130,10 +132,12 @@ drained_next n unit time e e1 e2 held mids holds lt many first next =
     long [] i x = refl
     long (y ∷ xs) zero x = refl
     long (y ∷ xs) (suc i) x = ap suc (long xs i x)
+
     mid_of : (xs : List (Option (List ℕ))) (q : ℕ) → q < length xs → (x : Option (List ℕ)) × (slice_get xs q ≡ Some x)
     mid_of [] q less = absurd (omega (arith, less))
     mid_of (x ∷ xs) zero less = (x, refl)
     mid_of (x ∷ xs) (suc q) less = mid_of xs q (omega (arith, less))
+
     wrote : (q : ℕ) (old new : Option (List ℕ)) → slice_get held q ≡ Some old → slice_get holds q ≡ Some new → (q ≡ n) ⊎ (q ≢ n)
         → drained_at time e.world n ≡ capture_of next.records
         → Appends old new (if nat_lt q (suc n) then records_text unit (drained_at time e.world q) else [])
@@ -147,13 +151,15 @@ drained_next n unit time e e1 e2 held mids holds lt many first next =
         let before : Appends old mid [] = rw (not_below n) at (first.wrote n old mid a' m) in
         let after : Appends old new (records_text unit (drained_at time e.world n)) = rw here (appends_on old mid new _ before (next.own mid new m b')) in
         subst (λ x. Appends old new (if nat_lt x (suc n) then records_text unit (drained_at time e.world x) else [])) (sym same) (rw (below_next n) after)
+
     is_next : e1.world ≡ record e.world { outboxes = emptied n e.world.outboxes } → e2 ≡ record e { world = record e.world { outboxes = emptied (suc n) e.world.outboxes }; tallies = e2.tallies }
     is_next world =
         let a : e2 ≡ record e1 { world = record e1.world { outboxes = slice_set e1.world.outboxes n [] }; tallies = e2.tallies } =
-          subst (λ (x : EngineState). x ≡ record e1 { world = record e1.world { outboxes = slice_set e1.world.outboxes n [] }; tallies = x.tallies }) (sym next.is) refl in
+        subst (λ (x : EngineState). x ≡ record e1 { world = record e1.world { outboxes = slice_set e1.world.outboxes n [] }; tallies = x.tallies }) (sym next.is) refl in
         let b : record e1 { world = record e1.world { outboxes = slice_set e1.world.outboxes n [] }; tallies = e2.tallies } ≡ record e { world = record e.world { outboxes = slice_set (emptied n e.world.outboxes) n [] }; tallies = e2.tallies } =
-          ap (λ (x : EngineState). record x { world = record x.world { outboxes = slice_set x.world.outboxes n [] }; tallies = e2.tallies }) first.is in
+        ap (λ (x : EngineState). record x { world = record x.world { outboxes = slice_set x.world.outboxes n [] }; tallies = e2.tallies }) first.is in
         a ∙ b ∙ ap (λ l. record e { world = record e.world { outboxes = l }; tallies = e2.tallies }) (sym (emptied_more n e.world.outboxes))
+
     tallied : (q : ℕ) → q < length e.setting.env.ports → (q ≡ n) ⊎ (q ≢ n) → length (drained_at time e.world n) ≡ length next.records
         → tallies_at e2.tallies q ≡ record (tallies_at e.tallies q) { sent = (tallies_at e.tallies q).sent + (if nat_lt q (suc n) then length (drained_at time e.world q) else 0) }
     tallied q less (inr other) count =
@@ -163,7 +169,7 @@ drained_next n unit time e e1 e2 held mids holds lt many first next =
         let before : tallies_at e1.tallies n ≡ record (tallies_at e.tallies n) { sent = (tallies_at e.tallies n).sent + 0 } = rw (not_below n) at (first.tallies n (omega (arith, less, same))) in
         let t = ap (λ (x : EngineState). tallies_at x.tallies n) next.is ∙ tallies_same e1.tallies n (record (tallies_at e1.tallies n) { sent = (tallies_at e1.tallies n).sent + length next.records }) (omega (arith, lt, first.each)) in
         let u : tallies_at e2.tallies n ≡ record (tallies_at e.tallies n) { sent = (tallies_at e.tallies n).sent + length (drained_at time e.world n) } =
-          t ∙ ap (λ (x : Tallies). record x { sent = x.sent + length next.records }) before ∙ ap (λ m. record (tallies_at e.tallies n) { sent = m }) (omega (arith, count)) in
+        t ∙ ap (λ (x : Tallies). record x { sent = x.sent + length next.records }) before ∙ ap (λ m. record (tallies_at e.tallies n) { sent = m }) (omega (arith, count)) in
         subst (λ x. tallies_at e2.tallies x ≡ record (tallies_at e.tallies x) { sent = (tallies_at e.tallies x).sent + (if nat_lt x (suc n) then length (drained_at time e.world x) else 0) }) (sym same) (rw (below_next n) u)
 
 -- ---- writers by their ports
@@ -223,7 +229,7 @@ pub stopped : {A : Type 0} (f : A → Option (List ℕ)) (n : ℕ) (unit : TimeU
 stopped f n unit time e e1 e2 outs mids w w' whole records there first here at wrote is =
     let world = ap (λ (x : EngineState). x.world) first.is in
     let at_time : slice_get (records_at time e.world) n ≡ Some records =
-      sym (records_same time e.world n) ∙ ap (λ (x : World). slice_get (records_at time x) n) (sym world) ∙ at in
+    sym (records_same time e.world n) ∙ ap (λ (x : World). slice_get (records_at time x) n) (sym world) ∙ at in
     let mine : drained_at time e.world n ≡ capture_of records = ap (λ o. option_map_or capture_of o []) at_time in
     record {
       there = there;

@@ -162,15 +162,19 @@ goes_on unit e0 e e' olds news held mids holds progress inputs round port p p' a
     go (Ok (Record time len)) (buf, more, (fits, turn)) (nano, few, less) moves (open_p', drains) =
         (_, record_on unit e0 e olds news held mids progress inputs round port along many p p' here open_p there a b left_a time len buf step.engine e' holds more less moves turn open_p' drains)
     go (Ok End) (buf, more, same) range moves (is, ok, e_is, holds_is) =
-        let x : (inputs' : List Input) × Along unit e0 e olds (slice_set news port b) held mids (slice_set progress port p') inputs' round (port + 1) =
-          (_, ended_on unit e0 e olds news held mids progress inputs round port along many p p' here open_p there a b left_a Whole (λ c. cc)
-          (known_map a b _ _ (λ left rest now bytes records has. whole_read p.source p'.source records bytes moves (now bytes records has)) more) moves is) in
+        let x : (inputs' : List Input) × Along unit e0 e olds (slice_set news port b) held mids (slice_set progress port p') inputs' round (port + 1) = (
+          _,
+          ended_on unit e0 e olds news held mids progress inputs round port along many p p' here open_p there a b left_a Whole (λ c. cc)
+              (known_map a b _ _ (λ left rest now bytes records has. whole_read p.source p'.source records bytes moves (now bytes records has)) more) moves is,
+        ) in
         subst (λ (z : EngineState). (inputs' : List Input) × Along unit e0 z olds (slice_set news port b) held holds (slice_set progress port p') inputs' round (port + 1)) (sym (e_is ∙ same))
         (subst (λ (hs : List (Option (List ℕ))). (inputs' : List Input) × Along unit e0 e olds (slice_set news port b) held hs (slice_set progress port p') inputs' round (port + 1)) (sym holds_is) x)
     go (Ok (next.Cut byte)) (buf, more, same) range moves (is, ok, e_is, holds_is) =
-        let x : (inputs' : List Input) × Along unit e0 e olds (slice_set news port b) held mids (slice_set progress port p') inputs' round (port + 1) =
-          (_, ended_on unit e0 e olds news held mids progress inputs round port along many p p' here open_p there a b left_a (Cut byte) (λ c. cc)
-          (known_map a b _ _ (λ left rest now bytes records has. cut_read byte p.source p'.source records bytes moves (now bytes records has)) more) moves is) in
+        let x : (inputs' : List Input) × Along unit e0 e olds (slice_set news port b) held mids (slice_set progress port p') inputs' round (port + 1) = (
+          _,
+          ended_on unit e0 e olds news held mids progress inputs round port along many p p' here open_p there a b left_a (Cut byte) (λ c. cc)
+              (known_map a b _ _ (λ left rest now bytes records has. cut_read byte p.source p'.source records bytes moves (now bytes records has)) more) moves is,
+        ) in
         subst (λ (z : EngineState). (inputs' : List Input) × Along unit e0 z olds (slice_set news port b) held holds (slice_set progress port p') inputs' round (port + 1)) (sym (e_is ∙ same))
         (subst (λ (hs : List (Option (List ℕ))). (inputs' : List Input) × Along unit e0 e olds (slice_set news port b) held hs (slice_set progress port p') inputs' round (port + 1)) (sym holds_is) x)
     go (Err error) reads range moves (is, bad, e_is, holds_is) = cc

@@ -88,7 +88,7 @@ round_more {T} (x ∷ inputs) zero s xs r e few =
 round_more {T} (x ∷ inputs) (suc p) s xs r e few =
     let place : s + 1 + p ≡ s + suc p = omega arith in
     let more : round_of (length xs) (s + 1) (slice_set inputs p (xs ++ r ∷ [])) ≡ round_of (length xs) (s + 1) inputs ++ arriving (s + suc p) r ∷ [] =
-      rw place at (round_more inputs p (s + 1) xs r e (λ q ys lt at. few (suc q) ys (omega (arith, lt)) at)) in
+    rw place at (round_more inputs p (s + 1) xs r e (λ q ys lt at. few (suc q) ys (omega (arith, lt)) at)) in
     ap (λ l. option_to_list (option_map (arriving s) (slice_get x (length xs))) ++ l) more
     ∙ sym (append_assoc (option_to_list (option_map (arriving s) (slice_get x (length xs)))) (round_of (length xs) (s + 1) inputs) (arriving (s + suc p) r ∷ []))
 

@@ -50,6 +50,7 @@ module _ (unit : TimeUnit) (e0 e : EngineState) (olds news held mids : List (Opt
           get [] q lt = absurd (omega (arith, lt))
           get (x ∷ xs) zero lt = (x, refl)
           get (x ∷ xs) (suc q) lt = get xs q (omega (arith, lt))
+
       small : (q : ℕ) (j : Input) → slice_get inputs q ≡ Some j → length j.records ≤ 16777216
       small q j at = let (x, there) = at_progress q j at in (along.stand.each q x j there at).few
 
@@ -146,10 +147,12 @@ all_closed (p ∷ progress) (j ∷ inputs) many same none =
 -- every input has ended: the run went all the way
 pub went_all : (unit : TimeUnit) (e0 e : EngineState) (olds news held mids : List (Option (List ℕ))) (progress : List Progress) (inputs : List Input) (round port : ℕ) → Along unit e0 e olds news held mids progress inputs round port → NoneIsOpen progress
     → AreRounds unit e0 e olds news held mids progress (Ok tt)
-went_all unit e0 e olds news held mids progress inputs round port along none =
-    (inputs, states_same olds news progress inputs along.stand,
-    record { read = are_read olds news progress inputs along.stand; captures = along.captures; run = along.run; wrote = along.wrote },
-    all_closed progress inputs along.stand.many (λ q p j a b. (along.stand.each q p j a b).state) none)
+went_all unit e0 e olds news held mids progress inputs round port along none = (
+  inputs,
+  states_same olds news progress inputs along.stand,
+  record { read = are_read olds news progress inputs along.stand; captures = along.captures; run = along.run; wrote = along.wrote },
+  all_closed progress inputs along.stand.many (λ q p j a b. (along.stand.each q p j a b).state) none,
+)
 
 -- no input has so many records that it is still open
 pub none_left : (unit : TimeUnit) (e0 e : EngineState) (olds news held mids : List (Option (List ℕ))) (progress : List Progress) (inputs : List Input) (round : ℕ) → Along unit e0 e olds news held mids progress inputs round 0 → 16777217 ≤ round → NoneIsOpen progress

@@ -82,18 +82,18 @@ run_on e e1 e2 e3 port time bytes arrivals captures unit mids holds there boxes 
     let setting1 = ap (λ (x : EngineState). x.setting) run.stays in
     let nodes1 = ap (λ (x : EngineState). x.nodes) run.stays in
     let turned : Turn e.setting e.nodes port bytes e1.world turn.outcome turn.runs turn.told e2.world =
-      subst (λ (x : EngineState). Turn x.setting x.nodes port bytes e1.world turn.outcome turn.runs turn.told e2.world) (run.stays) turn.turn in
+    subst (λ (x : EngineState). Turn x.setting x.nodes port bytes e1.world turn.outcome turn.runs turn.told e2.world) (run.stays) turn.turn in
     let pushed = run_push e.setting e.nodes arrivals (arrival port time bytes) e.world e1.world e2.world run.told turn.told run.outcomes turn.outcome turn.runs captures boxes run.run turned in
     let n = length e.setting.env.ports in
     let world3 : e3.world ≡ with_empty_outboxes e2.world =
-      ap (λ (x : EngineState). x.world) all.is ∙ ap (λ l. record e2.world { outboxes = l }) (ap (λ m. emptied m e2.world.outboxes) (sym boxes) ∙ emptied_all e2.world.outboxes) in
+    ap (λ (x : EngineState). x.world) all.is ∙ ap (λ l. record e2.world { outboxes = l }) (ap (λ m. emptied m e2.world.outboxes) (sym boxes) ∙ emptied_all e2.world.outboxes) in
     let many = outcomes_many e.setting e.nodes arrivals e.world e1.world run.told run.outcomes captures run.run in
     let stays2 : e2 ≡ record e { world = e2.world; turns = e1.turns + 1; tallies = e2.tallies } =
-      subst (λ (x : EngineState). e2 ≡ record x { world = e2.world; turns = e1.turns + 1; tallies = e2.tallies }) run.stays
-      (turn.is ∙ ap (λ ts. record e1 { world = e2.world; turns = e1.turns + 1; tallies = ts }) (sym (ap (λ (x : EngineState). x.tallies) turn.is))) in
+    subst (λ (x : EngineState). e2 ≡ record x { world = e2.world; turns = e1.turns + 1; tallies = e2.tallies }) run.stays
+    (turn.is ∙ ap (λ ts. record e1 { world = e2.world; turns = e1.turns + 1; tallies = ts }) (sym (ap (λ (x : EngineState). x.tallies) turn.is))) in
     let stays3 : e3 ≡ record e { world = e3.world; turns = e1.turns + 1; tallies = e3.tallies } =
-      subst (λ (x : EngineState). e3 ≡ record x { world = e3.world; tallies = e3.tallies }) stays2
-      (all.is ∙ ap (λ w. record e2 { world = w; tallies = e3.tallies }) (sym (ap (λ (x : EngineState). x.world) all.is))) in
+    subst (λ (x : EngineState). e3 ≡ record x { world = e3.world; tallies = e3.tallies }) stays2
+    (all.is ∙ ap (λ w. record e2 { world = w; tallies = e3.tallies }) (sym (ap (λ (x : EngineState). x.world) all.is))) in
     let turns3 : e3.turns ≡ e1.turns + 1 = ap (λ (x : EngineState). x.turns) stays3 in
     record {
       told = run.told ++ turn.told;
@@ -109,6 +109,7 @@ run_on e e1 e2 e3 port time bytes arrivals captures unit mids holds there boxes 
     long [] i x = refl
     long (y ∷ xs) zero x = refl
     long (y ∷ xs) (suc i) x = ap suc (long xs i x)
+
     tallied : (q : ℕ) (sent : List (Time × List ℕ)) → ((x : List (Time × List ℕ)) × (y : List (Time × List ℕ)) × (slice_get captures q ≡ Some x) × (slice_get (records_at time e2.world) q ≡ Some y) × (sent ≡ x ++ y)) → length run.outcomes ≡ length arrivals
         → tallies_at e3.tallies q ≡ record (tally_of q (arrivals ++ arrival port time bytes ∷ []) (run.outcomes ++ turn.outcome ∷ []) (tallies_at e.tallies q)) { sent = (tallies_at e.tallies q).sent + length sent }
     tallied q sent (x, y, was, now, is) many =
@@ -118,7 +119,7 @@ run_on e e1 e2 e3 port time bytes arrivals captures unit mids holds there boxes 
         let t2 = ap (λ (z : EngineState). tallies_at z.tallies q) turn.is ∙ turn_tally q port turn.outcome e1.tallies (omega (arith, there, run.each)) in
         let wrote : length (drained_at time e2.world q) ≡ length y = ap (λ o. length (option_map_or capture_of o [])) now ∙ length-map y captured in
         let t3 : tallies_at e3.tallies q ≡ record (tallies_at e2.tallies q) { sent = (tallies_at e2.tallies q).sent + length y } =
-          rw (lt-ltb q (length e.setting.env.ports) q_in, wrote) at (all.tallies q (subst (λ (s : Setting). q < length s.env.ports) (sym setting2) q_in)) in
+        rw (lt-ltb q (length e.setting.env.ports) q_in, wrote) at (all.tallies q (subst (λ (s : Setting). q < length s.env.ports) (sym setting2) q_in)) in
         let after = tally_more q arrivals run.outcomes (arrival port time bytes) turn.outcome (tallies_at e.tallies q) many in
         let long_sent : length sent ≡ length x + length y = ap length is ∙ length-append x y in
         go (port == q) refl t1 t2 t3 after long_sent
@@ -134,7 +135,7 @@ run_on e e1 e2 e3 port time bytes arrivals captures unit mids holds there boxes 
             let base = tally_of q arrivals run.outcomes (tallies_at e.tallies q) in
             let n = (tallies_at e.tallies q).sent in
             let a : tallies_at e2.tallies q ≡ record (counted turn.outcome base) { sent = n + length x } =
-              (rw same at t2) ∙ ap (counted turn.outcome) t1 ∙ counted_sent turn.outcome base (n + length x) in
+            (rw same at t2) ∙ ap (counted turn.outcome) t1 ∙ counted_sent turn.outcome base (n + length x) in
             t3 ∙ ap (λ (t : Tallies). record t { sent = t.sent + length y }) a ∙ ap (λ m. record (counted turn.outcome base) { sent = m }) (omega (arith, many)) ∙ ap (λ (t : Tallies). record t { sent = n + length sent }) (sym (rw same at after))
         go false same t1 t2 t3 after many =
             let base = tally_of q arrivals run.outcomes (tallies_at e.tallies q) in

@@ -55,6 +55,7 @@ all_stand olds news progress inputs n p' i' b stand stands read = record {
         let y = set_here inputs n i' i (ap (slice_get (slice_set inputs n i')) (sym same) ∙ c) in
         rw (← x, ← y) stands
     each q p i a c (inr other) = stand.each q p i (sym (get_set_other progress n q p' other) ∙ a) (sym (get_set_other inputs n q i' other) ∙ c)
+
     reads : (q : ℕ) (p : Progress) (i : Input) (old new : Option (List ℕ)) → slice_get (slice_set progress n p') q ≡ Some p → slice_get (slice_set inputs n i') q ≡ Some i → slice_get olds q ≡ Some old → slice_get (slice_set news n b) q ≡ Some new
         → (q ≡ n) ⊎ (q ≢ n) → WhereKnown old new (λ bytes rest. HasReadSo i.state p.source i.records bytes rest)
     reads q p i old new a c d e (inl same) =

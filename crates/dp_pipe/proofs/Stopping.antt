@@ -121,15 +121,20 @@ stops_at unit e0 e e' olds news held mids holds progress inputs round port p p' 
   where
     i : Input
     i = (input_at olds news progress inputs port p along.stand here).0
+
     i_here : slice_get inputs port ≡ Some i
     i_here = (input_at olds news progress inputs port p along.stand here).1
+
     i_stands : Stands p i
     i_stands = (input_at olds news progress inputs port p along.stand here).2
+
     i_open : i.state ≡ Open
     i_open = sym i_stands.state ∙ open_p
+
     states : p'.state ≡ Open → map state_of inputs ≡ map state_at (slice_set progress port p')
     states is = states_same olds news progress inputs along.stand
-      ∙ sym (states_set progress port p' ∙ ap (slice_set (map state_at progress) port) (is ∙ sym open_p) ∙ set_itself (map state_at progress) port p.state (states_get progress port p here))
+        ∙ sym (states_set progress port p' ∙ ap (slice_set (map state_at progress) port) (is ∙ sym open_p) ∙ set_itself (map state_at progress) port p.state (states_get progress port p here))
+
     go : (answer : Result Next PcapError) → ReadsTurn port e step.engine p.source p'.source a b answer → IsInRange p.source answer → Moves p.source p'.source answer → Follows port unit step.engine e' p'.state mids holds answer (Err cause)
         → Stops unit e0 e' olds (slice_set news port b) held holds (slice_set progress port p') cause
     go (Ok (Record time len)) (buf, more, (fits, turn)) (nano, few, less) moves (is, q, cause_is, stops) =
@@ -137,44 +142,53 @@ stops_at unit e0 e e' olds news held mids holds progress inputs round port p p' 
         let i' = with_record r i in
         let stands = stands_more p p' i time len buf i_stands open_p is moves less in
         let stand = all_stand olds news progress inputs port p' i' b along.stand stands (λ old at.
-            known_then old a b _ _ _ (λ bytes left rest before now. rw i_open (now bytes i.records (open_read i.state p.source i.records bytes left i_open before))) (along.stand.read port p i old a here i_here at left_a) more) in
-        rw cause_is (slice_set inputs port i', states_same olds (slice_set news port b) (slice_set progress port p') (slice_set inputs port i') stand, record {
-          read = are_read olds (slice_set news port b) (slice_set progress port p') (slice_set inputs port i') stand;
-          before = arrivals_of inputs;
-          last = arrival port time (take len buf);
-          arrivals_are = arrivals_more inputs round port i r along.order i_here i_open;
-          engine = e;
-          captures = along.captures;
-          run = along.run;
-          mids = mids;
-          wrote = along.wrote;
-          behind = step.engine;
-          turn = turn;
-          stopped = stops;
-        })
+        known_then old a b _ _ _ (λ bytes left rest before now. rw i_open (now bytes i.records (open_read i.state p.source i.records bytes left i_open before))) (along.stand.read port p i old a here i_here at left_a) more) in
+        rw cause_is (
+          slice_set inputs port i',
+          states_same olds (slice_set news port b) (slice_set progress port p') (slice_set inputs port i') stand,
+          record {
+            read = are_read olds (slice_set news port b) (slice_set progress port p') (slice_set inputs port i') stand;
+            before = arrivals_of inputs;
+            last = arrival port time (take len buf);
+            arrivals_are = arrivals_more inputs round port i r along.order i_here i_open;
+            engine = e;
+            captures = along.captures;
+            run = along.run;
+            mids = mids;
+            wrote = along.wrote;
+            behind = step.engine;
+            turn = turn;
+            stopped = stops;
+          },
+        )
     go (Ok End) reads range moves (is, bad, e_is, holds_is) = cc
     go (Ok (next.Cut byte)) reads range moves (is, bad, e_is, holds_is) = cc
     go (Err error) (buf, more, same) range moves (is, answer_is, e_is, holds_is) =
         let cause_is : cause ≡ In port error = same_err cause (In port error) answer_is in
         let read = read_set olds news inputs port i b (are_read olds news progress inputs along.stand) i_here (λ old at.
-            known_then old a b _ _ _ (λ bytes left rest before now. rw i_open (p.source, left, open_read i.state p.source i.records bytes left i_open before, i_stands.unit)) (along.stand.read port p i old a here i_here at left_a) more) in
+        known_then old a b _ _ _ (λ bytes left rest before now. rw i_open (p.source, left, open_read i.state p.source i.records bytes left i_open before, i_stands.unit)) (along.stand.read port p i old a here i_here at left_a) more) in
         let fault : (old new : Option (List ℕ)) → slice_get olds port ≡ Some old → slice_get (slice_set news port b) port ≡ Some new → WhereKnown old new (λ bytes rest. Refuses i.unit i.records error bytes) = λ old new at c.
-            let z = set_here news port b new c in
-            subst (λ x. WhereKnown old x (λ bytes rest. Refuses i.unit i.records error bytes)) z
-            (known_then old a b _ _ _ (λ bytes left rest before now. refuses_of error p.source p'.source i.unit i.records bytes rest buf i_stands.unit (now bytes i.records (open_read i.state p.source i.records bytes left i_open before))) (along.stand.read port p i old a here i_here at left_a) more) in
-        rw (cause_is, e_is ∙ same, holds_is) (inputs, states is, record {
-          read = read;
-          captures = along.captures;
-          run = along.run;
-          wrote = along.wrote;
-        }, record {
-          round = round;
-          order = along.order;
-          input = i;
-          input_is = i_here;
-          is_open = i_open;
-          fault = fault;
-        })
+        let z = set_here news port b new c in
+        subst (λ x. WhereKnown old x (λ bytes rest. Refuses i.unit i.records error bytes)) z
+        (known_then old a b _ _ _ (λ bytes left rest before now. refuses_of error p.source p'.source i.unit i.records bytes rest buf i_stands.unit (now bytes i.records (open_read i.state p.source i.records bytes left i_open before))) (along.stand.read port p i old a here i_here at left_a) more) in
+        rw (cause_is, e_is ∙ same, holds_is) (
+          inputs,
+          states is,
+          record {
+            read = read;
+            captures = along.captures;
+            run = along.run;
+            wrote = along.wrote;
+          },
+          record {
+            round = round;
+            order = along.order;
+            input = i;
+            input_is = i_here;
+            is_open = i_open;
+            fault = fault;
+          },
+        )
       where
         same_err : (x y : RunCause) → ◌≡◌ {A = Result ⊤ RunCause} (Err x) (Err y) → x ≡ y
         same_err x y e = cc

@@ -30,7 +30,7 @@ loop-port-preserved g c =
           (drained_next c.loop-port.port c.args.unit c.args.time c.args.engine.now c.loop-port.engine c.drain.new.self _ _ _ (omega (arith, c.loop-port-test.true, c.requires.few, c.requires.counted))
           (length_map _ c.loop-port.outs ∙ inv.many ∙ sym (length_map _ c.args.outs.now)) inv.first
           (drain_on g.W.Sink.contents c.loop-port.port c.args.unit c.args.time c.loop-port.engine c.drain.new.self c.loop-port.outs c.index-outs-port.result c.drain.new.w sent records here at count
-              (subst (λ x. Appends (g.W.Sink.contents x) (g.W.Sink.contents c.drain.new.w) (flat_map (record_text c.args.unit) (map captured records))) (sym c.index-outs-port.is) wrote) is));
+          (subst (λ x. Appends (g.W.Sink.contents x) (g.W.Sink.contents c.drain.new.w) (flat_map (record_text c.args.unit) (map captured records))) (sym c.index-outs-port.is) wrote) is));
       many = length_set c.loop-port.outs c.loop-port.port c.drain.new.w ∙ inv.many;
       sound = λ sound.
           let all = inv.sound sound in
@@ -39,6 +39,7 @@ loop-port-preserved g c =
   where
     one_more : (n : ℕ) → suc n ≡ n + 1
     one_more n = omega arith
+
     length_map : {A B : Type 0} (f : A → B) (xs : List A) → length (map f xs) ≡ length xs
     length_map f [] = refl
     length_map f (x ∷ xs) = ap suc (length_map f xs)
