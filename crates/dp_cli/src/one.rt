@@ -7,11 +7,11 @@ use crate::fault::{DONE, Fault, tell, tell_fault, tell_unloaded};
 use crate::report::ReportText;
 use dp_cert::{CertError, decode};
 use dp_check::{Checked, check};
-use dp_plain::{OneCause, OneFault, run_one};
 use dp_lang::{AsmError, assemble};
 use dp_model::{Entry, Env, PoolSpec, PortSpec};
 use dp_pcap::{Feed, Sink};
 use dp_pipe::PipeError;
+use dp_plain::{OneCause, OneFault, run_one};
 use std::alloc::Global;
 use std::io::Write;
 
