@@ -15,8 +15,11 @@ pub mod Forwarded
 pub mod RunOn
 pub mod Advancing
 pub mod Lending
+pub mod Heading
 pub mod Following
 pub mod Stepping
 pub mod GoingOn
 pub mod Stopping
 pub mod Rounding
+pub mod Through
+pub mod Regions

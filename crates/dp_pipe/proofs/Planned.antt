@@ -11,6 +11,7 @@ use Rattle.dp_pipe.specs.Setup.{NodeFiles}
 use Rattle.dp_pipe.specs.Files.{FileMap}
 use Rattle.dp_pipe.specs.Nodes.{Node, numbered, nodes_of, IsLoaded, AreLoaded}
 use Rattle.dp_pipe.specs.Pipelines.{Plan, IsPlan, IsFor, HasNodes}
+use Rattle.dp_engine.specs.Schemes.{AreNodes}
 use Rattle.dp_pipe.proofs.Places.{length-numbered, numbered_entry, front_of, behind, zipped_length, zipped_at}
 
 for_entry : (known : Option FileMap) (env : Environment) (entry : Entry) (node : Node) (q : Question) → node.entry ≡ entry → IsLoaded known env node q → IsFor env entry q
@@ -60,3 +61,11 @@ pub ring_node : (p shown : Plan) (k : ℕ) (q : Question) → p ≡ shown → Is
 ring_node p shown k q e inv lt is ring place =
     let plan : IsPlan shown = subst IsPlan e inv in
     plan.nodes.rings ring q (ap (slice_get shown.nodes) (sym place) ∙ node_shown p shown k q e plan lt is)
+
+-- nodes of a pipeline are those of an engine
+pub are_nodes : (env : Environment) (nodes : List Question) → HasNodes env nodes → AreNodes env nodes
+are_nodes env nodes h = record {
+  many = h.count;
+  ports = λ k q l at. ((h.ports k q l at).env_is, (h.ports k q l at).entry_is);
+  rings = λ k q at. ((h.rings k q at).env_is, (h.rings k q at).entry_is);
+}

@@ -1,12 +1,13 @@
 pub mod Causes
 pub mod Config
 pub mod Files
+pub mod Forwarding
 pub mod Keys
 pub mod Listed
 pub mod Loads
 pub mod Nodes
 pub mod Pipelines
 pub mod Routes
+pub mod Running
 pub mod Setup
 pub mod Views
-pub mod Forwarding

@@ -4,6 +4,7 @@ use Rattle.dp_model.specs.declared.env.Entry.{Entry}
 use Rattle.dp_model.specs.declared.env.Entry.TheVariants.{Port, Ring}
 use Rattle.dp_model.specs.Environments.{Environment}
 use Rattle.dp_model.specs.Rules.{Question}
+use Rattle.dp_region.specs.Region.{IsRegionSize}
 use Rattle.dp_lpm.specs.Routes.{RouteTable}
 use Rattle.dp_check.specs.Faults.{IsChecked}
 use Rattle.dp_pipe.specs.declared.names.PortNames.{PortNames}
@@ -32,6 +33,7 @@ pub record HasNodes (env : Environment) (nodes : List Question) : Type 0 where
 
 -- the parts of a pipeline fit together
 pub record IsPlan (p : Plan) : Type 0 where
+  pub region : IsRegionSize p.region
   pub nodes : HasNodes p.env p.nodes
   pub tables : length p.tables ≡ p.env.tables
   pub inputs : length p.inputs ≡ length p.env.ports

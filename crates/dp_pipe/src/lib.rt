@@ -14,6 +14,7 @@ mod parts;
 mod pipeline;
 mod reader;
 mod routes;
+mod running;
 mod says;
 mod surveying;
 mod text;
@@ -25,6 +26,7 @@ pub use listed::{Listed, NamedBytes};
 pub use loading::load;
 pub use nodes::How;
 pub use pipeline::Pipeline;
+pub use running::{RunFault, run};
 pub use surveying::{Survey, survey_of};
 pub use text::NodeName;
 

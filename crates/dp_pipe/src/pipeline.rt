@@ -2,6 +2,7 @@
 
 ghost use Rattle.std.specs.Prelude.{◌≡◌, ℕ, ◌+◌, ◌<◌, length, map, Some, slice_get};
 ghost use Rattle.dp_model.specs.declared.env.Entry.TheVariants.{Port, Ring};
+ghost use Rattle.dp_region.specs.Region.{IsRegionSize};
 ghost use Rattle.dp_pipe.specs.Pipelines.{HasNodes, IsFor, IsPlan, input_of, output_of};
 
 use crate::names::PortNames;
@@ -42,6 +43,7 @@ impl Pipeline {
         nodes: Vec<Checked>,
         ports: Vec<PortNames>,
     ) -> Pipeline
+        requires region { IsRegionSize region }
         requires nodes { HasNodes env nodes.items }
         requires tables { length tables.items ≡ env.tables }
         requires ports { length ports.items ≡ length env.ports }
@@ -67,7 +69,9 @@ impl Pipeline {
 
     /// The size of the region that it runs in, in bytes.
     pub fn region(&self) -> u32
-        ensures { result ≡ self.now.region }
+        ensures same { result ≡ self.now.region }
+        // A multiple of 64 from 4,096 to 1,073,741,824.
+        ensures size { IsRegionSize result }
     {
         self.region
     }
@@ -118,5 +122,22 @@ impl Pipeline {
         ensures { slice_get self.now.outputs port ≡ Some result.now }
     {
         self.ports[port].output.as_str()
+    }
+
+    /// Its parts, for an engine.
+    pub(crate) fn into_parts(self) -> (Env, Vec<Lpm>, Vec<Checked>)
+        ensures env { result.0 ≡ self.env }
+        ensures tables { result.1.items ≡ self.tables }
+        ensures nodes { result.2.items ≡ self.nodes }
+        ensures plan { IsPlan self }
+    {
+        let Pipeline {
+            env,
+            region: _,
+            tables,
+            nodes,
+            ports: _,
+        } = self;
+        (env, tables, nodes)
     }
 }

@@ -4,6 +4,8 @@ use Rattle.std.proofs.lemmas.Result.{err_from_is_err_and}
 use Rattle.dp_pipe.specs.Pipelines.{Plan}
 use Rattle.dp_pipe.specs.Loads.{IsLoadedFrom}
 use Rattle.dp_pipe.proofs.Loaded.{few, ports_of, rings_of, tables_of, fit_nodes, loaded_from, bad_node}
+use Rattle.dp_region.specs.Region.{IsRegionSize}
+use Rattle.dp_pipe.proofs.Regions.{setup_region}
 use Rattle.dp_pipe.proofs.loading.load.Goals as goal
 
 pub load_nodes-requires-clause-few_ports : goal.load_nodes-requires-clause-few_ports
@@ -40,3 +42,8 @@ returns-clause-loaded g c =
     let loaded = rw (c.deref.ensures.value, c.deref-2.ensures.value) at c.in_ok-nodes.ensures.loaded in
     subst (λ (p : Plan). IsLoadedFrom (g.F.Files.known c.args.files.now) c.args.how c.args.text.now p) (sym c.new.ensures)
     (loaded_from (g.F.Files.known c.args.files.now) c.args.how c.args.text.now c.in_ok-config.config c.in_ok-nodes.nodes.items c.in_ok-config.ensures.ok loaded)
+
+pub new-requires-clause-region : goal.new-requires-clause-region
+new-requires-clause-region g c =
+    let config = c.in_ok-config.ensures.ok in
+    subst IsRegionSize (sym config.config.region) (setup_region config.top config.setup config.reads)

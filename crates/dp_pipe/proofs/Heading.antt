@@ -1,0 +1,313 @@
+-- Inputs whose headers were read, and what is told of them.
+use Rattle.std.proofs.Common.{◌≡◌, ◌≢◌, ◌⊎◌, inl, inr, ℕ, zero, suc, ◌+◌, ◌<◌, ◌≤◌, List, [], ◌∷◌, ◌++◌, Option, Some, None, Bool, false, length, map, take, refl, ap, sym, ◌∙◌, subst, arith}
+use Rattle.std.specs.Prelude.{slice_get, slice_set, slice_index_or, ◌==◌, if◌then◌else◌}
+use Rattle.std.proofs.lemmas.Bool.{eq-eqb, ne_eqb}
+use Rattle.std.proofs.lemmas.List.{length-map, length-append}
+use Rattle.std.proofs.lemmas.Option.{slice_get-map, same_Some, slice_get_within}
+use Rattle.dp_model.proofs.Refs.{get_set_other, get_set_same}
+use Rattle.dp_pipe.proofs.Forwarded.{split}
+use Rattle.std.specs.List.{list_any, AllByRecursion}
+use Rattle.std.specs.Io.KnownBytes.{Appends, Keeps}
+use Rattle.dp_pcap.specs.declared.time.Unit.{Unit as TimeUnit}
+use Rattle.std.specs.Prelude.{Err}
+use Rattle.dp_pcap.specs.declared.error.PcapError.{PcapError}
+use Rattle.dp_pcap.specs.Source.{WhereKnown, HasRead, HeaderAnswers}
+use Rattle.dp_pcap.specs.Text.{header_text, AppendsPart}
+use Rattle.dp_engine.specs.declared.report.InputState.{InputState}
+use Rattle.dp_engine.specs.declared.report.PortReport.{PortReport}
+use Rattle.dp_pipe.specs.declared.forwarding.Progress.{Progress}
+use Rattle.dp_pipe.specs.Forwarding.{is_nano, units_of, Stands, IsGoingOn, AllStand, HasReadSo, AreRead, Gives, BeginsAs}
+use Rattle.dp_pipe.specs.Running.{all_begun, with_states, HeadersStopped, HasHeaderFault, IsBegun, begun}
+
+-- an input has nanoseconds where its source has
+pub any_nano : (inputs : List Progress) → list_any is_nano (units_of (all_begun inputs)) ≡ list_any (λ (p : Progress). is_nano p.source.unit) inputs
+any_nano [] = refl
+any_nano (p ∷ inputs) = rw (any_nano inputs) refl
+
+-- an element that is there
+pub there_is : {A : Type 0} (xs : List A) (k : ℕ) (d : A) → k < length xs → slice_get xs k ≡ Some (slice_index_or xs k d)
+there_is [] k d l = absurd (omega (arith, l))
+there_is (x ∷ xs) zero d l = refl
+there_is (x ∷ xs) (suc k) d l = there_is xs k d (omega (arith, l))
+
+abbrev pub states_of : List Progress → List InputState
+states_of inputs = map (λ (p : Progress). p.state) inputs
+
+-- the state of one input more is told
+pub told_more : (inputs : List Progress) (ports : List PortReport) (k : ℕ) (p : Progress) (d : PortReport) → k < length inputs
+    → with_states (take (suc k) (states_of inputs)) ports
+    ≡ slice_set (with_states (take k (states_of inputs)) ports) k (record (slice_index_or (with_states (take k (states_of inputs)) ports) k d) { state = (slice_index_or inputs k p).state })
+told_more [] ports k p d l = absurd (omega (arith, l))
+told_more (i ∷ inputs) [] zero p d l = refl
+told_more (i ∷ inputs) [] (suc k) p d l = refl
+told_more (i ∷ inputs) (n ∷ ports) zero p d l = refl
+told_more (i ∷ inputs) (n ∷ ports) (suc k) p d l = ap (λ more. record n { state = i.state } ∷ more) (told_more inputs ports k p d (omega (arith, l)))
+
+-- one more of the same
+pub same_more : {A B : Type 0} (y : B) (xs : List A) (k : ℕ) → k < length xs → map (λ _. y) (take (suc k) xs) ≡ map (λ _. y) (take k xs) ++ y ∷ []
+same_more y [] k l = absurd (omega (arith, l))
+same_more y (x ∷ xs) zero l = refl
+same_more y (x ∷ xs) (suc k) l = ap (λ ys. y ∷ ys) (same_more y xs k (omega (arith, l)))
+
+-- ---- one device after the other
+
+pub length_set : {A : Type 0} (xs : List A) (i : ℕ) (x : A) → length (slice_set xs i x) ≡ length xs
+length_set [] i x = refl
+length_set (y ∷ xs) zero x = refl
+length_set (y ∷ xs) (suc i) x = ap suc (length_set xs i x)
+
+-- each device so far was changed so, and those behind are as they were
+pub record Changed {W : Type 0} (R : W → W → Type 0) (n : ℕ) (olds news : List W) : Type 0 where
+  pub many : length news ≡ length olds
+  pub done : (q : ℕ) (w w' : W) → q < n → slice_get olds q ≡ Some w → slice_get news q ≡ Some w' → R w w'
+  pub rest : (q : ℕ) → n ≤ q → slice_get news q ≡ slice_get olds q
+
+pub no_place : {W A : Type 0} (f : W → A) (q : ℕ) (a : A) → slice_get (map f []) q ≡ Some a → ⊥
+no_place f zero a e = cc
+no_place f (suc q) a e = cc
+
+-- which of two numbers is less
+pub order : (a b : ℕ) → (a < b) ⊎ (b ≤ a)
+order a zero = inr (omega arith)
+order zero (suc b) = inl (omega arith)
+order (suc a) (suc b) = go (order a b)
+  where
+    go : (a < b) ⊎ (b ≤ a) → (suc a < suc b) ⊎ (suc b ≤ suc a)
+    go (inl l) = inl (omega (arith, l))
+    go (inr l) = inr (omega (arith, l))
+
+-- what a device tells, where the list of what all tell has it
+pub told_at : {W A : Type 0} (f : W → A) (xs : List W) (q : ℕ) (a : A) → slice_get (map f xs) q ≡ Some a → (w : W) × (slice_get xs q ≡ Some w) × (a ≡ f w)
+told_at f [] zero a e = absurd (no_place f zero a e)
+told_at f [] (suc q) a e = absurd (no_place f (suc q) a e)
+told_at f (x ∷ xs) zero a e = (x, refl, sym (same_Some _ _ e))
+told_at f (x ∷ xs) (suc q) a e = told_at f xs q a e
+
+pub changed_none : {W : Type 0} (R : W → W → Type 0) (olds : List W) → Changed R 0 olds olds
+changed_none R olds = record { many = refl; done = λ q w w' l e e'. absurd (omega (arith, l)); rest = λ q l. refl }
+
+-- one more
+pub changed_more : {W : Type 0} (R : W → W → Type 0) (n : ℕ) (olds news : List W) (w w' : W) → Changed R n olds news
+    → slice_get news n ≡ Some w → R w w' → Changed R (n + 1) olds (slice_set news n w')
+changed_more {W} R n olds news w w' c there is = record {
+  many = length_set news n w' ∙ c.many;
+  done = done;
+  rest = λ q l. get_set_other news n q w' (λ e. absurd (omega (arith, l, e))) ∙ c.rest q (omega (arith, l));
+}
+  where
+    done : (q : ℕ) (x x' : W) → q < n + 1 → slice_get olds q ≡ Some x → slice_get (slice_set news n w') q ≡ Some x' → R x x'
+    done q x x' l e e' = elim (split q n) [
+      | inl same ↦
+          let old : Some x ≡ Some w = sym e ∙ ap (slice_get olds) same ∙ sym (c.rest n (omega arith)) ∙ there in
+          let new : Some x' ≡ Some w' = sym e' ∙ ap (slice_get (slice_set news n w')) same ∙ get_set_same news n w' w there in
+          let a = same_Some _ _ old in let b = same_Some _ _ new in subst (λ u. R u x') (sym a) (subst (R w) (sym b) is)
+      | inr other ↦ c.done q x x' (omega (arith, l, other)) e (sym (get_set_other news n q w' other) ∙ e')
+    ]
+
+-- ---- a pass over all devices, and one that stopped
+
+-- what holds of a device and what it became, where each was changed so
+pub all_changed : {W : Type 0} (R : W → W → Type 0) (n : ℕ) (olds news : List W) → Changed R n olds news → n ≡ length olds
+    → (q : ℕ) (w w' : W) → slice_get olds q ≡ Some w → slice_get news q ≡ Some w' → R w w'
+all_changed R n olds news c e q w w' here there = c.done q w w' (omega (arith, e, slice_get_within olds q w here)) here there
+
+-- a fact of what devices tell, before and after
+pub in_told : {W A : Type 0} (f : W → A) (P : A → A → Type 0) (olds news : List W) (q : ℕ) → ((w w' : W) → slice_get olds q ≡ Some w → slice_get news q ≡ Some w' → P (f w) (f w'))
+    → (a a' : A) → slice_get (map f olds) q ≡ Some a → slice_get (map f news) q ≡ Some a' → P a a'
+in_told f P olds news q is a a' e e' =
+    let (w, here, a_is) = told_at f olds q a e in
+    let (w', there, a_is') = told_at f news q a' e' in
+    subst (λ x. P x a') (sym a_is) (subst (P (f w)) (sym a_is') (is w w' here there))
+
+-- a device is what it was
+pub is_same : {W : Type 0} (olds news : List W) (q : ℕ) (w w' : W) → slice_get news q ≡ slice_get olds q → slice_get olds q ≡ Some w → slice_get news q ≡ Some w' → w' ≡ w
+is_same olds news q w w' same here there = same_Some w' w (sym there ∙ same ∙ here)
+
+-- each of a list
+pub each_of : {W : Type 0} (P : W → Type 0) (xs : List W) → ((q : ℕ) (w : W) → slice_get xs q ≡ Some w → P w) → AllByRecursion P xs
+each_of P [] is = tt
+each_of P (x ∷ xs) is = (is 0 x refl, each_of P xs (λ q w e. is (suc q) w e))
+
+-- each device that was changed so
+pub new_all : {W : Type 0} (R : W → W → Type 0) (P : W → Type 0) (n : ℕ) (olds news : List W) → Changed R n olds news → n ≡ length olds → ((w w' : W) → R w w' → P w')
+    → AllByRecursion P news
+new_all {W = W} R P n olds news c e implies = each_of P news each
+  where
+    each : (q : ℕ) (w : W) → slice_get news q ≡ Some w → P w
+    each q w there =
+        let within : q < length olds = omega (arith, slice_get_within news q w there, c.many) in
+        implies _ w (c.done q (slice_index_or olds q w) w (omega (arith, within, e)) (there_is olds q w within) there)
+
+-- where a device is changed another way, those before it were changed so
+pub before_of : {W : Type 0} (R : W → W → Type 0) (n : ℕ) (olds news : List W) (u : W) → Changed R n olds news
+    → (q : ℕ) (x x' : W) → q < n → slice_get olds q ≡ Some x → slice_get (slice_set news n u) q ≡ Some x' → R x x'
+before_of R n olds news u c q x x' l here there = c.done q x x' l here (sym (get_set_other news n q u (λ e. absurd (omega (arith, l, e)))) ∙ there)
+
+-- it is this one
+pub old_of : {W : Type 0} (R : W → W → Type 0) (n : ℕ) (olds news : List W) (w x : W) → Changed R n olds news → slice_get news n ≡ Some w → slice_get olds n ≡ Some x → x ≡ w
+old_of R n olds news w x c at here = same_Some x w (sym here ∙ sym (c.rest n (omega arith)) ∙ at)
+
+pub new_of : {W : Type 0} (n : ℕ) (news : List W) (w u x' : W) → slice_get news n ≡ Some w → slice_get (slice_set news n u) n ≡ Some x' → x' ≡ u
+new_of n news w u x' at there = same_Some x' u (sym there ∙ get_set_same news n u w at)
+
+-- and those behind it are as they were
+pub behind_of : {W : Type 0} (R : W → W → Type 0) (n : ℕ) (olds news : List W) (u : W) → Changed R n olds news
+    → (q : ℕ) (x x' : W) → n < q → slice_get olds q ≡ Some x → slice_get (slice_set news n u) q ≡ Some x' → x' ≡ x
+behind_of R n olds news u c q x x' l here there =
+    same_Some x' x (sym there ∙ get_set_other news n q u (λ e. absurd (omega (arith, l, e))) ∙ c.rest q (omega (arith, l)) ∙ here)
+
+-- one call more failed, of the device at a place
+pub failed_one : {W : Type 0} (failures : W → ℕ) (R : W → W → Type 0) (n : ℕ) (olds news : List W) (w u : W) → Changed R n olds news → ((x x' : W) → R x x' → failures x' ≡ failures x)
+    → slice_get news n ≡ Some w → failures u ≡ failures w + 1
+    → (q : ℕ) (x x' : W) → slice_get olds q ≡ Some x → slice_get (slice_set news n u) q ≡ Some x' → failures x' ≡ failures x + (if q == n then 1 else 0)
+failed_one {W = W} failures R n olds news w u c same at more q x x' here there = go (split q n)
+  where
+    go : (q ≡ n) ⊎ (q ≢ n) → failures x' ≡ failures x + (if q == n then 1 else 0)
+    go (inl e) =
+        let old : x ≡ w = old_of R n olds news w x c at (ap (slice_get olds) (sym e) ∙ here) in
+        let new : x' ≡ u = new_of n news w u x' at (ap (slice_get (slice_set news n u)) (sym e) ∙ there) in
+        rw (eq-eqb q n e) (ap failures new ∙ more ∙ ap (λ (y : W). failures y + 1) (sym old))
+    go (inr other) =
+        let kept : slice_get news q ≡ Some x' = sym (get_set_other news n q u other) ∙ there in
+        let still : failures x' ≡ failures x = aside (order q n) kept in
+        rw (ne_eqb q n other) (omega (arith, still))
+      where
+        aside : (q < n) ⊎ (n ≤ q) → slice_get news q ≡ Some x' → failures x' ≡ failures x
+        aside (inl below) kept = same x x' (c.done q x x' below here kept)
+        aside (inr behind) kept = ap failures (same_Some x' x (sym kept ∙ c.rest q behind ∙ here))
+
+-- ---- writers
+
+-- what is held is kept where a writer is what it was
+pub keeps_it : (a : Option (List ℕ)) → Keeps a a
+keeps_it None = tt
+keeps_it (Some bytes) = refl
+
+pub kept_same : {W : Type 0} (contents : W → Option (List ℕ)) (w w' : W) → w' ≡ w → Keeps (contents w) (contents w')
+kept_same {W = W} contents w w' e = subst (λ (x : W). Keeps (contents w) (contents x)) (sym e) (keeps_it (contents w))
+
+-- the header of a writer was written in part
+pub headers_stopped : {W : Type 0} (contents : W → Option (List ℕ)) (R : W → W → Type 0) (unit : TimeUnit) (n : ℕ) (olds news : List W) (w u : W) → Changed R n olds news
+    → ((x x' : W) → R x x' → Appends (contents x) (contents x') (header_text unit)) → slice_get news n ≡ Some w → AppendsPart (contents w) (contents u) (header_text unit)
+    → HeadersStopped unit (map contents olds) (map contents (slice_set news n u)) n
+headers_stopped contents R unit n olds news w u c whole at part = record {
+  before = λ q old new l. in_told contents (λ a a'. Appends a a' (header_text unit)) olds (slice_set news n u) q
+      (λ x x' here there. whole x x' (before_of R n olds news u c q x x' l here there)) old new;
+  own = in_told contents (λ a a'. AppendsPart a a' (header_text unit)) olds (slice_set news n u) n
+      (λ x x' here there. rw (old_of R n olds news w x c at here, new_of n news w u x' at there) part);
+  behind = λ q old new l. in_told contents Keeps olds (slice_set news n u) q
+      (λ x x' here there. kept_same contents x x' (behind_of R n olds news u c q x x' l here there)) old new;
+}
+
+-- ---- readers
+
+-- what was read of the first so many inputs: a header each
+pub record ReadFirst {R : Type 0} (remaining : R → Option (List ℕ)) (failures : R → ℕ) (is_broken : R → Bool) (n : ℕ) (olds news : List R) (inputs : List Progress) : Type 0 where
+  pub changed : Changed (λ r r'. (failures r' ≡ failures r) × (is_broken r' ≡ false)) n olds news
+  pub many : length inputs ≡ n
+  pub begun : AllByRecursion IsBegun inputs
+  pub read : (q : ℕ) (p : Progress) (r r' : R) → slice_get inputs q ≡ Some p → slice_get olds q ≡ Some r → slice_get news q ≡ Some r'
+      → WhereKnown (remaining r) (remaining r') (λ bytes rest. HasRead bytes p.source [] rest)
+
+pub get_front : {A : Type 0} (xs : List A) (y : A) (q : ℕ) (x : A) → slice_get (xs ++ y ∷ []) q ≡ Some x → ((q < length xs) × (slice_get xs q ≡ Some x)) ⊎ ((q ≡ length xs) × (x ≡ y))
+get_front [] y zero x e = inr (refl, same_Some _ _ (sym e))
+get_front {A = A} [] y (suc q) x e = absurd (no_place {W = A} (λ (z : A). z) q x e)
+get_front (z ∷ xs) y zero x e = inl (omega arith, e)
+get_front (z ∷ xs) y (suc q) x e = go (get_front xs y q x e)
+  where
+    go : ((q < length xs) × (slice_get xs q ≡ Some x)) ⊎ ((q ≡ length xs) × (x ≡ y)) → ((suc q < suc (length xs)) × (slice_get (z ∷ xs) (suc q) ≡ Some x)) ⊎ ((suc q ≡ suc (length xs)) × (x ≡ y))
+    go (inl (l, at)) = inl (omega (arith, l), at)
+    go (inr (same, at)) = inr (ap suc same, at)
+
+-- all of a list and one more
+pub each_more : {A : Type 0} (P : A → Type 0) (xs : List A) (y : A) → AllByRecursion P xs → P y → AllByRecursion P (xs ++ y ∷ [])
+each_more P [] y all is = (is, tt)
+each_more P (x ∷ xs) y (first, all) is = (first, each_more P xs y all is)
+
+pub all_at : {A : Type 0} (P : A → Type 0) (xs : List A) (q : ℕ) (x : A) → AllByRecursion P xs → slice_get xs q ≡ Some x → P x
+all_at {A = A} P [] q x all e = absurd (no_place {W = A} (λ (z : A). z) q x e)
+all_at P (y ∷ xs) zero x (first, all) e = subst P (same_Some _ _ e) first
+all_at P (y ∷ xs) (suc q) x (first, all) e = all_at P xs q x all e
+
+-- no header was read yet
+pub read_none : {R : Type 0} (remaining : R → Option (List ℕ)) (failures : R → ℕ) (is_broken : R → Bool) (olds : List R) → ReadFirst remaining failures is_broken 0 olds olds []
+read_none remaining failures is_broken olds = record {
+  changed = changed_none _ olds;
+  many = refl;
+  begun = tt;
+  read = λ q p r r' at here there. absurd (no_place {W = Progress} (λ (z : Progress). z) q p at);
+}
+
+-- one header more
+pub read_more : {R : Type 0} (remaining : R → Option (List ℕ)) (failures : R → ℕ) (is_broken : R → Bool) (n : ℕ) (olds news : List R) (inputs : List Progress) (r u : R) (p : Progress)
+    → ReadFirst remaining failures is_broken n olds news inputs → slice_get news n ≡ Some r → failures u ≡ failures r → is_broken u ≡ false → IsBegun p
+    → WhereKnown (remaining r) (remaining u) (λ bytes rest. HasRead bytes p.source [] rest) → ReadFirst remaining failures is_broken (n + 1) olds (slice_set news n u) (inputs ++ p ∷ [])
+read_more {R = R} remaining failures is_broken n olds news inputs r u p c at same sound begun known = record {
+  changed = changed_more _ n olds news r u c.changed at (same, sound);
+  many = omega (arith, length-append inputs (p ∷ []), c.many);
+  begun = each_more IsBegun inputs p c.begun begun;
+  read = read;
+}
+  where
+    read : (q : ℕ) (i : Progress) (x x' : R) → slice_get (inputs ++ p ∷ []) q ≡ Some i → slice_get olds q ≡ Some x → slice_get (slice_set news n u) q ≡ Some x'
+        → WhereKnown (remaining x) (remaining x') (λ bytes rest. HasRead bytes i.source [] rest)
+    read q i x x' there_i here there = go (get_front inputs p q i there_i)
+      where
+        go : ((q < length inputs) × (slice_get inputs q ≡ Some i)) ⊎ ((q ≡ length inputs) × (i ≡ p)) → WhereKnown (remaining x) (remaining x') (λ bytes rest. HasRead bytes i.source [] rest)
+        go (inl (l, front)) = c.read q i x x' front here (sym (get_set_other news n q u (λ e. absurd (omega (arith, l, e, c.many)))) ∙ there)
+        go (inr (e, is)) =
+            let place : q ≡ n = e ∙ c.many in
+            let old : x ≡ r = old_of _ n olds news r x c.changed at (ap (slice_get olds) (sym place) ∙ here) in
+            let new : x' ≡ u = new_of n news r u x' at (ap (slice_get (slice_set news n u)) (sym place) ∙ there) in
+            rw (old, new, is) known
+
+-- all headers were read: the inputs stand at their first records
+pub stand_begun : (p : Progress) → IsBegun p → Stands p (begun p)
+stand_begun p is = record {
+  unit = refl;
+  state = refl;
+  goes_on = subst (λ (state : InputState). IsGoingOn state p.source 0) (sym is.state) (is.source.is_open, is.source.given);
+  few = omega arith;
+}
+
+pub all_stand : {R : Type 0} (remaining : R → Option (List ℕ)) (failures : R → ℕ) (is_broken : R → Bool) (n : ℕ) (olds news : List R) (inputs : List Progress)
+    → ReadFirst remaining failures is_broken n olds news inputs → AllStand (map remaining olds) (map remaining news) inputs (all_begun inputs)
+all_stand {R = R} remaining failures is_broken n olds news inputs c = record {
+  many = sym (length-map inputs begun);
+  each = λ q p i at at'. let (w, there, is) = told_at begun inputs q i at' in
+      let same : w ≡ p = same_Some w p (sym there ∙ at) in
+      rw (is, same) (stand_begun p (all_at IsBegun inputs q p c.begun at));
+  read = λ q p i old new at at' here there. let (w, there_w, is) = told_at begun inputs q i at' in
+      let same : w ≡ p = same_Some w p (sym there_w ∙ at) in
+      let is_open = (all_at IsBegun inputs q p c.begun at).state in
+      in_told remaining (λ a a'. WhereKnown a a' (λ bytes rest. HasReadSo i.state p.source i.records bytes rest)) olds news q
+      (λ x x' here_x there_x. rw (is, same, is_open) (c.read q p x x' at here_x there_x)) old new here there;
+}
+
+-- what was read of inputs whose headers were read
+pub read_begun : {R : Type 0} (remaining : R → Option (List ℕ)) (failures : R → ℕ) (is_broken : R → Bool) (n : ℕ) (olds news : List R) (inputs : List Progress) (u : R)
+    → ReadFirst remaining failures is_broken n olds news inputs → AreRead (map remaining olds) (map remaining (slice_set news n u)) (all_begun inputs)
+read_begun {R = R} remaining failures is_broken n olds news inputs u c q i old new at here there =
+    let (p, there_p, is) = told_at begun inputs q i at in
+    let is_open = (all_at IsBegun inputs q p c.begun there_p).state in
+    let below : q < n = omega (arith, slice_get_within inputs q p there_p, c.many) in
+    in_told remaining (λ a a'. WhereKnown a a' (λ bytes rest. Gives i.state i.unit i.records bytes)) olds (slice_set news n u) q
+    (λ x x' here_x there_x. rw (is, is_open) (known_begun p (remaining x) (remaining x')
+    (c.read q p x x' there_p here_x (sym (get_set_other news n q u (λ e. absurd (omega (arith, below, e)))) ∙ there_x)))) old new here there
+  where
+    known_begun : (p : Progress) (a a' : Option (List ℕ)) → WhereKnown a a' (λ bytes rest. HasRead bytes p.source [] rest) → WhereKnown a a' (λ bytes rest. BeginsAs bytes p.source.unit [])
+    known_begun p None a' known = tt
+    known_begun p (Some bytes) None known = absurd known
+    known_begun p (Some bytes) (Some rest) known = (p.source, rest, known, refl)
+
+-- the header of an input is at fault
+pub header_fault : {R : Type 0} (remaining : R → Option (List ℕ)) (failures : R → ℕ) (is_broken : R → Bool) (n : ℕ) (olds news : List R) (inputs : List Progress) (r u : R) (error : PcapError)
+    → ReadFirst remaining failures is_broken n olds news inputs → slice_get news n ≡ Some r → WhereKnown (remaining r) (remaining u) (λ bytes rest. HeaderAnswers bytes rest (Err error))
+    → HasHeaderFault (map remaining olds) (map remaining (slice_set news n u)) n error
+header_fault remaining failures is_broken n olds news inputs r u error c at known = record {
+  before = (all_begun inputs, omega (arith, length-map inputs begun, c.many), read_begun remaining failures is_broken n olds news inputs u c);
+  fault = in_told remaining (λ a a'. WhereKnown a a' (λ bytes rest. HeaderAnswers bytes rest (Err error))) olds (slice_set news n u) n
+      (λ x x' here there. rw (old_of _ n olds news r x c.changed at here, new_of n news r u x' at there) known);
+  behind = λ q old new l. in_told remaining Keeps olds (slice_set news n u) q
+      (λ x x' here there. kept_same remaining x x' (behind_of _ n olds news u c.changed q x x' l here there)) old new;
+}

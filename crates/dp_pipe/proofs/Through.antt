@@ -1,0 +1,164 @@
+-- Where all rounds of a run begin, and what stays of an engine behind them.
+use Rattle.std.proofs.Common.{◌≡◌, ◌⊎◌, inl, inr, ℕ, zero, suc, ◌+◌, ◌<◌, ◌≤◌, List, [], ◌∷◌, ◌++◌, Option, Some, None, Result, Ok, Err, length, map, take, replicate, refl, ap, sym, ◌∙◌, subst, arith, zero-add}
+use Rattle.std.specs.Prelude.{slice_get, flat_map, max, ⊤, IfErr}
+use Rattle.std.specs.Option.{option_map_or}
+use Rattle.std.specs.List.{AllByRecursion}
+use Rattle.std.specs.Io.KnownBytes.{Appends, Keeps}
+use Rattle.std.proofs.lemmas.Option.{same_Some}
+use Rattle.std.proofs.lemmas.List.{length-replicate, append-nil}
+use Rattle.dp_pcap.specs.declared.time.Time.{Time}
+use Rattle.dp_pcap.specs.declared.time.Unit.{Unit as TimeUnit}
+use Rattle.dp_pcap.specs.Capture.{PacketRecord}
+use Rattle.dp_model.specs.Runs.{Arrival, longest}
+use Rattle.dp_model.specs.Machine.{Setting}
+use Rattle.dp_engine.specs.Engines.{EngineState, tallies_at}
+use Rattle.dp_engine.specs.declared.report.Tallies.{Tallies}
+use Rattle.std.proofs.lemmas.Bool.{le-ltb}
+use Rattle.dp_engine.specs.declared.report.Report.{Report}
+use Rattle.dp_pipe.specs.declared.running.RunFault.{RunFault}
+use Rattle.dp_pipe.specs.declared.forwarding.Progress.{Progress}
+use Rattle.dp_pipe.specs.declared.forwarding.RunCause.{RunCause}
+use Rattle.dp_pipe.specs.declared.forwarding.RunCause.TheVariants.{Memory, NoRoom, In, Out}
+use Rattle.dp_pipe.specs.Forwarding.{Input, AllStand, AskedUntil, AnswersSo, asked, Along, HasRun, AreWritten, AreRounds, FailedAt, Stops, arrivals_of, records_in, records_many, capture_at, capture_of, tally_of, AreRead, unit_for, units_of}
+use Rattle.dp_pipe.specs.Running.{all_begun, begun, IsBegun, GoesForward, answer_of, HeadersFail, IsHeaderCause, IsWriteCause}
+use Rattle.dp_pipe.proofs.Heading.{told_at, all_at, length_set, keeps_it}
+
+-- ---- before the first round
+
+longest_none : (inputs : List Progress) → longest (map records_in (all_begun inputs)) ≡ 0
+longest_none [] = refl
+longest_none (p ∷ inputs) = rw (longest_none inputs) refl
+
+many_none : (inputs : List Progress) → records_many (all_begun inputs) ≡ 0
+many_none [] = refl
+many_none (p ∷ inputs) = zero-add (records_many (all_begun inputs)) ∙ many_none inputs
+
+pub no_arrivals : (inputs : List Progress) → arrivals_of (all_begun inputs) ≡ []
+no_arrivals inputs = rw (longest_none inputs) refl
+
+nothing_at : {A : Type 0} (n q : ℕ) (xs : List A) → slice_get (replicate n []) q ≡ Some xs → xs ≡ []
+nothing_at zero zero xs e = cc
+nothing_at zero (suc q) xs e = cc
+nothing_at (suc n) zero xs e = same_Some _ _ (sym e)
+nothing_at (suc n) (suc q) xs e = nothing_at n q xs e
+
+no_capture : (n q : ℕ) → capture_at (replicate n []) q ≡ []
+no_capture zero zero = refl
+no_capture zero (suc q) = refl
+no_capture (suc n) zero = refl
+no_capture (suc n) (suc q) = no_capture n q
+
+appends_none : (a : Option (List ℕ)) → Appends a a []
+appends_none None = tt
+appends_none (Some bytes) = sym (append-nil bytes)
+
+run_none : (e : EngineState) → HasRun e e [] (replicate (length e.setting.env.ports) [])
+run_none e = record {
+  told = [];
+  outcomes = [];
+  run = (refl, refl, refl, refl);
+  turns = omega arith;
+  each = refl;
+  tallies = tallied;
+  stays = refl;
+}
+  where
+    tallied : (port : ℕ) (sent : List (Time × List ℕ)) → slice_get (replicate (length e.setting.env.ports) []) port ≡ Some sent
+        → tallies_at e.tallies port ≡ record (tally_of port [] [] (tallies_at e.tallies port)) { sent = (tallies_at e.tallies port).sent + length sent }
+    tallied port sent at =
+        let t : Tallies = tallies_at e.tallies port in
+        let long : length sent ≡ 0 = ap length (nothing_at (length e.setting.env.ports) port sent at) in
+        let same : t.sent ≡ t.sent + length sent = omega (arith, long) in
+        ap (λ n. record t { sent = n }) same
+
+asked_none : (q : ℕ) → asked 0 0 q ≡ 0
+asked_none q = rw (le-ltb q 0 (omega arith)) refl
+
+pub along_none : (unit : TimeUnit) (e : EngineState) (olds news mids : List (Option (List ℕ))) (progress : List Progress)
+    → e.turns ≡ 0 → length mids ≡ length e.setting.env.ports → AllStand olds news progress (all_begun progress) → AllByRecursion IsBegun progress
+    → Along unit e e olds news mids mids progress (all_begun progress) 0 0
+along_none unit e olds news mids progress first many stand begins = record {
+  first = first;
+  held_many = many;
+  stand = stand;
+  order = λ q i at. let (p, there, is) = told_at begun progress q i at in
+      let is_open = (all_at IsBegun progress q p begins there).state in
+      rw (is, is_open) (sym (asked_none q));
+  total = rw (no_arrivals progress) (sym (many_none progress));
+  captures = replicate (length e.setting.env.ports) [];
+  many = length-replicate (length e.setting.env.ports) [];
+  run = subst (λ arrivals. HasRun e e arrivals (replicate (length e.setting.env.ports) [])) (sym (no_arrivals progress)) (run_none e);
+  wrote = λ port old new here there. rw (no_capture (length e.setting.env.ports) port, same_Some new old (sym there ∙ here)) (appends_none old);
+}
+
+-- what a list is behind a writing back
+pub back : {A : Type 0} (n : ℕ) (new old : List A) → n ≡ length new → take n (new ++ old) ≡ new
+back {A = A} n new old e = rw e (front new)
+  where
+    front : (xs : List A) → take (length xs) (xs ++ old) ≡ xs
+    front [] = refl
+    front (x ∷ xs) = ap (λ ys. x ∷ ys) (front xs)
+
+-- ---- headers that fail
+
+pub fail_read : (e : EngineState) (olds news held : List (Option (List ℕ))) (progress : List Progress) (cause : RunCause) → AllByRecursion IsBegun progress
+    → IsHeaderCause olds news cause → HeadersFail e e olds news held held progress (Err cause)
+fail_read e olds news held progress Memory begins is = absurd is
+fail_read e olds news held progress NoRoom begins is = absurd is
+fail_read e olds news held progress (Out port) begins is = absurd is
+fail_read e olds news held progress (In port error) begins is = (is, kept, begins, refl)
+  where
+    kept : (q : ℕ) (old new : Option (List ℕ)) → slice_get held q ≡ Some old → slice_get held q ≡ Some new → Keeps old new
+    kept q old new here there = subst (Keeps old) (same_Some old new (sym here ∙ there)) (keeps_it old)
+
+pub fail_write : (e : EngineState) (olds news held holds : List (Option (List ℕ))) (progress : List Progress) (cause : RunCause) → AreRead olds news (all_begun progress) → AllByRecursion IsBegun progress
+    → IsWriteCause (unit_for (units_of (all_begun progress))) held holds cause → HeadersFail e e olds news held holds progress (Err cause)
+fail_write e olds news held holds progress Memory read begins is = absurd is
+fail_write e olds news held holds progress NoRoom read begins is = absurd is
+fail_write e olds news held holds progress (In port error) read begins is = absurd is
+fail_write e olds news held holds progress (Out port) read begins is = (read, is, begins, refl)
+
+-- ---- behind the last
+
+-- an engine rests on what it did, and counts as many ports
+pub record Stays (e e' : EngineState) : Type 0 where
+  pub setting : e'.setting ≡ e.setting
+  pub each : length e'.tallies ≡ length e.tallies
+
+stays_run : (e e' : EngineState) (arrivals : List (Arrival Time)) (captures : List (List (Time × List ℕ))) → HasRun e e' arrivals captures → Stays e e'
+stays_run e e' arrivals captures run = record { setting = ap (λ (x : EngineState). x.setting) run.stays; each = run.each }
+
+stays_failed : (unit : TimeUnit) (e e' : EngineState) (olds news held holds : List (Option (List ℕ))) (inputs : List Input) (port : ℕ) → FailedAt unit e e' olds news held holds inputs port → Stays e e'
+stays_failed unit e e' olds news held holds inputs port f =
+    let ran = stays_run e f.engine f.before f.captures f.run in
+    let turn = f.turn.is in
+    let first = f.stopped.first in
+    let last = f.stopped.is in
+    record {
+      setting = ap (λ (x : EngineState). x.setting) last ∙ ap (λ (x : EngineState). x.setting) first.is ∙ ap (λ (x : EngineState). x.setting) turn ∙ ran.setting;
+      each = ap (λ (x : EngineState). length x.tallies) last ∙ length_set f.stopped.engine.tallies port _ ∙ first.each ∙ ap (λ (x : EngineState). length x.tallies) turn ∙ length_set f.engine.tallies f.last.port _ ∙ ran.each;
+    }
+
+pub stays_rounds : (unit : TimeUnit) (e e' : EngineState) (olds news held holds : List (Option (List ℕ))) (progress : List Progress) (answer : Result ⊤ RunCause) → AreRounds unit e e' olds news held holds progress answer → Stays e e'
+stays_rounds unit e e' olds news held holds progress (Ok done) (inputs, states, went, over) = stays_run e e' _ _ went.run
+stays_rounds unit e e' olds news held holds progress (Err (In port error)) (inputs, states, went, fault) = stays_run e e' _ _ went.run
+stays_rounds unit e e' olds news held holds progress (Err (Out port)) (inputs, states, failed) = stays_failed unit e e' olds news held holds inputs port failed
+stays_rounds unit e e' olds news held holds progress (Err Memory) stops = absurd stops
+stays_rounds unit e e' olds news held holds progress (Err NoRoom) stops = absurd stops
+
+-- a run of an engine that is open stops neither for memory nor for room
+pub not_before : (e e' : EngineState) (olds news held holds : List (Option (List ℕ))) (progress : List Progress) (cause : RunCause)
+    → GoesForward e e' olds news held holds progress (Err cause) → (cause ≡ Memory) ⊎ (cause ≡ NoRoom) → ⊥
+not_before e e' olds news held holds progress Memory (inl fails) why = absurd fails
+not_before e e' olds news held holds progress Memory (inr made) why = absurd made.rounds
+not_before e e' olds news held holds progress NoRoom (inl fails) why = absurd fails
+not_before e e' olds news held holds progress NoRoom (inr made) why = absurd made.rounds
+not_before e e' olds news held holds progress (In port error) went (inl why) = cc
+not_before e e' olds news held holds progress (In port error) went (inr why) = cc
+not_before e e' olds news held holds progress (Out port) went (inl why) = cc
+not_before e e' olds news held holds progress (Out port) went (inr why) = cc
+
+pub unless_before : (X : Type 0) (e e' : EngineState) (olds news held holds : List (Option (List ℕ))) (progress : List Progress) (r : Result Report RunFault)
+    → GoesForward e e' olds news held holds progress (answer_of r) → IfErr r (λ (f : RunFault). (f.cause ≡ Memory) ⊎ (f.cause ≡ NoRoom) → X)
+unless_before X e e' olds news held holds progress (Ok report) went = tt
+unless_before X e e' olds news held holds progress (Err fault) went = λ why. absurd (not_before e e' olds news held holds progress fault.cause went why)

@@ -1,0 +1,73 @@
+use Rattle.std.proofs.Common.{rules, ◌≡◌, ◌∙◌, ◌≤◌, ◌++◌, inl, inr, Err, sym, ap, subst, arith, length, map, take, drop}
+use Rattle.std.proofs.lemmas.List.{length-map}
+use Rattle.dp_engine.specs.Engines.{EngineState}
+use Rattle.dp_pipe.specs.Forwarding.{Along, AllStand, AreRounds}
+use Rattle.dp_pipe.specs.Running.{all_begun, GoesForward, RoundsMade}
+use Rattle.dp_pipe.proofs.Stopping.{are_read}
+use Rattle.dp_pipe.proofs.Through.{along_none, back, fail_read, fail_write, stays_rounds}
+use Rattle.dp_pipe.proofs.running.forward.Goals as goal
+
+pub returns-in_err-read_headers-clause-forward : goal.returns-in_err-read_headers-clause-forward
+returns-in_err-read_headers-clause-forward g c =
+    let gone : c.from_residual.result ≡ Err c.in_err-read_headers.field-0.0 = search rules in
+    rw gone (inl (fail_read c.args.engine.now (map g.R.Feed.remaining c.args.ins.now) (map g.R.Feed.remaining c.read_headers.new.ins) (map g.W.Sink.contents c.args.outs.now) c.read_headers.new.inputs.items
+    c.in_err-read_headers.field-0.0 c.in_err-read_headers.ensures.begun c.in_err-read_headers.ensures.err))
+
+pub returns-in_err-read_headers-clause-many : goal.returns-in_err-read_headers-clause-many
+returns-in_err-read_headers-clause-many g c = omega (arith, c.read_headers.ensures.most, c.requires.readers)
+
+pub returns-in_err-put_headers-clause-forward : goal.returns-in_err-put_headers-clause-forward
+returns-in_err-put_headers-clause-forward g c =
+    let gone : c.from_residual-in_err-put_headers.result ≡ Err c.in_err-put_headers.field-0.0 = search rules in
+    let here : c.as_slice.result.now ≡ c.read_headers.new.inputs.items = search rules in
+    let stand = c.in_ok-read_headers.ensures.ok in
+    let cause = rw (c.unit_for-unit.ensures, here) at c.in_err-put_headers.ensures.err in
+    rw gone (inl (fail_write c.args.engine.now (map g.R.Feed.remaining c.args.ins.now) (map g.R.Feed.remaining c.read_headers.new.ins) (map g.W.Sink.contents c.args.outs.now) (map g.W.Sink.contents c.put_headers.new.outs)
+    c.read_headers.new.inputs.items c.in_err-put_headers.field-0.0 (are_read (map g.R.Feed.remaining c.args.ins.now) (map g.R.Feed.remaining c.read_headers.new.ins) c.read_headers.new.inputs.items (all_begun c.read_headers.new.inputs.items) stand)
+    c.read_headers.ensures.begun cause))
+
+pub rounds-requires-clause-along : goal.rounds-requires-clause-along
+rounds-requires-clause-along g c =
+    let here : c.as_mut_slice.result.now ≡ c.read_headers.new.inputs.items = search rules in
+    let mids = map g.W.Sink.contents c.put_headers.new.outs in
+    let many : length mids ≡ length c.args.engine.now.setting.env.ports = length-map c.put_headers.new.outs g.W.Sink.contents ∙ c.put_headers.ensures.many ∙ c.requires.writers in
+    rw here (
+      c.args.engine.now,
+      map g.R.Feed.remaining c.args.ins.now,
+      mids,
+      all_begun c.read_headers.new.inputs.items,
+      along_none c.unit_for-unit.result c.args.engine.now (map g.R.Feed.remaining c.args.ins.now) (map g.R.Feed.remaining c.read_headers.new.ins) mids c.read_headers.new.inputs.items c.requires.first many
+          c.in_ok-read_headers.ensures.ok c.read_headers.ensures.begun,
+    )
+
+pub returns-clause-forward : goal.returns-clause-forward
+returns-clause-forward g c =
+    let here : c.as_mut_slice.result.now ≡ c.read_headers.new.inputs.items = search rules in
+    let mids = map g.W.Sink.contents c.put_headers.new.outs in
+    let many : length mids ≡ length c.args.engine.now.setting.env.ports = length-map c.put_headers.new.outs g.W.Sink.contents ∙ c.put_headers.ensures.many ∙ c.requires.writers in
+    let along = along_none c.unit_for-unit.result c.args.engine.now (map g.R.Feed.remaining c.args.ins.now) (map g.R.Feed.remaining c.read_headers.new.ins) mids c.read_headers.new.inputs.items c.requires.first many
+    c.in_ok-read_headers.ensures.ok c.read_headers.ensures.begun in
+    let goes = c.rounds.ensures.goes c.args.engine.now (map g.R.Feed.remaining c.args.ins.now) mids (all_begun c.read_headers.new.inputs.items) (rw here along) in
+    let len : c.read_headers.new.inputs.len ≡ length c.rounds.new.inputs = omega (arith, c.rounds.ensures.many, c.as_mut_slice.ensures.len) in
+    let same = back c.read_headers.new.inputs.len c.rounds.new.inputs (drop (length c.rounds.new.inputs) c.read_headers.new.inputs.items) len in
+    rw same (inr (record { unit = c.unit_for-unit.result; mids = mids; headers = c.in_ok-put_headers.ensures.ok; rounds = goes }))
+
+pub returns-clause-setting : goal.returns-clause-setting
+returns-clause-setting g c =
+    let here : c.as_mut_slice.result.now ≡ c.read_headers.new.inputs.items = search rules in
+    let mids = map g.W.Sink.contents c.put_headers.new.outs in
+    let many : length mids ≡ length c.args.engine.now.setting.env.ports = length-map c.put_headers.new.outs g.W.Sink.contents ∙ c.put_headers.ensures.many ∙ c.requires.writers in
+    let along = along_none c.unit_for-unit.result c.args.engine.now (map g.R.Feed.remaining c.args.ins.now) (map g.R.Feed.remaining c.read_headers.new.ins) mids c.read_headers.new.inputs.items c.requires.first many
+    c.in_ok-read_headers.ensures.ok c.read_headers.ensures.begun in
+    let goes = c.rounds.ensures.goes c.args.engine.now (map g.R.Feed.remaining c.args.ins.now) mids (all_begun c.read_headers.new.inputs.items) (rw here along) in
+    (stays_rounds c.unit_for-unit.result c.args.engine.now c.rounds.new.engine _ _ _ _ c.rounds.new.inputs c.rounds.result goes).setting
+
+pub returns-clause-counted : goal.returns-clause-counted
+returns-clause-counted g c =
+    let here : c.as_mut_slice.result.now ≡ c.read_headers.new.inputs.items = search rules in
+    let mids = map g.W.Sink.contents c.put_headers.new.outs in
+    let many : length mids ≡ length c.args.engine.now.setting.env.ports = length-map c.put_headers.new.outs g.W.Sink.contents ∙ c.put_headers.ensures.many ∙ c.requires.writers in
+    let along = along_none c.unit_for-unit.result c.args.engine.now (map g.R.Feed.remaining c.args.ins.now) (map g.R.Feed.remaining c.read_headers.new.ins) mids c.read_headers.new.inputs.items c.requires.first many
+    c.in_ok-read_headers.ensures.ok c.read_headers.ensures.begun in
+    let goes = c.rounds.ensures.goes c.args.engine.now (map g.R.Feed.remaining c.args.ins.now) mids (all_begun c.read_headers.new.inputs.items) (rw here along) in
+    (stays_rounds c.unit_for-unit.result c.args.engine.now c.rounds.new.engine _ _ _ _ c.rounds.new.inputs c.rounds.result goes).each ∙ c.requires.counted

@@ -1,0 +1,33 @@
+use Rattle.std.proofs.Common.{rules, ◌≡◌, ◌∙◌, ◌<◌, ◌+◌, ◌++◌, ◌∷◌, [], ℕ, Some, sym, arith, length, slice_index_or, subst}
+use Rattle.dp_pipe.proofs.Heading.{ReadFirst, read_more, all_stand, there_is, new_all, header_fault}
+use Rattle.dp_pipe.proofs.running.read_headers.Goals as goal
+
+pub loop-port-preserved : goal.loop-port-preserved
+loop-port-preserved g c =
+    let within : c.loop-port.port < length c.loop-port.ins = omega (arith, c.loop-port-test.true, c.loop-port.invariant.read.changed.many) in
+    record {
+      read = subst (ReadFirst g.R.Feed.remaining g.R.Feed.failures g.R.Feed.is_broken (c.loop-port.port + 1) c.args.ins.now _) (sym c.keep.ensures.items)
+          (read_more g.R.Feed.remaining g.R.Feed.failures g.R.Feed.is_broken c.loop-port.port c.args.ins.now c.loop-port.ins c.loop-port.inputs.items (slice_index_or c.loop-port.ins c.loop-port.port c.index-ins-port.result)
+          c.read_header.new.r _ c.loop-port.invariant.read (there_is c.loop-port.ins c.loop-port.port c.index-ins-port.result within) (search rules) (search rules) (search rules) (search rules));
+      len = omega (arith, c.keep.ensures.len, c.loop-port.invariant.len);
+      room = omega (arith, c.keep.ensures.capacity, c.loop-port.invariant.room);
+    }
+
+pub returns-clause-ok : goal.returns-clause-ok
+returns-clause-ok g c = all_stand g.R.Feed.remaining g.R.Feed.failures g.R.Feed.is_broken c.loop-port.port c.args.ins.now c.loop-port.ins c.loop-port.inputs.items c.loop-port.invariant.read
+
+pub returns-clause-sound : goal.returns-clause-sound
+returns-clause-sound g c = λ ok. new_all _ _ c.loop-port.port c.args.ins.now c.loop-port.ins c.loop-port.invariant.read.changed (omega (arith, c.loop-port-test.false, c.loop-port.auto.port-end)) (λ r r' changed. changed.1)
+
+pub returns-in-Err-clause-err : goal.returns-in-Err-clause-err
+returns-in-Err-clause-err g c =
+    let within : c.loop-port.port < length c.loop-port.ins = omega (arith, c.loop-port-test.true, c.loop-port.invariant.read.changed.many) in
+    header_fault g.R.Feed.remaining g.R.Feed.failures g.R.Feed.is_broken c.loop-port.port c.args.ins.now c.loop-port.ins c.loop-port.inputs.items
+    (slice_index_or c.loop-port.ins c.loop-port.port c.index-ins-port.result) c.read_header.new.r c.in-Err.error c.loop-port.invariant.read
+    (there_is c.loop-port.ins c.loop-port.port c.index-ins-port.result within) c.in-Err.ensures.answer
+
+pub returns-clause-most : goal.returns-clause-most
+returns-clause-most g c = omega (arith, c.loop-port.invariant.read.many, c.loop-port.auto.port-end)
+
+pub returns-in-Err-clause-most : goal.returns-in-Err-clause-most
+returns-in-Err-clause-most g c = omega (arith, c.loop-port.invariant.read.many, c.loop-port-test.true, c.loop-port.invariant.read.changed.many)

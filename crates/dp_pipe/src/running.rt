@@ -1,0 +1,305 @@
+//! The run of a pipeline, from captures to captures.
+
+ghost use Rattle.std.specs.Prelude.{◌≡◌, ℕ, ◌+◌, ◌<◌, ◌≤◌, ◌++◌, ◌∷◌, ◌⊎◌, [], false, length, map, replicate, slice_get, Some, OnOk, OnErr, IfOk, IfErr, IsOk, IsTrue, vec_len};
+ghost use Rattle.std.specs.List.{AllByRecursion, list_any};
+ghost use Rattle.std.specs.Vec.{vec_capacity};
+ghost use Rattle.dp_pcap.specs.Source.{IsStart};
+ghost use Rattle.dp_engine.specs.Engines.{EngineState, IsAscending, no_tallies};
+ghost use Rattle.dp_engine.specs.Needs.{bytes_needed};
+ghost use Rattle.dp_engine.specs.Reports.{port_report};
+ghost use Rattle.dp_pipe.specs.Forwarding as forwarding;
+ghost use Rattle.dp_pipe.specs.Forwarding.{AllStand, units_of};
+ghost use Rattle.dp_pipe.specs.Running as spec;
+
+use crate::forwarding::{Progress, RunCause, rounds};
+use crate::pipeline::Pipeline;
+use arrayvec::ArrayVec;
+use dp_engine::{Engine, InputState, OpenFault, PoolReport, PortReport, Report};
+use dp_model::{Env, PoolSpec, PortSpec, RingSpec};
+use dp_pcap::{Feed, Sink, Unit, put_header, read_header};
+use dp_region::Region;
+use std::alloc::Global;
+
+/// How many bytes of a record are read at once where the reader does not have it at hand.
+const BUFFER: usize = 262_144;
+
+/// A run that stopped.
+#[derive(Drop)]
+pub struct RunFault {
+    /// Why it stopped.
+    pub cause: RunCause,
+    /// Its numbers until then, in which every buffer is free. An input that was not read to its end is open.
+    pub report: Report,
+}
+
+// Keeps a source that is open, in a list with room for it.
+fn keep(inputs: &mut Vec<Progress>, input: Progress)
+    requires room { vec_len inputs.old < vec_capacity inputs.old }
+    ensures items { inputs.new.items ≡ inputs.old.items ++ input ∷ [] }
+    ensures len { vec_len inputs.new ≡ vec_len inputs.old + 1 }
+    ensures capacity { vec_capacity inputs.old ≤ vec_capacity inputs.new }
+{
+    match inputs.push(input) {
+        Ok(()) => {}
+        Err(_) => unreachable!(),
+    }
+}
+
+// Reads the headers of the inputs, in port order, and keeps a source for each that was read.
+fn read_headers<R: Feed>(ins: &mut [R], inputs: &mut Vec<Progress>) -> Result<(), RunCause>
+    requires few { length ins.old ≤ 8 }
+    requires none { (inputs.old.items ≡ []) × (vec_len inputs.old ≡ 0) }
+    requires room { 8 ≤ vec_capacity inputs.old }
+    ensures ok { OnOk result (AllStand (map R.remaining ins.old) (map R.remaining ins.new) inputs.new.items (spec.all_begun inputs.new.items)) }
+    ensures all { OnOk result (length inputs.new.items ≡ length ins.old) }
+    ensures most { length inputs.new.items ≤ length ins.old }
+    ensures err { IfErr result (spec.IsHeaderCause (map R.remaining ins.old) (map R.remaining ins.new)) }
+    ensures begun { AllByRecursion spec.IsBegun inputs.new.items }
+    ensures many { length ins.new ≡ length ins.old }
+    ensures sound { IsOk result → AllByRecursion (λ r. R.is_broken r ≡ false) ins.new }
+    ensures broken { IfErr result (λ cause. (q : ℕ) (r : R) → spec.failed_reads_at cause q ≡ 1 → slice_get ins.new q ≡ Some r → IsTrue (R.is_broken r)) }
+    ensures failures { (q : ℕ) (r r' : R) → slice_get ins.old q ≡ Some r → slice_get ins.new q ≡ Some r' → R.failures r' ≡ R.failures r + spec.reads_failed result q }
+{
+    for port in 0..ins.len() {
+        match read_header(&mut ins[port]) {
+            Ok(source) => keep(
+                inputs,
+                Progress {
+                    source,
+                    state: InputState::Open,
+                },
+            ),
+            Err(error) => return Err(RunCause::In(port as u8, error)),
+        }
+    }
+    Ok(())
+}
+
+fn is_nano(unit: Unit) -> bool
+    ensures { result ≡ forwarding.is_nano unit }
+{
+    match unit {
+        Unit::Micro => false,
+        Unit::Nano => true,
+    }
+}
+
+// Whether an input has nanoseconds.
+fn has_nano(inputs: &[Progress]) -> bool
+    ensures { result ≡ list_any (λ p. forwarding.is_nano p.source.unit) inputs.now }
+{
+    inputs.iter().any(|input| is_nano(input.source.unit()))
+}
+
+// The unit of time of the outputs: nanoseconds if any input has them, else microseconds.
+fn unit_for(inputs: &[Progress]) -> Unit
+    ensures { result ≡ forwarding.unit_for (units_of (spec.all_begun inputs.now)) }
+{
+    if has_nano(inputs) {
+        Unit::Nano
+    } else {
+        Unit::Micro
+    }
+}
+
+// Writes the headers of the outputs, in port order.
+fn put_headers<W: Sink>(outs: &mut [W], unit: Unit) -> Result<(), RunCause>
+    requires few { length outs.old ≤ 8 }
+    ensures ok { OnOk result (spec.HeadersWritten unit (map W.contents outs.old) (map W.contents outs.new)) }
+    ensures err { IfErr result (spec.IsWriteCause unit (map W.contents outs.old) (map W.contents outs.new)) }
+    ensures many { length outs.new ≡ length outs.old }
+    ensures sound { IsOk result → AllByRecursion (λ w. W.is_broken w ≡ false) outs.new }
+    ensures broken { IfErr result (λ cause. (q : ℕ) (w : W) → spec.failed_writes_at cause q ≡ 1 → slice_get outs.new q ≡ Some w → IsTrue (W.is_broken w)) }
+    ensures failures { (q : ℕ) (w w' : W) → slice_get outs.old q ≡ Some w → slice_get outs.new q ≡ Some w' → W.failures w' ≡ W.failures w + spec.writes_failed result q }
+{
+    for port in 0..outs.len() {
+        if put_header(&mut outs[port], unit).is_err() {
+            return Err(RunCause::Out(port as u8));
+        }
+    }
+    Ok(())
+}
+
+// Runs an engine that is open: headers in, headers out, and then record by record.
+fn forward<R: Feed, W: Sink>(
+    engine: &mut Engine,
+    inputs: &mut Vec<Progress>,
+    ins: &mut [R],
+    outs: &mut [W],
+    buf: &mut [u8],
+) -> Result<(), RunCause>
+    requires first { engine.old.turns ≡ 0 }
+    requires counted { length engine.old.tallies ≡ 8 }
+    requires readers { length ins.old ≡ length engine.old.setting.env.ports }
+    requires writers { length outs.old ≡ length engine.old.setting.env.ports }
+    requires few { length engine.old.setting.env.ports ≤ 8 }
+    requires none { (inputs.old.items ≡ []) × (vec_len inputs.old ≡ 0) }
+    requires room { 8 ≤ vec_capacity inputs.old }
+    requires buf { 262144 ≤ length buf.old }
+    ensures forward { spec.GoesForward engine.old engine.new (map R.remaining ins.old) (map R.remaining ins.new) (map W.contents outs.old) (map W.contents outs.new) inputs.new.items result }
+    ensures many { length inputs.new.items ≤ length engine.old.setting.env.ports }
+    ensures setting { engine.new.setting ≡ engine.old.setting }
+    ensures counted { length engine.new.tallies ≡ 8 }
+{
+    read_headers(ins, inputs)?;
+    let unit = unit_for(inputs.as_slice());
+    put_headers(outs, unit)?;
+    rounds(engine, inputs.as_mut_slice(), ins, outs, unit, buf)
+}
+
+// Sets how far the inputs were read.
+fn tell_states(ports: &mut [PortReport], inputs: &[Progress])
+    requires { length inputs.now ≤ length ports.old }
+    ensures { ports.new ≡ spec.with_states (map (λ p. p.state) inputs.now) ports.old }
+{
+    for port in 0..inputs.len() {
+        ports[port].state = inputs[port].state;
+    }
+}
+
+// Runs an engine to its end.
+fn run_through<R: Feed, W: Sink>(
+    engine: Engine,
+    inputs: &mut Vec<Progress>,
+    ins: &mut [R],
+    outs: &mut [W],
+    buf: &mut [u8],
+) -> Result<Report, RunFault>
+    requires first { engine.turns ≡ 0 }
+    requires counted { length engine.tallies ≡ 8 }
+    requires readers { length ins.old ≡ length engine.setting.env.ports }
+    requires writers { length outs.old ≡ length engine.setting.env.ports }
+    requires few { length engine.setting.env.ports ≤ 8 }
+    requires none { (inputs.old.items ≡ []) × (vec_len inputs.old ≡ 0) }
+    requires room { 8 ≤ vec_capacity inputs.old }
+    requires buf { 262144 ≤ length buf.old }
+    ensures through { (last : EngineState) × spec.GoesForward engine last (map R.remaining ins.old) (map R.remaining ins.new) (map W.contents outs.old) (map W.contents outs.new) inputs.new.items (spec.answer_of result) × spec.Tells last inputs.new.items (spec.report_of result) }
+    ensures free { spec.AllFree engine.setting.env result }
+{
+    let mut engine = engine;
+    let outcome = forward(&mut engine, inputs, ins, outs, buf);
+    let (mut report, region) = engine.finish();
+    region.close();
+    tell_states(report.ports.as_mut_slice(), inputs.as_slice());
+    match outcome {
+        Ok(()) => Ok(report),
+        Err(cause) => Err(RunFault { cause, report }),
+    }
+}
+
+// The numbers of pools of which every buffer is free.
+fn free_pools(specs: &[PoolSpec]) -> ArrayVec<PoolReport, 8>
+    requires { length specs.now ≤ 8 }
+    ensures { result.items ≡ map (λ p. record { free = p.count; count = p.count }) specs.now }
+{
+    let mut pools = ArrayVec::new();
+    for spec in specs {
+        let count = spec.count as u64;
+        pools.push(PoolReport { free: count, count });
+    }
+    pools
+}
+
+// The numbers of ports of which no input was read.
+fn idle_ports(specs: &[PortSpec]) -> ArrayVec<PortReport, 8>
+    requires { length specs.now ≤ 8 }
+    ensures { result.items ≡ map (λ _. port_report InputState.Open no_tallies) specs.now }
+{
+    let mut ports = ArrayVec::new();
+    for _spec in specs {
+        ports.push(PortReport {
+            received: 0,
+            nobuf: 0,
+            oversize: 0,
+            sent: 0,
+            state: InputState::Open,
+        });
+    }
+    ports
+}
+
+// No packet is left in any ring.
+fn idle_rings(specs: &[RingSpec]) -> ArrayVec<u64, 8>
+    requires { length specs.now ≤ 8 }
+    ensures { result.items ≡ map (λ _. 0) specs.now }
+{
+    let mut rings = ArrayVec::new();
+    for _spec in specs {
+        rings.push(0);
+    }
+    rings
+}
+
+// A run that stopped before its engine was opened.
+fn unopened(cause: RunCause, env: &Env) -> RunFault
+    ensures cause { result.cause ≡ cause }
+    ensures idle { spec.IsIdle env.now result.report }
+{
+    env.within_limits();
+    RunFault {
+        cause,
+        report: Report {
+            ports: idle_ports(env.ports()),
+            rings: idle_rings(env.rings()),
+            pools: free_pools(env.pools()),
+            calls: 0,
+            refused: 0,
+            cut: 0,
+        },
+    }
+}
+
+/// Runs a pipeline from captures to captures: one reader and one writer for each port, in port order. Record k of each input,
+/// in port order, round by round, is one turn of its engine, behind which all transmit lists are written with the record's time.
+/// The headers are read and then written first, with nanoseconds if any input has them, else microseconds. The allocation calls
+/// whose numbers stand in `pattern` are refused.
+///
+/// All memory is taken before anything is read: the engine's region, a buffer for a record, and a list of the inputs. Whatever
+/// is answered, all packets are given up at the end and all buffers are free.
+///
+/// # Errors
+///
+/// [`RunCause::Memory`] where a growth is refused and [`RunCause::NoRoom`] exactly where the pipeline's region is smaller than
+/// its engine needs; nothing was read or written then. [`RunCause::In`] names the first input with a fault, and
+/// [`RunCause::Out`] the port whose writer failed; what was written before stands.
+pub fn run<R: Feed, W: Sink>(
+    alloc: Global,
+    pipeline: Pipeline,
+    ins: &mut [R],
+    outs: &mut [W],
+    pattern: Vec<u64>,
+) -> Result<Report, RunFault>
+    requires readers { length ins.old ≡ length pipeline.env.ports }
+    requires writers { length outs.old ≡ length pipeline.env.ports }
+    requires pattern { IsAscending 0 pattern.items }
+    ensures answers { spec.RunAnswers pipeline pattern.items (map R.remaining ins.old) (map R.remaining ins.new) (map W.contents outs.old) (map W.contents outs.new) result }
+    ensures free { spec.AllFree pipeline.env result }
+    ensures untouched { IfErr result (λ f. (f.cause ≡ RunCause.Memory) ⊎ (f.cause ≡ RunCause.NoRoom) → (ins.new ≡ ins.old) × (outs.new ≡ outs.old)) }
+{
+    let Ok(mut inputs) = Vec::with_capacity(alloc, 8) else {
+        return Err(unopened(RunCause::Memory, pipeline.env()));
+    };
+    let Ok(mut buf) = vec![in alloc; 0u8; BUFFER] else {
+        return Err(unopened(RunCause::Memory, pipeline.env()));
+    };
+    let Ok(region) = Region::new(alloc, pipeline.region()) else {
+        return Err(unopened(RunCause::Memory, pipeline.env()));
+    };
+    let (env, tables, nodes) = pipeline.into_parts();
+    env.within_limits();
+    match Engine::open(region, &env, tables, nodes) {
+        Ok(mut engine) => {
+            engine.refuse(pattern);
+            run_through(engine, &mut inputs, ins, outs, buf.as_mut_slice())
+        }
+        Err(fault) => {
+            let OpenFault {
+                region,
+                tables: _,
+                nodes: _,
+            } = fault;
+            region.close();
+            Err(unopened(RunCause::NoRoom, &env))
+        }
+    }
+}
