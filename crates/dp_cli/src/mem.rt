@@ -47,13 +47,7 @@ impl fmt::Display for ElementLine {
 
 /// The element of a heap in which a place lies.
 fn element_around(heap: &Heap, place: u32) -> Option<Element> {
-    for k in 0..u32::MAX {
-        let element = heap.element(k)?;
-        if place >= element.place && place - element.place < element.size {
-            return Some(element);
-        }
-    }
-    None
+    heap.iter().find(|element| place >= element.place && place - element.place < element.size)
 }
 
 /// Prints what became of the block of a success.
@@ -150,15 +144,10 @@ impl Session {
 
     /// `list`.
     fn list<O: Write>(&self, out: &mut O) -> u8 {
-        for k in 0..u32::MAX {
-            match self.heap.element(k) {
-                Some(element) => {
-                    let status = tell(out, ElementLine(element), DONE);
-                    if status != DONE {
-                        return status;
-                    }
-                }
-                None => return DONE,
+        for element in self.heap.iter() {
+            let status = tell(out, ElementLine(element), DONE);
+            if status != DONE {
+                return status;
             }
         }
         DONE

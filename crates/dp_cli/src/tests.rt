@@ -91,7 +91,7 @@ fn played(alloc: Global, script: &[u8]) -> (u8, Vec<u8>, Vec<u8>) {
 }
 
 /// Scripts, and what they print.
-static SCRIPTS: [(&str, &str); 15] = [
+static SCRIPTS: [(&str, &str); 16] = [
     ("", ""),
     ("\n\n", ""),
     ("region 4096\n", ""),
@@ -134,6 +134,10 @@ static SCRIPTS: [(&str, &str); 15] = [
     (
         "region 4096\nmalloc 3904 0\nfree 1\nlist\n",
         "1 data 192 element 0 + 4096\nfreed 1\nFREE 0 + 4096\n",
+    ),
+    (
+        "region 4096\nmalloc 64 0\nmalloc 64 0\nmalloc 64 0\nfree 2\nstats\nmalloc 64 256\nmalloc 64 0\n",
+        "1 data 4032 element 3968 + 128\n2 data 3904 element 3840 + 128\n3 data 3776 element 3712 + 128\nfreed 2\nfree 2 bytes 3840 busy 2 bytes 256\n4 data 3584 element 3520 + 192\n5 data 3904 element 3840 + 128\n",
     ),
     (
         "region 4096\nzmalloc 100 0\nstats\n",
