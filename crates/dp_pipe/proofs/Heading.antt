@@ -1,7 +1,6 @@
 -- Inputs whose headers were read, and what is told of them.
 use Rattle.std.proofs.Common.{◌≡◌, ◌≢◌, ◌⊎◌, inl, inr, ℕ, zero, suc, ◌+◌, ◌<◌, ◌≤◌, List, [], ◌∷◌, ◌++◌, Option, Some, None, Bool, false, length, map, take, refl, ap, sym, ◌∙◌, subst, arith}
-use Rattle.std.specs.Prelude.{slice_get, slice_set, slice_index_or, ◌==◌, if◌then◌else◌}
-use Rattle.std.proofs.lemmas.Bool.{eq-eqb, ne_eqb}
+use Rattle.std.specs.Prelude.{slice_get, slice_set, slice_index_or}
 use Rattle.std.proofs.lemmas.List.{length-map, length-append}
 use Rattle.std.proofs.lemmas.Option.{slice_get-map, same_Some, slice_get_within}
 use Rattle.dp_model.proofs.Refs.{get_set_other, get_set_same}
@@ -16,6 +15,7 @@ use Rattle.dp_pcap.specs.Text.{header_text, AppendsPart}
 use Rattle.dp_engine.specs.declared.report.InputState.{InputState}
 use Rattle.dp_engine.specs.declared.report.PortReport.{PortReport}
 use Rattle.dp_pipe.specs.declared.forwarding.Progress.{Progress}
+use Rattle.dp_pipe.specs.Devices.{Fared}
 use Rattle.dp_pipe.specs.Forwarding.{is_nano, units_of, Stands, IsGoingOn, AllStand, HasReadSo, AreRead, Gives, BeginsAs}
 use Rattle.dp_pipe.specs.Running.{all_begun, with_states, HeadersStopped, HasHeaderFault, IsBegun, begun}
 
@@ -156,26 +156,6 @@ pub behind_of : {W : Type 0} (R : W → W → Type 0) (n : ℕ) (olds news : Lis
 behind_of R n olds news u c q x x' l here there =
     same_Some x' x (sym there ∙ get_set_other news n q u (λ e. absurd (omega (arith, l, e))) ∙ c.rest q (omega (arith, l)) ∙ here)
 
--- one call more failed, of the device at a place
-pub failed_one : {W : Type 0} (failures : W → ℕ) (R : W → W → Type 0) (n : ℕ) (olds news : List W) (w u : W) → Changed R n olds news → ((x x' : W) → R x x' → failures x' ≡ failures x)
-    → slice_get news n ≡ Some w → failures u ≡ failures w + 1
-    → (q : ℕ) (x x' : W) → slice_get olds q ≡ Some x → slice_get (slice_set news n u) q ≡ Some x' → failures x' ≡ failures x + (if q == n then 1 else 0)
-failed_one {W = W} failures R n olds news w u c same at more q x x' here there = go (split q n)
-  where
-    go : (q ≡ n) ⊎ (q ≢ n) → failures x' ≡ failures x + (if q == n then 1 else 0)
-    go (inl e) =
-        let old : x ≡ w = old_of R n olds news w x c at (ap (slice_get olds) (sym e) ∙ here) in
-        let new : x' ≡ u = new_of n news w u x' at (ap (slice_get (slice_set news n u)) (sym e) ∙ there) in
-        rw (eq-eqb q n e) (ap failures new ∙ more ∙ ap (λ (y : W). failures y + 1) (sym old))
-    go (inr other) =
-        let kept : slice_get news q ≡ Some x' = sym (get_set_other news n q u other) ∙ there in
-        let still : failures x' ≡ failures x = aside (order q n) kept in
-        rw (ne_eqb q n other) (omega (arith, still))
-      where
-        aside : (q < n) ⊎ (n ≤ q) → slice_get news q ≡ Some x' → failures x' ≡ failures x
-        aside (inl below) kept = same x x' (c.done q x x' below here kept)
-        aside (inr behind) kept = ap failures (same_Some x' x (sym kept ∙ c.rest q behind ∙ here))
-
 -- ---- writers
 
 -- what is held is kept where a writer is what it was
@@ -203,7 +183,7 @@ headers_stopped contents R unit n olds news w u c whole at part = record {
 
 -- what was read of the first so many inputs: a header each
 pub record ReadFirst {R : Type 0} (remaining : R → Option (List ℕ)) (failures : R → ℕ) (is_broken : R → Bool) (n : ℕ) (olds news : List R) (inputs : List Progress) : Type 0 where
-  pub changed : Changed (λ r r'. (failures r' ≡ failures r) × (is_broken r' ≡ false)) n olds news
+  pub changed : Changed (λ r r'. Fared is_broken failures false r r' × (is_broken r' ≡ false)) n olds news
   pub many : length inputs ≡ n
   pub begun : AllByRecursion IsBegun inputs
   pub read : (q : ℕ) (p : Progress) (r r' : R) → slice_get inputs q ≡ Some p → slice_get olds q ≡ Some r → slice_get news q ≡ Some r'
@@ -240,10 +220,10 @@ read_none remaining failures is_broken olds = record {
 
 -- one header more
 pub read_more : {R : Type 0} (remaining : R → Option (List ℕ)) (failures : R → ℕ) (is_broken : R → Bool) (n : ℕ) (olds news : List R) (inputs : List Progress) (r u : R) (p : Progress)
-    → ReadFirst remaining failures is_broken n olds news inputs → slice_get news n ≡ Some r → failures u ≡ failures r → is_broken u ≡ false → IsBegun p
+    → ReadFirst remaining failures is_broken n olds news inputs → slice_get news n ≡ Some r → Fared is_broken failures false r u → is_broken u ≡ false → IsBegun p
     → WhereKnown (remaining r) (remaining u) (λ bytes rest. HasRead bytes p.source [] rest) → ReadFirst remaining failures is_broken (n + 1) olds (slice_set news n u) (inputs ++ p ∷ [])
-read_more {R = R} remaining failures is_broken n olds news inputs r u p c at same sound begun known = record {
-  changed = changed_more _ n olds news r u c.changed at (same, sound);
+read_more {R = R} remaining failures is_broken n olds news inputs r u p c at fared sound begun known = record {
+  changed = changed_more _ n olds news r u c.changed at (fared, sound);
   many = omega (arith, length-append inputs (p ∷ []), c.many);
   begun = each_more IsBegun inputs p c.begun begun;
   read = read;

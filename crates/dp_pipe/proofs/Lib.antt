@@ -23,3 +23,4 @@ pub mod Stopping
 pub mod Rounding
 pub mod Through
 pub mod Regions
+pub mod Faring

@@ -1,5 +1,6 @@
 pub mod Causes
 pub mod Config
+pub mod Devices
 pub mod Files
 pub mod Forwarding
 pub mod Keys

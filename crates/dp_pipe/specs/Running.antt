@@ -6,7 +6,6 @@ use Rattle.std.specs.Io.KnownBytes.{Appends, Keeps}
 use Rattle.dp_pcap.specs.declared.time.Time.{Time}
 use Rattle.dp_pcap.specs.declared.time.Unit.{Unit as TimeUnit}
 use Rattle.dp_pcap.specs.declared.error.PcapError.{PcapError}
-use Rattle.dp_pcap.specs.declared.error.PcapError.TheVariants.{Read}
 use Rattle.dp_pcap.specs.Capture.{PacketRecord}
 use Rattle.dp_pcap.specs.Source.{WhereKnown, HeaderAnswers, IsStart}
 use Rattle.dp_pcap.specs.Text.{text, header_text, record_text, AppendsPart}
@@ -183,21 +182,3 @@ Unopened p (Err fault) = IsUnopened p fault.cause × IsIdle p.env fault.report
 -- known.
 abbrev pub RunAnswers : Plan → List ℕ → List (Option (List ℕ)) → List (Option (List ℕ)) → List (Option (List ℕ)) → List (Option (List ℕ)) → Result Report RunFault → Type 0
 RunAnswers p pattern olds news held holds answer = RanOn p pattern olds news held holds answer ⊎ Unopened p answer
-
--- ---- devices that fail
-
-abbrev pub failed_reads_at : RunCause → ℕ → ℕ
-failed_reads_at (In port Read) q = if q == port then 1 else 0
-failed_reads_at cause q = 0
-
-abbrev pub failed_writes_at : RunCause → ℕ → ℕ
-failed_writes_at (Out port) q = if q == port then 1 else 0
-failed_writes_at cause q = 0
-
-abbrev pub reads_failed : {A : Type 0} → Result A RunCause → ℕ → ℕ
-reads_failed (Ok done) q = 0
-reads_failed (Err cause) q = failed_reads_at cause q
-
-abbrev pub writes_failed : {A : Type 0} → Result A RunCause → ℕ → ℕ
-writes_failed (Ok done) q = 0
-writes_failed (Err cause) q = failed_writes_at cause q

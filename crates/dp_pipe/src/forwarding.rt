@@ -1,7 +1,7 @@
 //! A run from captures to captures, over an engine that is open: headers, then record by record, round by round.
 ghost use Rattle.std.specs.Prelude.{◌≡◌, ℕ, ◌+◌, ◌<◌, ◌≤◌, ◌↔◌, true, false, [], List, Option, Ok, Err, length, map, take, slice_get, Some, OnOk, OnErr, IfOk, IfErr, IsOk, IsErr, IsErrOf, IsTrue};
 ghost use Rattle.dp_pcap.specs.Source.{body_in, IsInRange, Moves, failed_pulls};
-ghost use Rattle.std.specs.List.{AllByRecursion};
+ghost use Rattle.dp_pipe.specs.Devices.{AllSound, AllFared, FaredAlone, failed_reader, failed_writer, failed_drain};
 ghost use Rattle.dp_pipe.specs.Forwarding.{Input, ReadsTurn, DrainedAll, DrainsStopped, DrainedFirst, Advances, Along, IsRound, AreRounds, NoneIsOpen};
 ghost use Rattle.dp_engine.specs.Engines.{EngineState};
 ghost use Rattle.dp_pcap.specs.declared.time.Time.{Time as InSeconds};
@@ -67,6 +67,7 @@ fn next_turn<R: Feed>(
     ensures in_range { IsInRange source.old result }
     ensures source { Moves source.old source.new result }
     ensures failed { IsErrOf result PcapError.Read ↔ IsTrue (R.is_broken r.new) }
+    ensures stays { IsTrue (R.is_broken r.old) → IsTrue (R.is_broken r.new) }
     ensures failures { R.failures r.new ≡ R.failures r.old + failed_pulls result }
 {
     let (time, len, is_held) = match record_at_hand(r, source) {
@@ -93,7 +94,7 @@ fn drain_all<W: Sink>(engine: &mut Engine, time: Time, unit: Unit, outs: &mut [W
     ensures err { IfErr result (λ port. DrainsStopped unit time engine.old engine.new (map W.contents outs.old) (map W.contents outs.new) port) }
     ensures many_out { length outs.new ≡ length outs.old }
     ensures broken { IfErr result (λ port. (w : W) → slice_get outs.new port ≡ Some w → IsTrue (W.is_broken w)) }
-    ensures sound { IsOk result → AllByRecursion (λ w. W.is_broken w ≡ false) outs.old → AllByRecursion (λ w. W.is_broken w ≡ false) outs.new }
+    ensures fared { AllSound W.is_broken outs.old → AllFared W.is_broken W.failures (failed_drain result) outs.old outs.new }
 {
     for port in 0..outs.len() as u8 {
         if engine
@@ -128,7 +129,8 @@ fn advance<R: Feed, W: Sink>(
     ensures many { length outs.new ≡ length outs.old }
     ensures buf { length buf.new ≡ length buf.old }
     ensures reader { IsTrue (R.is_broken r.new) → result ≡ Err (RunCause.In port PcapError.Read) }
-    ensures sound { IsOk result → AllByRecursion (λ w. W.is_broken w ≡ false) outs.old → AllByRecursion (λ w. W.is_broken w ≡ false) outs.new }
+    ensures fared_reader { FaredAlone R.is_broken R.failures (failed_reader result) port r.old r.new }
+    ensures fared_writers { AllSound W.is_broken outs.old → AllFared W.is_broken W.failures (failed_writer result) outs.old outs.new }
 {
     match next_turn(engine, port, r, &mut input.source, buf) {
         Ok(Next::Record(time, _)) => match drain_all(engine, time, unit, outs) {
@@ -175,6 +177,8 @@ fn ask<R: Feed, W: Sink>(
     ensures over { (input.old.state ≡ InputState.Open → ⊥) → (result ≡ Ok tt) × (engine.new ≡ engine.old) × (input.new ≡ input.old) × (r.new ≡ r.old) × (outs.new ≡ outs.old) }
     ensures many { length outs.new ≡ length outs.old }
     ensures buf { length buf.new ≡ length buf.old }
+    ensures fared_reader { FaredAlone R.is_broken R.failures (failed_reader result) port r.old r.new }
+    ensures fared_writers { AllSound W.is_broken outs.old → AllFared W.is_broken W.failures (failed_writer result) outs.old outs.new }
 {
     if !is_open(input) {
         return Ok(());
@@ -201,6 +205,8 @@ fn round<R: Feed, W: Sink>(
     ensures goes { (e0 : EngineState) (olds held : List (Option (List ℕ))) (read : List Input) (k : ℕ) → Along unit e0 engine.old olds (map R.remaining ins.old) held (map W.contents outs.old) inputs.old read k 0
         → IsRound unit e0 engine.old engine.new olds (map R.remaining ins.new) held (map W.contents outs.new) inputs.new k result }
     ensures many { (length inputs.new ≡ length inputs.old) × (length ins.new ≡ length ins.old) × (length outs.new ≡ length outs.old) × (length buf.new ≡ length buf.old) }
+    ensures fared_readers { AllFared R.is_broken R.failures (failed_reader result) ins.old ins.new }
+    ensures fared_writers { AllSound W.is_broken outs.old → AllFared W.is_broken W.failures (failed_writer result) outs.old outs.new }
 {
     for port in 0..inputs.len() as u8 {
         let k = port as usize;
@@ -240,6 +246,8 @@ pub(crate) fn rounds<R: Feed, W: Sink>(
     ensures goes { (e0 : EngineState) (olds held : List (Option (List ℕ))) (read : List Input) → Along unit e0 engine.old olds (map R.remaining ins.old) held (map W.contents outs.old) inputs.old read 0 0
         → AreRounds unit e0 engine.new olds (map R.remaining ins.new) held (map W.contents outs.new) inputs.new result }
     ensures many { length inputs.new ≡ length inputs.old }
+    ensures fared_readers { AllFared R.is_broken R.failures (failed_reader result) ins.old ins.new }
+    ensures fared_writers { AllSound W.is_broken outs.old → AllFared W.is_broken W.failures (failed_writer result) outs.old outs.new }
 {
     for k in 0..16_777_217u32 {
         if !is_any_open(inputs) {

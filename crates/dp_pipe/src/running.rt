@@ -7,6 +7,7 @@ ghost use Rattle.dp_pcap.specs.Source.{IsStart};
 ghost use Rattle.dp_engine.specs.Engines.{EngineState, IsAscending, no_tallies};
 ghost use Rattle.dp_engine.specs.Needs.{bytes_needed};
 ghost use Rattle.dp_engine.specs.Reports.{port_report};
+ghost use Rattle.dp_pipe.specs.Devices.{AllSound, AllFared, failed_reader, failed_writer};
 ghost use Rattle.dp_pipe.specs.Forwarding as forwarding;
 ghost use Rattle.dp_pipe.specs.Forwarding.{AllStand, units_of};
 ghost use Rattle.dp_pipe.specs.Running as spec;
@@ -56,9 +57,8 @@ fn read_headers<R: Feed>(ins: &mut [R], inputs: &mut Vec<Progress>) -> Result<()
     ensures err { IfErr result (spec.IsHeaderCause (map R.remaining ins.old) (map R.remaining ins.new)) }
     ensures begun { AllByRecursion spec.IsBegun inputs.new.items }
     ensures many { length ins.new ≡ length ins.old }
-    ensures sound { IsOk result → AllByRecursion (λ r. R.is_broken r ≡ false) ins.new }
-    ensures broken { IfErr result (λ cause. (q : ℕ) (r : R) → spec.failed_reads_at cause q ≡ 1 → slice_get ins.new q ≡ Some r → IsTrue (R.is_broken r)) }
-    ensures failures { (q : ℕ) (r r' : R) → slice_get ins.old q ≡ Some r → slice_get ins.new q ≡ Some r' → R.failures r' ≡ R.failures r + spec.reads_failed result q }
+    ensures sound { IsOk result → AllSound R.is_broken ins.new }
+    ensures fared { AllFared R.is_broken R.failures (failed_reader result) ins.old ins.new }
 {
     for port in 0..ins.len() {
         match read_header(&mut ins[port]) {
@@ -108,9 +108,8 @@ fn put_headers<W: Sink>(outs: &mut [W], unit: Unit) -> Result<(), RunCause>
     ensures ok { OnOk result (spec.HeadersWritten unit (map W.contents outs.old) (map W.contents outs.new)) }
     ensures err { IfErr result (spec.IsWriteCause unit (map W.contents outs.old) (map W.contents outs.new)) }
     ensures many { length outs.new ≡ length outs.old }
-    ensures sound { IsOk result → AllByRecursion (λ w. W.is_broken w ≡ false) outs.new }
-    ensures broken { IfErr result (λ cause. (q : ℕ) (w : W) → spec.failed_writes_at cause q ≡ 1 → slice_get outs.new q ≡ Some w → IsTrue (W.is_broken w)) }
-    ensures failures { (q : ℕ) (w w' : W) → slice_get outs.old q ≡ Some w → slice_get outs.new q ≡ Some w' → W.failures w' ≡ W.failures w + spec.writes_failed result q }
+    ensures sound { IsOk result → AllSound W.is_broken outs.new }
+    ensures fared { AllFared W.is_broken W.failures (failed_writer result) outs.old outs.new }
 {
     for port in 0..outs.len() {
         if put_header(&mut outs[port], unit).is_err() {
@@ -140,6 +139,9 @@ fn forward<R: Feed, W: Sink>(
     ensures many { length inputs.new.items ≤ length engine.old.setting.env.ports }
     ensures setting { engine.new.setting ≡ engine.old.setting }
     ensures counted { length engine.new.tallies ≡ 8 }
+    ensures sound { IsOk result → AllSound R.is_broken ins.new × AllSound W.is_broken outs.new }
+    ensures fared_readers { AllFared R.is_broken R.failures (failed_reader result) ins.old ins.new }
+    ensures fared_writers { AllFared W.is_broken W.failures (failed_writer result) outs.old outs.new }
 {
     read_headers(ins, inputs)?;
     let unit = unit_for(inputs.as_slice());
@@ -175,6 +177,9 @@ fn run_through<R: Feed, W: Sink>(
     requires buf { 262144 ≤ length buf.old }
     ensures through { (last : EngineState) × spec.GoesForward engine last (map R.remaining ins.old) (map R.remaining ins.new) (map W.contents outs.old) (map W.contents outs.new) inputs.new.items (spec.answer_of result) × spec.Tells last inputs.new.items (spec.report_of result) }
     ensures free { spec.AllFree engine.setting.env result }
+    ensures sound { IsOk result → AllSound R.is_broken ins.new × AllSound W.is_broken outs.new }
+    ensures fared_readers { AllFared R.is_broken R.failures (failed_reader (spec.answer_of result)) ins.old ins.new }
+    ensures fared_writers { AllFared W.is_broken W.failures (failed_writer (spec.answer_of result)) outs.old outs.new }
 {
     let mut engine = engine;
     let outcome = forward(&mut engine, inputs, ins, outs, buf);
@@ -261,7 +266,8 @@ fn unopened(cause: RunCause, env: &Env) -> RunFault
 ///
 /// [`RunCause::Memory`] where a growth is refused and [`RunCause::NoRoom`] exactly where the pipeline's region is smaller than
 /// its engine needs; nothing was read or written then. [`RunCause::In`] names the first input with a fault, and
-/// [`RunCause::Out`] the port whose writer failed; what was written before stands.
+/// [`RunCause::Out`] the port whose writer failed; what was written before stands. A reader or writer that failed is not called
+/// again.
 pub fn run<R: Feed, W: Sink>(
     alloc: Global,
     pipeline: Pipeline,
@@ -275,6 +281,11 @@ pub fn run<R: Feed, W: Sink>(
     ensures answers { spec.RunAnswers pipeline pattern.items (map R.remaining ins.old) (map R.remaining ins.new) (map W.contents outs.old) (map W.contents outs.new) result }
     ensures free { spec.AllFree pipeline.env result }
     ensures untouched { IfErr result (λ f. (f.cause ≡ RunCause.Memory) ⊎ (f.cause ≡ RunCause.NoRoom) → (ins.new ≡ ins.old) × (outs.new ≡ outs.old)) }
+    // Where all went well, no device is broken.
+    ensures sound { IsOk result → AllSound R.is_broken ins.new × AllSound W.is_broken outs.new }
+    // A device is broken where the answer names it, or it was; and one call of the named one failed, and of the others none.
+    ensures fared_readers { AllFared R.is_broken R.failures (failed_reader (spec.answer_of result)) ins.old ins.new }
+    ensures fared_writers { AllFared W.is_broken W.failures (failed_writer (spec.answer_of result)) outs.old outs.new }
 {
     let Ok(mut inputs) = Vec::with_capacity(alloc, 8) else {
         return Err(unopened(RunCause::Memory, pipeline.env()));

@@ -9,7 +9,12 @@ use Rattle.dp_pcap.specs.Text.{record_text}
 use Rattle.dp_engine.specs.Drains.{WrotePart, captured}
 use Rattle.dp_engine.specs.Outcomes.{sent_of}
 use Rattle.dp_pipe.specs.Forwarding.{DrainedFirst}
-use Rattle.dp_pipe.proofs.Forwarded.{drained_none, drained_next, drain_on, stopped, map_here, map_at, length_set, all_set, all_at, ok_some, err_some}
+use Rattle.dp_pipe.proofs.Forwarded.{drained_none, drained_next, drain_on, stopped, map_here, map_at, length_set, ok_some, err_some}
+use Rattle.std.specs.Prelude.{slice_index_or, Err, ⊤}
+use Rattle.std.proofs.lemmas.Bool.{ne_eqb}
+use Rattle.dp_pipe.specs.Devices.{failed_drain}
+use Rattle.dp_pipe.proofs.Heading.{there_is, all_at}
+use Rattle.dp_pipe.proofs.Faring.{fared_sound, failed_here, one_then, still_sound}
 use Rattle.dp_pipe.proofs.forwarding.drain_all.Goals as goal
 
 pub returns-then-is_err-clause-broken : goal.returns-then-is_err-clause-broken
@@ -32,9 +37,12 @@ loop-port-preserved g c =
           (drain_on g.W.Sink.contents c.loop-port.port c.args.unit c.args.time c.loop-port.engine c.drain.new.self c.loop-port.outs c.index-outs-port.result c.drain.new.w sent records here at count
           (subst (λ x. Appends (g.W.Sink.contents x) (g.W.Sink.contents c.drain.new.w) (flat_map (record_text c.args.unit) (map captured records))) (sym c.index-outs-port.is) wrote) is));
       many = length_set c.loop-port.outs c.loop-port.port c.drain.new.w ∙ inv.many;
-      sound = λ sound.
-          let all = inv.sound sound in
-          all_set (λ w. g.W.Sink.is_broken w ≡ false) c.loop-port.outs c.loop-port.port c.drain.new.w all (c.drain.ensures.sound (rw ok refl) (subst (λ x. g.W.Sink.is_broken x ≡ false) c.index-outs-port.is (all_at (λ w. g.W.Sink.is_broken w ≡ false) c.loop-port.outs c.loop-port.port c.index-outs-port.result all here)));
+      fared = λ sound.
+          let w = slice_index_or c.loop-port.outs c.loop-port.port c.index-outs-port.result in
+          let at = there_is c.loop-port.outs c.loop-port.port c.index-outs-port.result (omega (arith, inv.many, c.loop-port-test.true)) in
+          let was = all_at (λ x. g.W.Sink.is_broken x ≡ false) c.loop-port.outs c.loop-port.port w (still_sound g.W.Sink.is_broken g.W.Sink.failures c.args.outs.now c.loop-port.outs inv.many (inv.fared sound) sound) at in
+          one_then g.W.Sink.is_broken g.W.Sink.failures (λ q. false) c.loop-port.port c.args.outs.now c.loop-port.outs w c.drain.new.w inv.many (inv.fared sound) at
+          (fared_sound g.W.Sink.is_broken g.W.Sink.failures w c.drain.new.w was (c.drain.ensures.sound (rw ok refl) was) (rw ok at c.drain.ensures.failures)) (λ q other. refl);
     }
   where
     one_more : (n : ℕ) → suc n ≡ n + 1
@@ -52,3 +60,15 @@ returns-then-is_err-clause-err g c =
     stopped g.W.Sink.contents c.loop-port.port c.args.unit c.args.time c.args.engine.now c.loop-port.engine c.drain.new.self c.args.outs.now c.loop-port.outs c.index-outs-port.result c.drain.new.w fault.sent records
     (omega (arith, c.loop-port-test.true, c.requires.many)) inv.first here at
     (subst (λ x. WrotePart (g.W.Sink.contents x) (g.W.Sink.contents c.drain.new.w) c.args.unit (map captured records) fault.sent) (sym c.index-outs-port.is) wrote) (c.drain.ensures.empty ∙ ap (λ n. drained c.loop-port.port n c.loop-port.engine) (ap sent_of err))
+
+pub returns-then-is_err-clause-fared : goal.returns-then-is_err-clause-fared
+returns-then-is_err-clause-fared g c sound =
+    let inv = c.loop-port.invariant in
+    let w = slice_index_or c.loop-port.outs c.loop-port.port c.index-outs-port.result in
+    let at = there_is c.loop-port.outs c.loop-port.port c.index-outs-port.result (omega (arith, inv.many, c.loop-port-test.true)) in
+    let (fault, err, wrote) = err_some c.drain.result _ c.if-is_err.ensures.value c.drain.ensures.err in
+    one_then g.W.Sink.is_broken g.W.Sink.failures (failed_drain {A = ⊤} (Err c.loop-port.port)) c.loop-port.port c.args.outs.now c.loop-port.outs w c.drain.new.w inv.many (inv.fared sound) at
+    (failed_here g.W.Sink.is_broken g.W.Sink.failures c.loop-port.port w c.drain.new.w (c.drain.ensures.broken (rw err refl)) (rw err at c.drain.ensures.failures)) (λ q other. ne_eqb q c.loop-port.port other)
+
+pub returns-clause-fared : goal.returns-clause-fared
+returns-clause-fared g c sound = c.loop-port.invariant.fared sound

@@ -8,6 +8,11 @@ use Rattle.dp_pipe.specs.declared.forwarding.Progress.{Progress}
 use Rattle.dp_pipe.specs.Forwarding.{Input, Along}
 use Rattle.dp_pipe.proofs.Forwarded.{length_set}
 use Rattle.dp_pipe.proofs.Rounding.{open_source, few_turns, asked_on, asked_stops, round_over}
+use Rattle.std.proofs.Common.{false, subst}
+use Rattle.std.specs.Prelude.{slice_index_or}
+use Rattle.dp_pipe.specs.Devices.{AllFared, FaredAlone, failed_reader, failed_writer}
+use Rattle.dp_pipe.proofs.Heading.{there_is}
+use Rattle.dp_pipe.proofs.Faring.{one_then, all_then, still_sound}
 use Rattle.dp_pipe.proofs.forwarding.round.Goals as goal
 
 pub ask-requires-clause-exists : goal.ask-requires-clause-exists
@@ -65,7 +70,39 @@ loop-port-preserved g c =
           (omega (arith, before, c.loop-port-test.true, c.requires.inputs)) (sym start.run.each ∙ c.requires.counted) (omega (arith, before, c.requires.outs, c.requires.few)) (inv.outs ∙ c.requires.outs ∙ before)
           c.in_ok-ask.was
           (rw (← c.index-inputs-k.is, ← c.index-ins-k.is) at c.ask.ensures.step) (rw (← c.index-inputs-k.is, ← c.index-ins-k.is) at c.ask.ensures.over);
+      readers =
+          let r = slice_index_or c.loop-port.ins c.loop-port.port c.index-ins-k.result in
+          let at = there_is c.loop-port.ins c.loop-port.port c.index-ins-k.result (omega (arith, inv.ins, c.loop-port-test.true, c.requires.inputs, c.requires.ins)) in
+          let fared = subst (λ x. FaredAlone g.R.Feed.is_broken g.R.Feed.failures (failed_reader x) c.loop-port.port r c.ask.new.r) c.in_ok-ask.was c.ask.ensures.fared_reader in
+          one_then g.R.Feed.is_broken g.R.Feed.failures (λ q. false) c.loop-port.port c.args.ins.now c.loop-port.ins r c.ask.new.r inv.ins inv.readers at fared.own (λ q other. refl);
+      writers = λ sound.
+          let before = still_sound g.W.Sink.is_broken g.W.Sink.failures c.args.outs.now c.loop-port.outs inv.outs (inv.writers sound) sound in
+          all_then g.W.Sink.is_broken g.W.Sink.failures (λ q. false) c.args.outs.now c.loop-port.outs c.ask.new.outs inv.outs (inv.writers sound)
+          (subst (λ x. AllFared g.W.Sink.is_broken g.W.Sink.failures (failed_writer x) c.loop-port.outs c.ask.new.outs) c.in_ok-ask.was (c.ask.ensures.fared_writers before));
     }
+
+pub returns-in_err-ask-clause-fared_readers : goal.returns-in_err-ask-clause-fared_readers
+returns-in_err-ask-clause-fared_readers g c =
+    let inv = c.loop-port.invariant in
+    let r = slice_index_or c.loop-port.ins c.loop-port.port c.index-ins-k.result in
+    let at = there_is c.loop-port.ins c.loop-port.port c.index-ins-k.result (omega (arith, inv.ins, c.loop-port-test.true, c.requires.inputs, c.requires.ins)) in
+    let gone : c.from_residual.result ≡ Err c.in_err-ask.field-0.0 = search rules in
+    let fared = subst (λ x. FaredAlone g.R.Feed.is_broken g.R.Feed.failures (failed_reader x) c.loop-port.port r c.ask.new.r) (c.in_err-ask.was ∙ sym gone) c.ask.ensures.fared_reader in
+    one_then g.R.Feed.is_broken g.R.Feed.failures (failed_reader c.from_residual.result) c.loop-port.port c.args.ins.now c.loop-port.ins r c.ask.new.r inv.ins inv.readers at fared.own fared.others
+
+pub returns-in_err-ask-clause-fared_writers : goal.returns-in_err-ask-clause-fared_writers
+returns-in_err-ask-clause-fared_writers g c sound =
+    let inv = c.loop-port.invariant in
+    let gone : c.from_residual.result ≡ Err c.in_err-ask.field-0.0 = search rules in
+    let before = still_sound g.W.Sink.is_broken g.W.Sink.failures c.args.outs.now c.loop-port.outs inv.outs (inv.writers sound) sound in
+    all_then g.W.Sink.is_broken g.W.Sink.failures (failed_writer c.from_residual.result) c.args.outs.now c.loop-port.outs c.ask.new.outs inv.outs (inv.writers sound)
+    (subst (λ x. AllFared g.W.Sink.is_broken g.W.Sink.failures (failed_writer x) c.loop-port.outs c.ask.new.outs) (c.in_err-ask.was ∙ sym gone) (c.ask.ensures.fared_writers before))
+
+pub returns-clause-fared_readers : goal.returns-clause-fared_readers
+returns-clause-fared_readers g c = c.loop-port.invariant.readers
+
+pub returns-clause-fared_writers : goal.returns-clause-fared_writers
+returns-clause-fared_writers g c = c.loop-port.invariant.writers
 
 pub returns-in_err-ask-clause-goes : goal.returns-in_err-ask-clause-goes
 returns-in_err-ask-clause-goes g c e0 olds held read k start =

@@ -5,6 +5,9 @@ use Rattle.dp_pipe.specs.Forwarding.{Along, AllStand, AreRounds}
 use Rattle.dp_pipe.specs.Running.{all_begun, GoesForward, RoundsMade}
 use Rattle.dp_pipe.proofs.Stopping.{are_read}
 use Rattle.dp_pipe.proofs.Through.{along_none, back, fail_read, fail_write, stays_rounds}
+use Rattle.std.proofs.Common.{refl}
+use Rattle.dp_pipe.specs.Devices.{AllFared, failed_reader, failed_writer}
+use Rattle.dp_pipe.proofs.Faring.{all_same, all_then, no_writer, no_reader, sound_readers, sound_writers}
 use Rattle.dp_pipe.proofs.running.forward.Goals as goal
 
 pub returns-in_err-read_headers-clause-forward : goal.returns-in_err-read_headers-clause-forward
@@ -71,3 +74,46 @@ returns-clause-counted g c =
     c.in_ok-read_headers.ensures.ok c.read_headers.ensures.begun in
     let goes = c.rounds.ensures.goes c.args.engine.now (map g.R.Feed.remaining c.args.ins.now) mids (all_begun c.read_headers.new.inputs.items) (rw here along) in
     (stays_rounds c.unit_for-unit.result c.args.engine.now c.rounds.new.engine _ _ _ _ c.rounds.new.inputs c.rounds.result goes).each ∙ c.requires.counted
+
+pub returns-in_err-read_headers-clause-fared_readers : goal.returns-in_err-read_headers-clause-fared_readers
+returns-in_err-read_headers-clause-fared_readers g c =
+    let gone : c.from_residual.result ≡ Err c.in_err-read_headers.field-0.0 = search rules in
+    subst (λ x. AllFared g.R.Feed.is_broken g.R.Feed.failures (failed_reader x) c.args.ins.now c.read_headers.new.ins) (c.in_err-read_headers.was ∙ sym gone) c.read_headers.ensures.fared
+
+pub returns-in_err-read_headers-clause-fared_writers : goal.returns-in_err-read_headers-clause-fared_writers
+returns-in_err-read_headers-clause-fared_writers g c =
+    let gone : c.from_residual.result ≡ Err c.in_err-read_headers.field-0.0 = search rules in
+    rw gone (all_same g.W.Sink.is_broken g.W.Sink.failures _ c.args.outs.now (no_writer _ _ c.in_err-read_headers.field-0.0 c.in_err-read_headers.ensures.err))
+
+pub returns-in_err-put_headers-clause-fared_readers : goal.returns-in_err-put_headers-clause-fared_readers
+returns-in_err-put_headers-clause-fared_readers g c =
+    let gone : c.from_residual-in_err-put_headers.result ≡ Err c.in_err-put_headers.field-0.0 = search rules in
+    let read = subst (λ x. AllFared g.R.Feed.is_broken g.R.Feed.failures (failed_reader x) c.args.ins.now c.read_headers.new.ins) c.in_ok-read_headers.was c.read_headers.ensures.fared in
+    rw gone (all_then g.R.Feed.is_broken g.R.Feed.failures _ c.args.ins.now c.read_headers.new.ins c.read_headers.new.ins c.read_headers.ensures.many read
+    (all_same g.R.Feed.is_broken g.R.Feed.failures _ c.read_headers.new.ins (no_reader _ _ _ c.in_err-put_headers.field-0.0 c.in_err-put_headers.ensures.err)))
+
+pub returns-in_err-put_headers-clause-fared_writers : goal.returns-in_err-put_headers-clause-fared_writers
+returns-in_err-put_headers-clause-fared_writers g c =
+    let gone : c.from_residual-in_err-put_headers.result ≡ Err c.in_err-put_headers.field-0.0 = search rules in
+    subst (λ x. AllFared g.W.Sink.is_broken g.W.Sink.failures (failed_writer x) c.args.outs.now c.put_headers.new.outs) (c.in_err-put_headers.was ∙ sym gone) c.put_headers.ensures.fared
+
+pub returns-clause-sound : goal.returns-clause-sound
+returns-clause-sound g c ok =
+    let readers : length c.rounds.new.ins ≡ length c.read_headers.new.ins = search rules in
+    let writers : length c.rounds.new.outs ≡ length c.put_headers.new.outs = search rules in
+    let read = c.read_headers.ensures.sound (rw c.in_ok-read_headers.was refl) in
+    let written = c.put_headers.ensures.sound (rw c.in_ok-put_headers.was refl) in (
+      sound_readers g.R.Feed.is_broken g.R.Feed.failures c.rounds.result c.read_headers.new.ins c.rounds.new.ins readers c.rounds.ensures.fared_readers read ok,
+      sound_writers g.W.Sink.is_broken g.W.Sink.failures c.rounds.result c.put_headers.new.outs c.rounds.new.outs writers (c.rounds.ensures.fared_writers written) written ok,
+    )
+
+pub returns-clause-fared_readers : goal.returns-clause-fared_readers
+returns-clause-fared_readers g c =
+    let read = subst (λ x. AllFared g.R.Feed.is_broken g.R.Feed.failures (failed_reader x) c.args.ins.now c.read_headers.new.ins) c.in_ok-read_headers.was c.read_headers.ensures.fared in
+    all_then g.R.Feed.is_broken g.R.Feed.failures (failed_reader c.rounds.result) c.args.ins.now c.read_headers.new.ins c.rounds.new.ins c.read_headers.ensures.many read c.rounds.ensures.fared_readers
+
+pub returns-clause-fared_writers : goal.returns-clause-fared_writers
+returns-clause-fared_writers g c =
+    let written = subst (λ x. AllFared g.W.Sink.is_broken g.W.Sink.failures (failed_writer x) c.args.outs.now c.put_headers.new.outs) c.in_ok-put_headers.was c.put_headers.ensures.fared in
+    all_then g.W.Sink.is_broken g.W.Sink.failures (failed_writer c.rounds.result) c.args.outs.now c.put_headers.new.outs c.rounds.new.outs c.put_headers.ensures.many written
+    (c.rounds.ensures.fared_writers (c.put_headers.ensures.sound (rw c.in_ok-put_headers.was refl)))

@@ -1,4 +1,8 @@
 use Rattle.std.proofs.Common.{rules, ◌≡◌, ◌∙◌, ◌<◌, ◌+◌, ◌++◌, ◌∷◌, [], ℕ, Some, sym, arith, length, slice_index_or, subst}
+use Rattle.std.specs.Prelude.{Err, ⊤}
+use Rattle.dp_pipe.specs.declared.forwarding.RunCause.TheVariants.{In}
+use Rattle.dp_pipe.specs.Devices.{failed_reader}
+use Rattle.dp_pipe.proofs.Faring.{fared_well, all_well, one_then, refused, not_other}
 use Rattle.dp_pipe.proofs.Heading.{ReadFirst, read_more, all_stand, there_is, new_all, header_fault}
 use Rattle.dp_pipe.proofs.running.read_headers.Goals as goal
 
@@ -8,7 +12,8 @@ loop-port-preserved g c =
     record {
       read = subst (ReadFirst g.R.Feed.remaining g.R.Feed.failures g.R.Feed.is_broken (c.loop-port.port + 1) c.args.ins.now _) (sym c.keep.ensures.items)
           (read_more g.R.Feed.remaining g.R.Feed.failures g.R.Feed.is_broken c.loop-port.port c.args.ins.now c.loop-port.ins c.loop-port.inputs.items (slice_index_or c.loop-port.ins c.loop-port.port c.index-ins-port.result)
-          c.read_header.new.r _ c.loop-port.invariant.read (there_is c.loop-port.ins c.loop-port.port c.index-ins-port.result within) (search rules) (search rules) (search rules) (search rules));
+          c.read_header.new.r _ c.loop-port.invariant.read (there_is c.loop-port.ins c.loop-port.port c.index-ins-port.result within)
+          (fared_well g.R.Feed.is_broken g.R.Feed.failures (slice_index_or c.loop-port.ins c.loop-port.port c.index-ins-port.result) c.read_header.new.r (search rules) (search rules) (search rules)) (search rules) (search rules) (search rules));
       len = omega (arith, c.keep.ensures.len, c.loop-port.invariant.len);
       room = omega (arith, c.keep.ensures.capacity, c.loop-port.invariant.room);
     }
@@ -31,3 +36,15 @@ returns-clause-most g c = omega (arith, c.loop-port.invariant.read.many, c.loop-
 
 pub returns-in-Err-clause-most : goal.returns-in-Err-clause-most
 returns-in-Err-clause-most g c = omega (arith, c.loop-port.invariant.read.many, c.loop-port-test.true, c.loop-port.invariant.read.changed.many)
+
+pub returns-clause-fared : goal.returns-clause-fared
+returns-clause-fared g c = all_well g.R.Feed.is_broken g.R.Feed.failures _ c.loop-port.port c.args.ins.now c.loop-port.ins c.loop-port.invariant.read.changed (λ r r' changed. changed.0)
+
+pub returns-in-Err-clause-fared : goal.returns-in-Err-clause-fared
+returns-in-Err-clause-fared g c =
+    let within : c.loop-port.port < length c.loop-port.ins = omega (arith, c.loop-port-test.true, c.loop-port.invariant.read.changed.many) in
+    let r = slice_index_or c.loop-port.ins c.loop-port.port c.index-ins-port.result in
+    one_then g.R.Feed.is_broken g.R.Feed.failures (failed_reader {A = ⊤} (Err (In c.loop-port.port c.in-Err.error))) c.loop-port.port c.args.ins.now c.loop-port.ins r c.read_header.new.r c.loop-port.invariant.read.changed.many
+    (all_well g.R.Feed.is_broken g.R.Feed.failures _ c.loop-port.port c.args.ins.now c.loop-port.ins c.loop-port.invariant.read.changed (λ x x' changed. changed.0)) (there_is c.loop-port.ins c.loop-port.port c.index-ins-port.result within)
+    (refused g.R.Feed.is_broken g.R.Feed.failures c.read_header.result c.in-Err.error c.loop-port.port r c.read_header.new.r c.in-Err.is c.read_header.ensures.failed c.read_header.ensures.stays c.read_header.ensures.failures)
+    (λ q other. not_other c.in-Err.error c.loop-port.port q other)
