@@ -18,6 +18,7 @@ pub mod Lending
 pub mod Heading
 pub mod Following
 pub mod Stepping
+pub mod Units
 pub mod GoingOn
 pub mod Stopping
 pub mod Rounding

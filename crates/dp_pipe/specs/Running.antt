@@ -122,10 +122,11 @@ HeadersFail e e' olds news held holds progress (Err (Out port)) =
     AreRead olds news (all_begun progress) × HeadersStopped (unit_for (units_of (all_begun progress))) held holds port × AllByRecursion IsBegun progress × (e' ≡ e)
 HeadersFail e e' olds news held holds progress answer = ⊥
 
--- All headers were written, of one unit of time, and then all rounds were made.
+-- All headers were written, of the one unit of time in which records are, and then all rounds were made.
 pub record RoundsMade (e e' : EngineState) (olds news held holds : List (Option (List ℕ))) (progress : List Progress) (answer : Result ⊤ RunCause) : Type 0 where
   pub unit : TimeUnit
   pub mids : List (Option (List ℕ))
+  pub mids_many : length mids ≡ length held
   pub headers : HeadersWritten unit held mids
   pub rounds : AreRounds unit e e' olds news mids holds progress answer
 
