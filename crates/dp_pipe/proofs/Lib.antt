@@ -19,6 +19,10 @@ pub mod Heading
 pub mod Following
 pub mod Stepping
 pub mod Units
+pub mod Texts
+pub mod Numbers
+pub mod PacketRuns
+pub mod Headline
 pub mod GoingOn
 pub mod Stopping
 pub mod Rounding

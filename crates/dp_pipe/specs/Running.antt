@@ -165,6 +165,7 @@ pub record RanOn (p : Plan) (pattern : List ℕ) (olds news held holds : List (O
   pub start : starts.IsStart p.env first.world
   pub turns : first.turns ≡ 0
   pub tallies : first.tallies ≡ replicate 8 no_tallies
+  pub left : first.left ≡ replicate 8 0
   pub last : EngineState
   pub progress : List Progress
   pub went : GoesForward first last olds news held holds progress (answer_of answer)
