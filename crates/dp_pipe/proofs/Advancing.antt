@@ -48,12 +48,12 @@ texts_append : (unit : TimeUnit) (xs ys : List PacketRecord) → flat_map (recor
 texts_append unit [] ys = refl
 texts_append unit (x ∷ xs) ys = ap (λ l. record_text unit x ++ l) (texts_append unit xs ys) ∙ sym (append_assoc (record_text unit x) (flat_map (record_text unit) xs) (flat_map (record_text unit) ys))
 
-mid_of : {A : Type 0} (xs : List A) (q : ℕ) → q < length xs → (x : A) × (slice_get xs q ≡ Some x)
+pub mid_of : {A : Type 0} (xs : List A) (q : ℕ) → q < length xs → (x : A) × (slice_get xs q ≡ Some x)
 mid_of [] q less = absurd (omega (arith, less))
 mid_of (x ∷ xs) zero less = (x, refl)
 mid_of (x ∷ xs) (suc q) less = mid_of xs q (omega (arith, less))
 
-appends_then : (a b c : Option (List ℕ)) (xs ys : List ℕ) → Appends a b xs → Appends b c ys → Appends a c (xs ++ ys)
+pub appends_then : (a b c : Option (List ℕ)) (xs ys : List ℕ) → Appends a b xs → Appends b c ys → Appends a c (xs ++ ys)
 appends_then None b c xs ys p q = tt
 appends_then (Some a) None c xs ys p q = absurd p
 appends_then (Some a) (Some b) None xs ys p q = absurd q

@@ -21,10 +21,11 @@ use Rattle.dp_engine.specs.declared.report.InputState.{InputState}
 use Rattle.dp_engine.specs.declared.report.InputState.TheVariants.{Open, Whole, Cut}
 use Rattle.dp_engine.specs.Engines.{EngineState}
 use Rattle.dp_pipe.specs.declared.forwarding.Progress.{Progress}
-use Rattle.dp_pipe.specs.Forwarding.{Input, HasReadSo, IsGoingOn, Stands, AllStand, TurnsOn, ReadsTurn, TakesTurn, DrainedAll, DrainedFirst, Follows, Advances, Along, AnswersSo, asked, arrivals_of, capture_at, AreWritten, HasRun, records_many}
+use Rattle.dp_pipe.specs.Forwarding.{Input, HasReadSo, IsGoingOn, Stands, AllStand, TurnsOn, ReadsTurn, TakesTurn, DrainedAll, DrainedFirst, Follows, Advances, Along, AnswersSo, asked, arrivals_of, capture_at, AreWritten, HasRun, records_many, unit_for, units_of}
 use Rattle.dp_pipe.proofs.Forwarded.{length_set}
 use Rattle.dp_pipe.proofs.RunOn.{run_on, arrival}
 use Rattle.dp_pipe.proofs.Advancing.{with_record, ended, arrivals_more, arrivals_ended, order_next, wrote_more, joined_many}
+use Rattle.dp_pipe.proofs.Units.{units_set}
 use Rattle.dp_pipe.proofs.Stepping.{input_at, all_stand, known_then, open_read, open_going, stands_more, stands_ended}
 
 -- what all steps of a round share: as many inputs, readers and writers as ports
@@ -62,7 +63,7 @@ many_least (x ∷ inputs) zero i e few =
 many_least (x ∷ inputs) (suc n) i e few = let more = many_least inputs n i e (λ q j at. few (suc q) j at) in omega (arith, more, few 0 x refl)
 
 -- an open input gave so many records as it was asked for
-wanted : (round port count : ℕ) (state : InputState) → state ≡ Open → AnswersSo state count (asked round port port) → count ≡ round
+pub wanted : (round port count : ℕ) (state : InputState) → state ≡ Open → AnswersSo state count (asked round port port) → count ≡ round
 wanted round port count Open e is = is ∙ ap (λ b. if b then round + 1 else round) (le-ltb port port (omega arith))
 wanted round port count Whole e lt = cc
 wanted round port count (Cut byte) e lt = cc
@@ -114,6 +115,8 @@ module _ (unit : TimeUnit) (e0 e : EngineState) (olds news held mids : List (Opt
       record {
         first = along.first;
         held_many = along.held_many;
+        inputs_many = length_set inputs port i' ∙ along.inputs_many;
+        unit_is = along.unit_is ∙ ap unit_for (sym (units_set inputs port i i' i_here refl));
         total = ap length (arrivals_more inputs round port i r along.order i_here i_open) ∙ length-append (arrivals_of inputs) (arrival port time (take len buf) ∷ [])
             ∙ omega (arith, along.total, many_more inputs port i r i_here);
         stand = all_stand olds news progress inputs port p' i' b along.stand stands (λ old at.
@@ -134,6 +137,8 @@ module _ (unit : TimeUnit) (e0 e : EngineState) (olds news held mids : List (Opt
   ended_on state closed more moved is = record {
     first = along.first;
     held_many = along.held_many;
+    inputs_many = length_set inputs port (ended state i) ∙ along.inputs_many;
+    unit_is = along.unit_is ∙ ap unit_for (sym (units_set inputs port i (ended state i) i_here refl));
     total = ap length (arrivals_ended inputs port i state i_here) ∙ along.total ∙ sym (many_ended inputs port i state i_here);
     stand = all_stand olds news progress inputs port p' (ended state i) b along.stand (stands_ended p p' i state i_stands is moved closed) (λ old at.
         known_then old a b _ _ _ (λ bytes left rest before now. now bytes i.records (open_read i.state p.source i.records bytes left i_open before)) (along.stand.read port p i old a here i_here at left_a) more);

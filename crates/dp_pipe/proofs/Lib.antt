@@ -18,6 +18,11 @@ pub mod Lending
 pub mod Heading
 pub mod Following
 pub mod Stepping
+pub mod Units
+pub mod Texts
+pub mod Numbers
+pub mod PacketRuns
+pub mod Headline
 pub mod GoingOn
 pub mod Stopping
 pub mod Rounding

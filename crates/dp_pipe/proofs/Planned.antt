@@ -1,11 +1,18 @@
 -- Loaded nodes are those of a pipeline.
-use Rattle.std.proofs.Common.{◌≡◌, ℕ, ◌+◌, ◌<◌, List, length, Option, Some, ap, sym, ◌∙◌, arith, length-append, zero-add, get_or, refl, subst}
+use Rattle.std.proofs.Common.{◌≡◌, ℕ, ◌+◌, ◌-◌, ◌<◌, ◌≤◌, ◌⊎◌, inl, inr, List, length, Option, Some, None, ap, sym, ◌∙◌, arith, length-append, zero-add, get_or, refl, subst}
 use Rattle.std.proofs.lemmas.Option.{slice_get_read}
 use Rattle.std.specs.Prelude.{slice_get}
 use Rattle.dp_model.specs.declared.env.Entry.{Entry}
 use Rattle.dp_model.specs.declared.env.Entry.TheVariants.{Port, Ring}
-use Rattle.dp_model.specs.Environments.{Environment}
+use Rattle.dp_model.specs.Environments.{Environment, fault_of}
+use Rattle.dp_model.specs.Prefixes.{Route}
 use Rattle.dp_model.specs.Rules.{Question}
+use Rattle.std.specs.List.{AllByRecursion}
+use Rattle.dp_lpm.specs.Routes.{RouteTable}
+use Rattle.dp_check.specs.Faults.{IsChecked}
+use Rattle.dp_engine.proofs.Pipelines.{plan_of}
+use Rattle.dp_pipe.proofs.Heading.{order}
+use Rattle.dp_pipe.proofs.PacketRuns.{IsReady}
 use Rattle.dp_pipe.specs.declared.nodes.How.{How}
 use Rattle.dp_pipe.specs.Setup.{NodeFiles}
 use Rattle.dp_pipe.specs.Files.{FileMap}
@@ -69,3 +76,18 @@ are_nodes env nodes h = record {
   ports = λ k q l at. ((h.ports k q l at).env_is, (h.ports k q l at).entry_is);
   rings = λ k q at. ((h.rings k q at).env_is, (h.rings k q at).entry_is);
 }
+
+-- ---- a pipeline is ready to run
+
+-- each of its programs is checked
+all_checked : (env : Environment) (nodes : List Question) → HasNodes env nodes → (k : ℕ) (q : Question) → slice_get nodes k ≡ Some q → IsChecked q
+all_checked env nodes h k q at = go (order k (length env.ports))
+  where
+    go : (k < length env.ports) ⊎ (length env.ports ≤ k) → IsChecked q
+    go (inl less) = (h.ports k q less at).checked
+    go (inr most) = (h.rings (k - length env.ports) q (ap (slice_get nodes) (omega (arith, most)) ∙ at)).checked
+
+pub is_ready : (p : Plan) (pattern : List ℕ) → fault_of p.env ≡ None → IsPlan p → ((k : ℕ) (t : RouteTable) → slice_get p.tables k ≡ Some t → AllByRecursion (λ (route : Route). route.hop ≤ 16777215) t.routes) → IsReady p pattern
+is_ready p pattern limits plan hops =
+    let engine = plan_of p.env p.tables p.nodes pattern limits (are_nodes p.env p.nodes plan.nodes) plan.tables (all_checked p.env p.nodes plan.nodes) hops in
+    record { limits = limits; pipeline = engine.pipeline; tables = engine.tables_fit }

@@ -72,6 +72,8 @@ over_on unit e0 e olds news held mids progress inputs round port p along here cl
     record {
       first = along.first;
       held_many = along.held_many;
+      inputs_many = along.inputs_many;
+      unit_is = along.unit_is;
       stand = along.stand;
       order = order_ended inputs round port i i_here (λ e. closed (stands.state ∙ e)) along.order;
       total = along.total;
@@ -122,6 +124,8 @@ pub round_over : (unit : TimeUnit) (e0 e : EngineState) (olds news held mids : L
 round_over unit e0 e olds news held mids progress inputs round n along most = record {
   first = along.first;
   held_many = along.held_many;
+  inputs_many = along.inputs_many;
+  unit_is = along.unit_is;
   stand = along.stand;
   order = order_round inputs round n (omega (arith, along.stand.many, most)) along.order;
   total = along.total;
@@ -150,7 +154,15 @@ pub went_all : (unit : TimeUnit) (e0 e : EngineState) (olds news held mids : Lis
 went_all unit e0 e olds news held mids progress inputs round port along none = (
   inputs,
   states_same olds news progress inputs along.stand,
-  record { read = are_read olds news progress inputs along.stand; captures = along.captures; run = along.run; wrote = along.wrote },
+  record {
+    inputs_many = along.inputs_many;
+    unit_is = along.unit_is;
+    read = are_read olds news progress inputs along.stand;
+    captures = along.captures;
+    many = along.many;
+    run = along.run;
+    wrote = along.wrote;
+  },
   all_closed progress inputs along.stand.many (λ q p j a b. (along.stand.each q p j a b).state) none,
 )
 

@@ -1,6 +1,7 @@
 -- A run stops at what one input answers, or at what a writer does behind it.
 use Rattle.std.proofs.Common.{◌≡◌, ◌≢◌, ℕ, zero, suc, ◌+◌, ◌<◌, ◌≤◌, Bool, true, false, List, [], ◌∷◌, ◌++◌, length, map, take, Option, Some, None, Result, Ok, Err, refl, sym, ◌∙◌, ap, subst, arith, ◌⊎◌, inl, inr}
 use Rattle.std.specs.Prelude.{slice_get, slice_set, ⊤}
+use Rattle.std.proofs.lemmas.List.{length-append}
 use Rattle.std.proofs.lemmas.Option.{same_Some, slice_get_within}
 use Rattle.dp_pcap.specs.declared.time.Time.{Time}
 use Rattle.dp_pcap.specs.declared.time.Unit.{Unit as TimeUnit}
@@ -19,10 +20,12 @@ use Rattle.dp_engine.specs.Engines.{EngineState}
 use Rattle.dp_pipe.specs.declared.forwarding.Progress.{Progress}
 use Rattle.dp_pipe.specs.declared.forwarding.RunCause.{RunCause}
 use Rattle.dp_pipe.specs.declared.forwarding.RunCause.TheVariants.{In, Out}
-use Rattle.dp_pipe.specs.Forwarding.{Input, HasReadSo, Gives, AreRead, Refuses, Stands, AllStand, ReadsTurn, Follows, Advances, Along, Stops, arrivals_of}
-use Rattle.dp_pipe.proofs.Forwarded.{split}
+use Rattle.dp_pipe.specs.Forwarding.{Input, HasReadSo, Gives, AreRead, Refuses, Stands, AllStand, ReadsTurn, Follows, Advances, Along, Stops, arrivals_of, unit_for, units_of}
+use Rattle.dp_pipe.proofs.Forwarded.{split, length_set}
 use Rattle.dp_pipe.proofs.RunOn.{arrival}
-use Rattle.dp_pipe.proofs.Advancing.{with_record, arrivals_more}
+use Rattle.dp_pipe.proofs.Advancing.{with_record, arrivals_more, order_next}
+use Rattle.dp_pipe.proofs.GoingOn.{wanted}
+use Rattle.dp_pipe.proofs.Units.{units_set}
 use Rattle.dp_pipe.proofs.Stepping.{input_at, all_stand, known_then, open_read, open_going, stands_more}
 
 set_itself : {A : Type 0} (xs : List A) (p : ℕ) (x : A) → slice_get xs p ≡ Some x → slice_set xs p x ≡ xs
@@ -147,12 +150,17 @@ stops_at unit e0 e e' olds news held mids holds progress inputs round port p p' 
           slice_set inputs port i',
           states_same olds (slice_set news port b) (slice_set progress port p') (slice_set inputs port i') stand,
           record {
+            inputs_many = length_set inputs port i' ∙ along.inputs_many;
+            unit_is = along.unit_is ∙ ap unit_for (sym (units_set inputs port i i' i_here refl));
             read = are_read olds (slice_set news port b) (slice_set progress port p') (slice_set inputs port i') stand;
             before = arrivals_of inputs;
             last = arrival port time (take len buf);
             arrivals_are = arrivals_more inputs round port i r along.order i_here i_open;
+            round = round;
+            order = order_next inputs round port i' along.order (rw i_open (length-append i.records (r ∷ []) ∙ ap (λ m. m + 1) (wanted round port (length i.records) i.state i_open (along.order port i i_here))));
             engine = e;
             captures = along.captures;
+            many = along.many;
             run = along.run;
             mids = mids;
             wrote = along.wrote;
@@ -175,8 +183,11 @@ stops_at unit e0 e e' olds news held mids holds progress inputs round port p p' 
           inputs,
           states is,
           record {
+            inputs_many = along.inputs_many;
+            unit_is = along.unit_is;
             read = read;
             captures = along.captures;
+            many = along.many;
             run = along.run;
             wrote = along.wrote;
           },

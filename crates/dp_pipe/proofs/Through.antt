@@ -5,7 +5,7 @@ use Rattle.std.specs.Option.{option_map_or}
 use Rattle.std.specs.List.{AllByRecursion}
 use Rattle.std.specs.Io.KnownBytes.{Appends, Keeps}
 use Rattle.std.proofs.lemmas.Option.{same_Some}
-use Rattle.std.proofs.lemmas.List.{length-replicate, append-nil}
+use Rattle.std.proofs.lemmas.List.{length-replicate, length-map, append-nil}
 use Rattle.dp_pcap.specs.declared.time.Time.{Time}
 use Rattle.dp_pcap.specs.declared.time.Unit.{Unit as TimeUnit}
 use Rattle.dp_pcap.specs.Capture.{PacketRecord}
@@ -75,11 +75,13 @@ asked_none : (q : ℕ) → asked 0 0 q ≡ 0
 asked_none q = rw (le-ltb q 0 (omega arith)) refl
 
 pub along_none : (unit : TimeUnit) (e : EngineState) (olds news mids : List (Option (List ℕ))) (progress : List Progress)
-    → e.turns ≡ 0 → length mids ≡ length e.setting.env.ports → AllStand olds news progress (all_begun progress) → AllByRecursion IsBegun progress
+    → e.turns ≡ 0 → length mids ≡ length e.setting.env.ports → length progress ≡ length e.setting.env.ports → unit ≡ unit_for (units_of (all_begun progress)) → AllStand olds news progress (all_begun progress) → AllByRecursion IsBegun progress
     → Along unit e e olds news mids mids progress (all_begun progress) 0 0
-along_none unit e olds news mids progress first many stand begins = record {
+along_none unit e olds news mids progress first many inputs_many unit_is stand begins = record {
   first = first;
   held_many = many;
+  inputs_many = length-map progress begun ∙ inputs_many;
+  unit_is = unit_is;
   stand = stand;
   order = λ q i at. let (p, there, is) = told_at begun progress q i at in
       let is_open = (all_at IsBegun progress q p begins there).state in

@@ -134,10 +134,14 @@ AreWritten unit olds news records =
 
 -- ---- how a run goes
 
--- The run has read these inputs, and ran on their records: each turn and each drain, and all was written.
+-- The run has read these inputs, one for each port, and ran on their records: each turn and each drain, and all was written, in
+-- nanoseconds if any input has them.
 pub record Went (unit : TimeUnit) (e e' : EngineState) (olds news : List (Option (List ℕ))) (held holds : List (Option (List ℕ))) (inputs : List Input) : Type 0 where
+  pub inputs_many : length inputs ≡ length e.setting.env.ports
+  pub unit_is : unit ≡ unit_for (units_of inputs)
   pub read : AreRead olds news inputs
   pub captures : List (List (Time × List ℕ))
+  pub many : length captures ≡ length e.setting.env.ports
   pub run : HasRun e e' (arrivals_of inputs) captures
   pub wrote : AreWritten unit held holds (capture_at captures)
 
@@ -247,6 +251,8 @@ records_many (i ∷ inputs) = length i.records + records_many inputs
 pub record Along (unit : TimeUnit) (e e' : EngineState) (olds news held holds : List (Option (List ℕ))) (progress : List Progress) (inputs : List Input) (round port : ℕ) : Type 0 where
   pub first : e.turns ≡ 0
   pub held_many : length held ≡ length e.setting.env.ports
+  pub inputs_many : length inputs ≡ length e.setting.env.ports
+  pub unit_is : unit ≡ unit_for (units_of inputs)
   pub stand : AllStand olds news progress inputs
   pub order : AskedUntil round port inputs
   pub total : length (arrivals_of inputs) ≡ records_many inputs
@@ -276,14 +282,20 @@ pub record Advances (port : ℕ) (unit : TimeUnit) (e e' : EngineState) (p p' : 
   pub follows : Follows port unit engine e' p'.state held holds next answer
 
 -- A writer failed in the drains behind a turn. There was a run on all records but the last, all of which was written; then a
--- turn with the last; and then the drains behind it, in port order, of which that of a port stopped.
+-- turn with the last; and then the drains behind it, in port order, of which that of a port stopped. Until then the inputs were
+-- asked in turn.
 pub record FailedAt (unit : TimeUnit) (e e' : EngineState) (olds news : List (Option (List ℕ))) (held holds : List (Option (List ℕ))) (inputs : List Input) (port : ℕ) : Type 0 where
+  pub inputs_many : length inputs ≡ length e.setting.env.ports
+  pub unit_is : unit ≡ unit_for (units_of inputs)
   pub read : AreRead olds news inputs
   pub before : List (Arrival Time)
   pub last : Arrival Time
   pub arrivals_are : arrivals_of inputs ≡ before ++ last ∷ []
+  pub round : ℕ
+  pub order : AskedUntil round (last.port + 1) inputs
   pub engine : EngineState
   pub captures : List (List (Time × List ℕ))
+  pub many : length captures ≡ length e.setting.env.ports
   pub run : HasRun e engine before captures
   pub mids : List (Option (List ℕ))
   pub wrote : AreWritten unit held mids (capture_at captures)

@@ -10,5 +10,6 @@ pub mod Nodes
 pub mod Pipelines
 pub mod Routes
 pub mod Running
+pub mod Headline
 pub mod Setup
 pub mod Views

@@ -121,10 +121,11 @@ HeadersFail e e' olds news held holds progress (Err (Out port)) =
     AreRead olds news (all_begun progress) × HeadersStopped (unit_for (units_of (all_begun progress))) held holds port × AllByRecursion IsBegun progress × (e' ≡ e)
 HeadersFail e e' olds news held holds progress answer = ⊥
 
--- All headers were written, of one unit of time, and then all rounds were made.
+-- All headers were written, of the one unit of time in which records are, and then all rounds were made.
 pub record RoundsMade (e e' : EngineState) (olds news held holds : List (Option (List ℕ))) (progress : List Progress) (answer : Result ⊤ RunCause) : Type 0 where
   pub unit : TimeUnit
   pub mids : List (Option (List ℕ))
+  pub mids_many : length mids ≡ length held
   pub headers : HeadersWritten unit held mids
   pub rounds : AreRounds unit e e' olds news mids holds progress answer
 
@@ -163,6 +164,7 @@ pub record RanOn (p : Plan) (pattern : List ℕ) (olds news held holds : List (O
   pub start : starts.IsStart p.env first.world
   pub turns : first.turns ≡ 0
   pub tallies : first.tallies ≡ replicate 8 no_tallies
+  pub left : first.left ≡ replicate 8 0
   pub last : EngineState
   pub progress : List Progress
   pub went : GoesForward first last olds news held holds progress (answer_of answer)

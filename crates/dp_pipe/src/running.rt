@@ -10,12 +10,16 @@ ghost use Rattle.dp_engine.specs.Reports.{port_report};
 ghost use Rattle.dp_pipe.specs.Devices.{AllSound, AllFared, failed_reader, failed_writer};
 ghost use Rattle.dp_pipe.specs.Forwarding as forwarding;
 ghost use Rattle.dp_pipe.specs.Forwarding.{AllStand, units_of};
+ghost use Rattle.dp_lpm.specs.Routes.{RouteTable};
+ghost use Rattle.dp_model.specs.Prefixes.{Route};
+ghost use Rattle.dp_pipe.specs.Headline.{Forwarded};
 ghost use Rattle.dp_pipe.specs.Running as spec;
 
 use crate::forwarding::{Progress, RunCause, rounds};
 use crate::pipeline::Pipeline;
 use arrayvec::ArrayVec;
 use dp_engine::{Engine, InputState, OpenFault, PoolReport, PortReport, Report};
+use dp_lpm::Lpm;
 use dp_model::{Env, PoolSpec, PortSpec, RingSpec};
 use dp_pcap::{Feed, Sink, Unit, put_header, read_header};
 use dp_region::Region;
@@ -254,6 +258,15 @@ fn unopened(cause: RunCause, env: &Env) -> RunFault
     }
 }
 
+// What every table is known to keep: no hop is above 16,777,215.
+fn tell_hops(tables: &[Lpm])
+    ensures { (k : ℕ) (t : RouteTable) → slice_get tables.now k ≡ Some t → AllByRecursion (λ (route : Route). route.hop ≤ 16777215) t.routes }
+{
+    for table in tables {
+        let _rules = table.len();
+    }
+}
+
 /// Runs a pipeline from captures to captures: one reader and one writer for each port, in port order. Record k of each input,
 /// in port order, round by round, is one turn of its engine, behind which all transmit lists are written with the record's time.
 /// The headers are read and then written first, with nanoseconds if any input has them, else microseconds. The allocation calls
@@ -279,6 +292,7 @@ pub fn run<R: Feed, W: Sink>(
     requires writers { length outs.old ≡ length pipeline.env.ports }
     requires pattern { IsAscending 0 pattern.items }
     ensures answers { spec.RunAnswers pipeline pattern.items (map R.remaining ins.old) (map R.remaining ins.new) (map W.contents outs.old) (map W.contents outs.new) result }
+    ensures forwarded { IfOk result (Forwarded pipeline pattern.items (map R.remaining ins.old) (map R.remaining ins.new) (map W.contents outs.old) (map W.contents outs.new)) }
     ensures free { spec.AllFree pipeline.env result }
     ensures untouched { IfErr result (λ f. (f.cause ≡ RunCause.Memory) ⊎ (f.cause ≡ RunCause.NoRoom) → (ins.new ≡ ins.old) × (outs.new ≡ outs.old)) }
     // Where all went well, no device is broken.
@@ -298,6 +312,7 @@ pub fn run<R: Feed, W: Sink>(
     };
     let (env, tables, nodes) = pipeline.into_parts();
     env.within_limits();
+    tell_hops(tables.as_slice());
     match Engine::open(region, &env, tables, nodes) {
         Ok(mut engine) => {
             engine.refuse(pattern);

@@ -32,6 +32,7 @@ returns-in_err-put_headers-clause-forward g c =
 pub rounds-requires-clause-along : goal.rounds-requires-clause-along
 rounds-requires-clause-along g c =
     let here : c.as_mut_slice.result.now ≡ c.read_headers.new.inputs.items = search rules in
+    let unread : c.as_slice.result.now ≡ c.read_headers.new.inputs.items = search rules in
     let mids = map g.W.Sink.contents c.put_headers.new.outs in
     let many : length mids ≡ length c.args.engine.now.setting.env.ports = length-map c.put_headers.new.outs g.W.Sink.contents ∙ c.put_headers.ensures.many ∙ c.requires.writers in
     rw here (
@@ -40,38 +41,44 @@ rounds-requires-clause-along g c =
       mids,
       all_begun c.read_headers.new.inputs.items,
       along_none c.unit_for-unit.result c.args.engine.now (map g.R.Feed.remaining c.args.ins.now) (map g.R.Feed.remaining c.read_headers.new.ins) mids c.read_headers.new.inputs.items c.requires.first many
-          c.in_ok-read_headers.ensures.ok c.read_headers.ensures.begun,
+          (c.in_ok-read_headers.ensures.all ∙ c.requires.readers) (rw unread at c.unit_for-unit.ensures) c.in_ok-read_headers.ensures.ok c.read_headers.ensures.begun,
     )
 
 pub returns-clause-forward : goal.returns-clause-forward
 returns-clause-forward g c =
     let here : c.as_mut_slice.result.now ≡ c.read_headers.new.inputs.items = search rules in
+    let unread : c.as_slice.result.now ≡ c.read_headers.new.inputs.items = search rules in
     let mids = map g.W.Sink.contents c.put_headers.new.outs in
     let many : length mids ≡ length c.args.engine.now.setting.env.ports = length-map c.put_headers.new.outs g.W.Sink.contents ∙ c.put_headers.ensures.many ∙ c.requires.writers in
+    let unit_is = rw unread at c.unit_for-unit.ensures in
     let along = along_none c.unit_for-unit.result c.args.engine.now (map g.R.Feed.remaining c.args.ins.now) (map g.R.Feed.remaining c.read_headers.new.ins) mids c.read_headers.new.inputs.items c.requires.first many
-    c.in_ok-read_headers.ensures.ok c.read_headers.ensures.begun in
+    (c.in_ok-read_headers.ensures.all ∙ c.requires.readers) unit_is c.in_ok-read_headers.ensures.ok c.read_headers.ensures.begun in
     let goes = c.rounds.ensures.goes c.args.engine.now (map g.R.Feed.remaining c.args.ins.now) mids (all_begun c.read_headers.new.inputs.items) (rw here along) in
     let len : c.read_headers.new.inputs.len ≡ length c.rounds.new.inputs = omega (arith, c.rounds.ensures.many, c.as_mut_slice.ensures.len) in
     let same = back c.read_headers.new.inputs.len c.rounds.new.inputs (drop (length c.rounds.new.inputs) c.read_headers.new.inputs.items) len in
-    rw same (inr (record { unit = c.unit_for-unit.result; mids = mids; headers = c.in_ok-put_headers.ensures.ok; rounds = goes }))
+    rw same (inr (record { unit = c.unit_for-unit.result; mids = mids; mids_many = many ∙ sym c.requires.writers ∙ sym (length-map c.args.outs.now g.W.Sink.contents); headers = c.in_ok-put_headers.ensures.ok; rounds = goes }))
 
 pub returns-clause-setting : goal.returns-clause-setting
 returns-clause-setting g c =
     let here : c.as_mut_slice.result.now ≡ c.read_headers.new.inputs.items = search rules in
+    let unread : c.as_slice.result.now ≡ c.read_headers.new.inputs.items = search rules in
     let mids = map g.W.Sink.contents c.put_headers.new.outs in
     let many : length mids ≡ length c.args.engine.now.setting.env.ports = length-map c.put_headers.new.outs g.W.Sink.contents ∙ c.put_headers.ensures.many ∙ c.requires.writers in
+    let unit_is = rw unread at c.unit_for-unit.ensures in
     let along = along_none c.unit_for-unit.result c.args.engine.now (map g.R.Feed.remaining c.args.ins.now) (map g.R.Feed.remaining c.read_headers.new.ins) mids c.read_headers.new.inputs.items c.requires.first many
-    c.in_ok-read_headers.ensures.ok c.read_headers.ensures.begun in
+    (c.in_ok-read_headers.ensures.all ∙ c.requires.readers) unit_is c.in_ok-read_headers.ensures.ok c.read_headers.ensures.begun in
     let goes = c.rounds.ensures.goes c.args.engine.now (map g.R.Feed.remaining c.args.ins.now) mids (all_begun c.read_headers.new.inputs.items) (rw here along) in
     (stays_rounds c.unit_for-unit.result c.args.engine.now c.rounds.new.engine _ _ _ _ c.rounds.new.inputs c.rounds.result goes).setting
 
 pub returns-clause-counted : goal.returns-clause-counted
 returns-clause-counted g c =
     let here : c.as_mut_slice.result.now ≡ c.read_headers.new.inputs.items = search rules in
+    let unread : c.as_slice.result.now ≡ c.read_headers.new.inputs.items = search rules in
     let mids = map g.W.Sink.contents c.put_headers.new.outs in
     let many : length mids ≡ length c.args.engine.now.setting.env.ports = length-map c.put_headers.new.outs g.W.Sink.contents ∙ c.put_headers.ensures.many ∙ c.requires.writers in
+    let unit_is = rw unread at c.unit_for-unit.ensures in
     let along = along_none c.unit_for-unit.result c.args.engine.now (map g.R.Feed.remaining c.args.ins.now) (map g.R.Feed.remaining c.read_headers.new.ins) mids c.read_headers.new.inputs.items c.requires.first many
-    c.in_ok-read_headers.ensures.ok c.read_headers.ensures.begun in
+    (c.in_ok-read_headers.ensures.all ∙ c.requires.readers) unit_is c.in_ok-read_headers.ensures.ok c.read_headers.ensures.begun in
     let goes = c.rounds.ensures.goes c.args.engine.now (map g.R.Feed.remaining c.args.ins.now) mids (all_begun c.read_headers.new.inputs.items) (rw here along) in
     (stays_rounds c.unit_for-unit.result c.args.engine.now c.rounds.new.engine _ _ _ _ c.rounds.new.inputs c.rounds.result goes).each ∙ c.requires.counted
 

@@ -1,4 +1,9 @@
-use Rattle.std.proofs.Common.{rules, ◌≡◌, ◌∙◌, ◌≤◌, inl, sym, ap, subst, arith, length, map}
+use Rattle.std.proofs.Common.{rules, ◌≡◌, ◌∙◌, ◌≤◌, ℕ, List, Some, None, inl, sym, ap, subst, arith, length, map}
+use Rattle.std.specs.Prelude.{slice_get}
+use Rattle.std.specs.List.{AllByRecursion}
+use Rattle.dp_lpm.specs.Routes.{RouteTable}
+use Rattle.dp_model.specs.Environments.{fault_of}
+use Rattle.dp_model.specs.Prefixes.{Route}
 use Rattle.dp_model.specs.Machine.{Setting}
 use Rattle.dp_model.specs.Starts.{IsStart}
 use Rattle.dp_engine.specs.Engines.{EngineState}
@@ -8,7 +13,8 @@ use Rattle.dp_pipe.specs.Running.{AllFree}
 use Rattle.std.proofs.lemmas.List.{length-replicate}
 use Rattle.dp_engine.specs.Needs.{bytes_needed}
 use Rattle.dp_pipe.proofs.Loaded.{few}
-use Rattle.dp_pipe.proofs.Planned.{are_nodes}
+use Rattle.dp_pipe.proofs.Headline.{all_forwarded}
+use Rattle.dp_pipe.proofs.Planned.{are_nodes, is_ready}
 use Rattle.dp_pipe.proofs.Through.{unless_before}
 use Rattle.dp_pipe.proofs.running.run.Goals as goal
 
@@ -42,6 +48,7 @@ returns-in-Ok-open-clause-answers g c =
       start = subst (λ e. IsStart e c.refuse.new.self.world) parts.env (subst (IsStart c.into_parts-env.result.0) (sym (ap (λ (x : EngineState). x.world) c.refuse.ensures)) opened.start);
       turns = ap (λ (x : EngineState). x.turns) c.refuse.ensures ∙ opened.turns;
       tallies = ap (λ (x : EngineState). x.tallies) c.refuse.ensures ∙ opened.tallies;
+      left = ap (λ (x : EngineState). x.left) c.refuse.ensures ∙ opened.left;
       last = last;
       progress = c.run_through.new.inputs.items;
       went = went;
@@ -58,3 +65,13 @@ returns-in-Ok-open-clause-untouched g c =
     let (last, went, tells) = c.run_through.ensures.through in
     unless_before _ c.refuse.new.self last (map g.R.Feed.remaining c.args.ins.now) (map g.R.Feed.remaining c.run_through.new.ins) (map g.W.Sink.contents c.args.outs.now) (map g.W.Sink.contents c.run_through.new.outs)
     c.run_through.new.inputs.items c.run_through.result went
+
+pub returns-in-Ok-open-clause-forwarded : goal.returns-in-Ok-open-clause-forwarded
+returns-in-Ok-open-clause-forwarded g c =
+    let p = c.args.pipeline in
+    let parts = c.into_parts-env.ensures in
+    let limits : fault_of p.env ≡ None = subst (λ e. fault_of e ≡ None) parts.env c.within_limits.ensures in
+    let hops : (k : ℕ) (t : RouteTable) → slice_get p.tables k ≡ Some t → AllByRecursion (λ (route : Route). route.hop ≤ 16777215) t.routes =
+    subst (λ (ts : List RouteTable). (k : ℕ) (t : RouteTable) → slice_get ts k ≡ Some t → AllByRecursion (λ (route : Route). route.hop ≤ 16777215) t.routes) (c.as_slice.ensures.value ∙ parts.tables) c.tell_hops.ensures in
+    all_forwarded p c.args.pattern.items (map g.R.Feed.remaining c.args.ins.now) (map g.R.Feed.remaining c.run_through.new.ins) (map g.W.Sink.contents c.args.outs.now) (map g.W.Sink.contents c.run_through.new.outs)
+    c.run_through.result (is_ready p c.args.pattern.items limits parts.plan hops) (returns-in-Ok-open-clause-answers g c)

@@ -1,0 +1,70 @@
+-- What an open engine did is what is promised of a run.
+use Rattle.std.proofs.Common.{◌≡◌, ℕ, ◌+◌, ◌<◌, ◌≤◌, ◌⊎◌, inl, inr, List, [], ◌∷◌, ◌++◌, length, map, replicate, Option, Some, None, Result, Ok, Err, refl, sym, ◌∙◌, ap, subst, arith}
+use Rattle.std.specs.Prelude.{⊤, IfOk, IfErr}
+use Rattle.dp_pcap.specs.declared.time.Time.{Time}
+use Rattle.dp_pcap.specs.declared.time.Unit.{Unit as TimeUnit}
+use Rattle.dp_engine.specs.Engines.{EngineState}
+use Rattle.dp_engine.specs.Needs.{bytes_needed}
+use Rattle.dp_engine.specs.declared.report.Report.{Report}
+use Rattle.dp_model.specs.Machine.{Setting}
+use Rattle.dp_pipe.specs.declared.forwarding.Progress.{Progress}
+use Rattle.dp_pipe.specs.declared.forwarding.RunCause.{RunCause}
+use Rattle.dp_pipe.specs.declared.running.RunFault.{RunFault}
+use Rattle.dp_pipe.specs.Forwarding.{Input, HasRun, Went, AreWritten, arrivals_of, capture_at, unit_for, units_of}
+use Rattle.dp_pipe.specs.Headline.{PacketRun, HasNumbers, AreGiven, capture_text, Forwarded}
+use Rattle.dp_pipe.specs.Pipelines.{Plan}
+use Rattle.dp_pipe.specs.Running.{RunAnswers, RanOn, GoesForward, HeadersFail, HeadersWritten, RoundsMade, Tells, answer_of, report_of}
+use Rattle.dp_pipe.proofs.Loaded.{few}
+use Rattle.dp_pipe.proofs.Numbers.{numbers_told}
+use Rattle.dp_pipe.proofs.PacketRuns.{IsReady, IsFirst, run_of, counted_run}
+use Rattle.dp_pipe.proofs.Texts.{given_all}
+
+-- the engine of a pipeline before its first turn
+pub is_first : (p : Plan) (pattern : List ℕ) (olds news held holds : List (Option (List ℕ))) (answer : Result Report RunFault) → (r : RanOn p pattern olds news held holds answer) → IsFirst p pattern r.first
+is_first p pattern olds news held holds answer r = record { setting = r.setting; nodes = r.nodes; start = r.start; tallies = r.tallies; left = r.left }
+
+-- as many ports as the pipeline has
+pub ports_in : (p : Plan) (pattern : List ℕ) (first : EngineState) → IsFirst p pattern first → length first.setting.env.ports ≡ length p.env.ports
+ports_in p pattern first is = ap (λ (s : Setting). length s.env.ports) is.setting
+
+-- what went well: the run of packets, what was written of it, and its numbers
+pub record Done (p : Plan) (pattern : List ℕ) (held holds : List (Option (List ℕ))) (inputs : List Input) (r : Report) : Type 0 where
+  pub many : length inputs ≡ length p.env.ports
+  pub run : PacketRun p pattern (arrivals_of inputs)
+  pub wrote : AreGiven held holds (capture_text (unit_for (units_of inputs)) run.captures)
+  pub numbers : HasNumbers p pattern (arrivals_of inputs) run inputs (λ port. length (capture_at run.captures port)) r
+
+pub went_on : (p : Plan) (pattern : List ℕ) (first last : EngineState) (unit : TimeUnit) (olds news held mids holds : List (Option (List ℕ))) (inputs : List Input) (progress : List Progress) (r : Report)
+    → IsReady p pattern → IsFirst p pattern first → length mids ≡ length held → HeadersWritten unit held mids → Went unit first last olds news mids holds inputs
+    → map (λ (i : Input). i.state) inputs ≡ map (λ (x : Progress). x.state) progress → Tells last progress r → Done p pattern held holds inputs r
+went_on p pattern first last unit olds news held mids holds inputs progress r ready is many headers went states tells =
+    let (few_ports, few_rings, few_tables) = few p.env ready.limits in
+    let ports = ports_in p pattern first is in
+    let run = run_of p pattern first last (arrivals_of inputs) went.captures ready is went.run in
+    record {
+      many = went.inputs_many ∙ ports;
+      run = run;
+      wrote = subst (λ (u : TimeUnit). AreGiven held holds (capture_text u went.captures)) went.unit_is (given_all unit went.captures held mids holds many headers went.wrote);
+      numbers = numbers_told p pattern (arrivals_of inputs) run last progress inputs (λ port. length (capture_at went.captures port)) r few_ports few_rings (went.inputs_many ∙ ports) states
+          (counted_run p pattern first last (arrivals_of inputs) went.captures ready is went.run (went.many ∙ ports)) tells;
+    }
+
+-- all inputs were forwarded
+pub forwarded : (p : Plan) (pattern : List ℕ) (olds news held holds : List (Option (List ℕ))) (answer : Result Report RunFault) → IsReady p pattern → RanOn p pattern olds news held holds answer
+    → IfOk answer (Forwarded p pattern olds news held holds)
+forwarded p pattern olds news held holds (Ok r) ready ran = go ran.went
+  where
+    go : GoesForward ran.first ran.last olds news held holds ran.progress (Ok tt) → Forwarded p pattern olds news held holds r
+    go (inl fails) = absurd fails
+    go (inr made) =
+        let (inputs, states, went, over) = made.rounds in
+        let done = went_on p pattern ran.first ran.last made.unit olds news held made.mids holds inputs ran.progress r ready
+        (is_first p pattern olds news held holds (Ok r) ran) made.mids_many made.headers went states ran.tells in
+        record { room = ran.room; inputs = inputs; many = done.many; read = went.read; ended = over; run = done.run; wrote = done.wrote; numbers = done.numbers }
+forwarded p pattern olds news held holds (Err fault) ready ran = tt
+
+pub all_forwarded : (p : Plan) (pattern : List ℕ) (olds news held holds : List (Option (List ℕ))) (answer : Result Report RunFault) → IsReady p pattern → RunAnswers p pattern olds news held holds answer
+    → IfOk answer (Forwarded p pattern olds news held holds)
+all_forwarded p pattern olds news held holds answer ready (inl ran) = forwarded p pattern olds news held holds answer ready ran
+all_forwarded p pattern olds news held holds (Ok r) ready (inr unopened) = absurd unopened
+all_forwarded p pattern olds news held holds (Err fault) ready (inr unopened) = tt

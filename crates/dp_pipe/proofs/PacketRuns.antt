@@ -1,0 +1,111 @@
+-- A run of an engine is a run of packets: no node run in it is stuck, and its captures are those of copies.
+use Rattle.std.proofs.Common.{◌≡◌, ℕ, zero, suc, ◌+◌, ◌<◌, ◌≤◌, Bool, List, [], ◌∷◌, ◌++◌, length, map, replicate, Some, None, refl, sym, ◌∙◌, ap, subst, arith, zero-add}
+use Rattle.std.specs.Prelude.{slice_get}
+use Rattle.std.specs.Option.{option_map_or}
+use Rattle.std.specs.List.{AllZip}
+use Rattle.std.proofs.lemmas.List.{length-map}
+use Rattle.dp_pcap.specs.declared.time.Time.{Time}
+use Rattle.dp_model.specs.Environments.{Environment, fault_of}
+use Rattle.dp_model.specs.Machine.{Setting, World}
+use Rattle.dp_model.specs.Meaning.{TablesFit}
+use Rattle.dp_model.specs.Runs.{Nodes, Arrival, Outcome, Run}
+use Rattle.dp_model.specs.Safety.{IsPipeline}
+use Rattle.dp_model.specs.Starts.{IsStart}
+use Rattle.dp_model.proofs.SafeTurns.{safe_never_stuck}
+use Rattle.dp_model.proofs.SafeWhole.{start_rest, run_rest, run_runs_safe}
+use Rattle.dp_copies.proofs.Corollaries.{accepted_runs_copy}
+use Rattle.dp_engine.specs.declared.report.Tallies.{Tallies}
+use Rattle.dp_engine.specs.Drains.{captured}
+use Rattle.dp_engine.specs.Engines.{EngineState, no_tallies, tallies_at}
+use Rattle.dp_pipe.specs.Forwarding.{HasRun, capture_at, capture_of, tally_of}
+use Rattle.dp_pipe.specs.Headline.{PacketRun}
+use Rattle.dp_pipe.specs.Pipelines.{Plan}
+use Rattle.dp_pipe.specs.Running.{setting_in, programs_in}
+use Rattle.dp_pipe.proofs.Advancing.{mid_of}
+use Rattle.dp_pipe.proofs.Numbers.{IsCounted}
+
+-- a pipeline of checked programs, within the limits, whose tables are as its environment says
+pub record IsReady (p : Plan) (pattern : List ℕ) : Type 0 where
+  pub limits : fault_of p.env ≡ None
+  pub pipeline : IsPipeline (setting_in p pattern) (programs_in p)
+  pub tables : TablesFit (setting_in p pattern)
+
+abbrev pub packet_run : (p : Plan) (pattern : List ℕ) (arrivals : List (Arrival Time)) (first last : World) (told : List Bool) (outcomes : List Outcome) (captures : List (List (Time × List ℕ)))
+    → IsReady p pattern → IsStart p.env first → Run (setting_in p pattern) (programs_in p) arrivals first told outcomes captures last → PacketRun p pattern arrivals
+packet_run p pattern arrivals first last told outcomes captures ready start run = record {
+  first = first;
+  start = start;
+  told = told;
+  outcomes = outcomes;
+  captures = captures;
+  last = last;
+  run = run;
+  never_stuck = λ b of. safe_never_stuck (setting_in p pattern) b
+      (run_runs_safe (setting_in p pattern) (programs_in p) arrivals first b ready.pipeline (start_rest (setting_in p pattern) first ready.tables start) of);
+  copies = accepted_runs_copy (setting_in p pattern) (programs_in p) arrivals first last told outcomes captures ready.limits start run;
+}
+
+zip_length : {X Y : Type 0} (P : X → Y → Type 0) (xs : List X) (ys : List Y) → AllZip P xs ys → length ys ≡ length xs
+zip_length P [] [] all = refl
+zip_length P [] (y ∷ ys) all = absurd all
+zip_length P (x ∷ xs) [] all = absurd all
+zip_length P (x ∷ xs) (y ∷ ys) all = ap suc (zip_length P xs ys all.1)
+
+-- behind a run every ring is there
+pub rings_there : (p : Plan) (pattern : List ℕ) (arrivals : List (Arrival Time)) → IsReady p pattern → (run : PacketRun p pattern arrivals) → length run.last.rings ≡ length p.env.rings
+rings_there p pattern arrivals ready run =
+    let rest = run_rest (setting_in p pattern) (programs_in p) arrivals run.first run.last run.told run.outcomes run.captures ready.pipeline
+    (start_rest (setting_in p pattern) run.first ready.tables run.start) run.run in
+    zip_length _ p.env.rings run.last.rings rest.ready.world.rings
+
+-- an engine before its first turn
+pub record IsFirst (p : Plan) (pattern : List ℕ) (first : EngineState) : Type 0 where
+  pub setting : first.setting ≡ setting_in p pattern
+  pub nodes : first.nodes ≡ programs_in p
+  pub start : IsStart p.env first.world
+  pub tallies : first.tallies ≡ replicate 8 no_tallies
+  pub left : first.left ≡ replicate 8 0
+
+pub ran : (p : Plan) (pattern : List ℕ) (first last : EngineState) (arrivals : List (Arrival Time)) (captures : List (List (Time × List ℕ))) → IsFirst p pattern first → (r : HasRun first last arrivals captures)
+    → Run (setting_in p pattern) (programs_in p) arrivals first.world r.told r.outcomes captures last.world
+ran p pattern first last arrivals captures is r =
+    subst (λ (c : Setting). Run c (programs_in p) arrivals first.world r.told r.outcomes captures last.world) is.setting
+    (subst (λ (n : Nodes). Run first.setting n arrivals first.world r.told r.outcomes captures last.world) is.nodes r.run)
+
+-- what an engine ran
+abbrev pub run_of : (p : Plan) (pattern : List ℕ) (first last : EngineState) (arrivals : List (Arrival Time)) (captures : List (List (Time × List ℕ)))
+    → IsReady p pattern → IsFirst p pattern first → HasRun first last arrivals captures → PacketRun p pattern arrivals
+run_of p pattern first last arrivals captures ready is r =
+    packet_run p pattern arrivals first.world last.world r.told r.outcomes captures ready is.start (ran p pattern first last arrivals captures is r)
+
+-- no count is anything but 0 at first
+none_in : (n q : ℕ) → tallies_at (replicate n no_tallies) q ≡ no_tallies
+none_in zero q = refl
+none_in (suc n) zero = refl
+none_in (suc n) (suc q) = none_in n q
+
+pub none_at : (tallies : List Tallies) (q : ℕ) → tallies ≡ replicate 8 no_tallies → tallies_at tallies q ≡ no_tallies
+none_at tallies q is = ap (λ (l : List Tallies). tallies_at l q) is ∙ none_in 8 q
+
+-- how many records a port has sent
+pub sent_many : (captures : List (List (Time × List ℕ))) (q : ℕ) (sent : List (Time × List ℕ)) → slice_get captures q ≡ Some sent → length (capture_at captures q) ≡ length sent
+sent_many captures q sent at = ap (λ o. length (option_map_or capture_of o [])) at ∙ length-map sent captured
+
+-- what it counted
+pub counted_run : (p : Plan) (pattern : List ℕ) (first last : EngineState) (arrivals : List (Arrival Time)) (captures : List (List (Time × List ℕ)))
+    → (ready : IsReady p pattern) → (is : IsFirst p pattern first) → (r : HasRun first last arrivals captures) → length captures ≡ length p.env.ports
+    → IsCounted p pattern arrivals (run_of p pattern first last arrivals captures ready is r) last (λ q. length (capture_at captures q))
+counted_run p pattern first last arrivals captures ready is r many = record {
+  setting = ap (λ (e : EngineState). e.setting) r.stays ∙ is.setting;
+  tallies_many = r.each ∙ ap length is.tallies;
+  tallies = λ q less.
+      let (sent, at) = mid_of captures q (omega (arith, less, many)) in
+      r.tallies q sent at
+      ∙ ap (λ (t : Tallies). record (tally_of q arrivals r.outcomes t) { sent = t.sent + length sent }) (none_at first.tallies q is.tallies)
+      ∙ ap (λ n. record (tally_of q arrivals r.outcomes no_tallies) { sent = n }) (zero-add (length sent) ∙ sym (sent_many captures q sent at));
+  left = ap (λ (e : EngineState). e.left) r.stays ∙ is.left;
+  rings = refl;
+  rings_many = rings_there p pattern arrivals ready (run_of p pattern first last arrivals captures ready is r);
+  calls = refl;
+  cuts = refl;
+}
