@@ -1,0 +1,159 @@
+#!/usr/bin/env python3
+"""Keeps the table of docs/definitions.md that says, for each main promise, which definitions a reader has to believe.
+
+Usage: tests/believed.py [--write]
+A promise is the contract of a public function. It names definitions of specs/, these name others, and so on down to the
+library's own and to the types of the code. The table has for each promise the modules in which such definitions stand, and
+how many lines they are, comments and imports aside. Without --write it says where the table is not what is counted, and
+exits with 1; with --write it puts the table right."""
+import collections
+import dataclasses
+import pathlib
+import re
+import sys
+
+TOP = pathlib.Path(__file__).resolve().parent.parent
+PAGE = TOP / "docs" / "definitions.md"
+BEGIN, END = "<!-- believed: begin -->", "<!-- believed: end -->"
+# Each promise: its crate, the file below src/, the function, and what it promises in few words.
+PROMISES = (
+    ("dp_pipe", "running", "run", "captures to captures"),
+    ("dp_pipe", "loading", "load", "a pipeline is what its text says"),
+    ("dp_copies", "laws", "clones_are_copies", "clones are copies"),
+    ("dp_model", "laws", "accepted_programs_are_safe", "accepted programs are never stuck"),
+    ("dp_check", "checked", "check", "the checker is exact"),
+    ("dp_infer", "infer", "infer", "the inferrer is exact for programs that never jump back"),
+    ("dp_lang", "assembler", "assemble", "a text is read as the program that it spells"),
+    ("dp_cert", "decode", "decode", "a certificate is read exactly"),
+    ("dp_engine", "engine", "turn", "a turn of an engine is one of the buffer machine"),
+    ("dp_pcap", "source", "next_record", "a capture is read exactly"),
+    ("dp_heap", "heap", "malloc", "memory is taken where some free element fits"),
+)
+IMPORT = re.compile(r"^(?:ghost )?use Rattle\.([\w.]+?)(?:\.\{(.*)\}| as (\w+))?;?$", re.M)
+HEAD = re.compile(r"^(?:abbrev |unfoldable |pub )*(?:record |data )?(\w+)(?= |$)")
+WORD = re.compile(r"(?:(\w+)\.)?([A-Za-z_]\w*)")
+
+
+@dataclasses.dataclass
+class Module:
+    """A module of specs/: what its imports bring in, and its definitions, each a list of lines."""
+
+    names: dict[str, tuple[str, str]]
+    others: dict[str, str]
+    definitions: dict[str, list[str]]
+
+
+def imports_of(text: str) -> tuple[dict[str, tuple[str, str]], dict[str, str]]:
+    """The names that a text imports, with module and name there, and the modules that it names as a whole."""
+    names, others = {}, {}
+    for path, listed, other in IMPORT.findall(text):
+        for item in filter(None, (word.strip() for word in listed.split(","))):
+            there, _, here = item.partition(" as ")
+            names[here or there] = (path, there)
+        if not listed:
+            others[other or path.rsplit(".", 1)[-1]] = path
+    return names, others
+
+
+def definitions_of(text: str) -> dict[str, list[str]]:
+    """The definitions of a module: a name's clauses stand together, and what is set in belongs to the line above it."""
+    found: dict[str, list[str]] = collections.defaultdict(list)
+    name = None
+    for line in text.splitlines():
+        if not line.strip() or line.lstrip().startswith("--") or line.startswith(("use ", "pub mod ", "mod ")):
+            continue
+        if not line[0].isspace():
+            head = HEAD.match(line)
+            name = head.group(1) if head else name
+        if name is not None:
+            found[name].append(line)
+    return found
+
+
+def module_at(path: str, known: dict[str, Module | None]) -> Module | None:
+    """The module of this path where it is one of the repository's specs; else None, as for the library's and for types of the code."""
+    if path not in known:
+        crate, _, rest = path.partition(".specs.")
+        file = TOP / "crates" / crate / "specs" / (rest.replace(".", "/") + ".antt")
+        known[path] = None
+        if rest and file.is_file():
+            text = file.read_text()
+            known[path] = Module(*imports_of(text), definitions_of(text))
+    return known[path]
+
+
+def named_in(lines: list[str], here: str, module: Module) -> list[tuple[str, str]]:
+    """The definitions, each with its module, that these lines may name. A name that the module defines is its own."""
+    named = []
+    for line in lines:
+        for before, word in WORD.findall(line):
+            if before in module.others:
+                named.append((module.others[before], word))
+            elif before in module.definitions:
+                named.append((here, before))
+            elif word in module.definitions:
+                named.append((here, word))
+            elif word in module.names:
+                named.append(module.names[word])
+    return named
+
+
+def contract_of(crate: str, file: str, function: str) -> tuple[list[str], Module]:
+    """The lines of a function's contract, and what its file imports."""
+    folder = TOP / "crates" / crate / "src"
+    texts = [path.read_text() for path in (folder / f"{file}.rt", *sorted(folder.rglob("*.rt"))) if path.is_file()]
+    head = re.compile(rf"^ *pub fn {function}\b.*?^ *{{", re.M | re.S)
+    for text in texts:
+        found = head.search(text)
+        if found and "ensures" in found.group(0):
+            return found.group(0).splitlines(), Module(*imports_of(text), {})
+    raise SystemExit(f"believed: no contract of {crate}::{function}")
+
+
+def believed(crate: str, file: str, function: str, known: dict[str, Module | None]) -> dict[str, set[str]]:
+    """All definitions that a contract rests on, by module."""
+    lines, module = contract_of(crate, file, function)
+    found: dict[str, set[str]] = collections.defaultdict(set)
+    waiting = named_in(lines, "", module)
+    while waiting:
+        path, name = waiting.pop()
+        module = module_at(path, known)
+        if module is None or name in found[path] or name not in module.definitions:
+            continue
+        found[path].add(name)
+        waiting += named_in(module.definitions[name], path, module)
+    return {path: names for path, names in found.items() if names}
+
+
+def table() -> str:
+    """The table, a line for each promise."""
+    known: dict[str, Module | None] = {}
+    rows = ["| promise | contract of | lines | definitions | modules |", "|---|---|---|---|---|"]
+    for crate, file, function, words in PROMISES:
+        found = believed(crate, file, function, known)
+        lines = sum(len(known[path].definitions[name]) for path, names in found.items() for name in names)
+        crates: dict[str, list[str]] = collections.defaultdict(list)
+        for path in sorted(found):
+            crates[path.partition(".")[0]].append(path.rsplit(".", 1)[-1])
+        modules = "; ".join(f"{name}: {', '.join(parts)}" for name, parts in crates.items())
+        rows.append(f"| {words} | `{crate}::{function}` | {lines} | {sum(map(len, found.values()))} | {modules} |")
+    return "\n".join(rows)
+
+
+def main() -> int:
+    """Checks the page, or writes its table."""
+    text = PAGE.read_text()
+    before, _, rest = text.partition(BEGIN)
+    there, _, behind = rest.partition(END)
+    wanted = f"\n{table()}\n"
+    if there == wanted:
+        return 0
+    if "--write" not in sys.argv[1:]:
+        print("believed: the table in docs/definitions.md is not what is counted; tests/believed.py --write puts it right")
+        return 1
+    PAGE.write_text(before + BEGIN + wanted + END + behind)
+    return 0
+
+
+if __name__ == "__main__":
+    sys.exit(main())
