@@ -122,7 +122,7 @@ one_of p = Some p ∷ None ∷ None ∷ None ∷ None ∷ None ∷ None ∷ None
 
 pub ready_one : (home : Home) (p : PoolView) → IsReadyPool home p → AreReady (one_of p)
 ready_one home p r = record {
-  first = (record { pool = r.pool; header = let s = r.size in omega (arith, s); room = let s = r.size in omega (arith, s) }, (refl, (refl, (refl, (refl, (refl, (refl, tt)))))));
+  first = (let s = r.size in omega (arith, s), (refl, (refl, (refl, (refl, (refl, (refl, tt)))))));
   some = omega arith;
   few = omega arith;
   mbufs = let c = r.count in omega (arith, c);

@@ -3,7 +3,7 @@ use Rattle.std.specs.Prelude.{◌≡◌, ℕ, ◌≤◌, false, length, List, []
 use Rattle.dp_model.specs.Packets.{headroom, IsHeadSole}
 use Rattle.dp_model.specs.Stores.{Store, HasSome, segments_of}
 use Rattle.dp_region.specs.Ownership.{Home}
-use Rattle.dp_pool.specs.Pools.{PoolView, IsPool}
+use Rattle.dp_pool.specs.Pools.{PoolView}
 use Rattle.dp_mbuf.specs.Mbufs.{MbufsView}
 
 -- the packets and the pools are as before, in their zones; bytes that no packet has may differ
@@ -16,7 +16,6 @@ HasFront s h n = HasSome s h (λ k. (n ≤ headroom k) × IsHeadSole (segments_o
 
 -- a pool of mbufs with all in, in zones of the region
 pub record IsReadyPool (region : Home) (p : PoolView) : Type 0 where
-  pub pool : IsPool p
   pub size : p.size ≡ 2304
   pub count : length p.objects ≡ 400
   pub all_in : p.out ≡ replicate 400 false

@@ -176,7 +176,6 @@ fn make(heap: &mut Heap, zones: &mut Zones) -> Option<Pool>
     let Ok(pool) = Pool::make(heap, zones, "mbufs", OBJECTS, SIZE, CACHE) else {
         return None;
     };
-    let _count = pool.count();
     Some(pool)
 }
 

@@ -5,7 +5,7 @@ use Rattle.std.proofs.lemmas.Option.{none-some}
 use Rattle.dp_region.specs.Ownership.{Home}
 use Rattle.dp_ring.specs.Rings.{RingView}
 use Rattle.dp_pool.specs.Pools.{PoolZones, PoolView}
-use Rattle.dp_mbuf.specs.Objects.{present, zones_of, PoolsFirst}
+use Rattle.dp_mbuf.specs.Objects.{present, zones_of, HeadersFirst, PoolsFirst}
 use Rattle.dp_engine.specs.declared.space.Parts.{Parts}
 use Rattle.dp_engine.specs.Handles.{Frames, without_entries, frames_of}
 use Rattle.dp_engine.specs.Queues.{rings_in, RingsFirst}
@@ -60,6 +60,11 @@ pools_filled [] first = refl
 pools_filled (None ∷ slots) first = let none = none_filled slots first in omega arith
 pools_filled (Some p ∷ slots) first = let more = pools_filled slots first.1 in omega arith
 
+new_filled : (slots : List (Option PoolView)) → HeadersFirst slots → filled slots ≡ length (zones_of (present slots))
+new_filled [] first = refl
+new_filled (None ∷ slots) first = let none = none_filled slots first in omega arith
+new_filled (Some p ∷ slots) first = let more = new_filled slots first.1 in omega arith
+
 abbrev AreAt : Home → List RingView → Type 0
 AreAt home rings = AllByRecursion (λ (r : RingView). r.home ≡ home) (map without_entries rings)
 
@@ -97,14 +102,14 @@ pools_stay home (None ∷ slots) first all = (tt, no_pools home slots first)
 pools_stay home (Some p ∷ slots) first all = (all.0, pools_stay home slots first.1 all.1)
 
 -- what is laid out stands in the space
-pub stand_in : (space : SpaceView) (parts : Parts) → PoolsFirst parts.pools → RingsFirst parts.rings → RingsFirst parts.lists → PartsIn space.home parts
+pub stand_in : (space : SpaceView) (parts : Parts) → HeadersFirst parts.pools → RingsFirst parts.rings → RingsFirst parts.lists → PartsIn space.home parts
     → zones_in parts ≡ space.out
     → StandIn space (frames_of (zones_of (present parts.pools)) (rings_in parts.rings) (rings_in parts.lists))
 stand_in space parts pools rings lists (pools_here, rings_here, lists_here) out = record {
   pools = pools_at space.home parts.pools pools_here;
   rings = rings_at space.home parts.rings rings_here;
   outboxes = rings_at space.home parts.lists lists_here;
-  out = omega (arith, out, pools_filled parts.pools pools, rings_filled parts.rings rings, rings_filled parts.lists lists);
+  out = omega (arith, out, new_filled parts.pools pools, rings_filled parts.rings rings, rings_filled parts.lists lists);
 }
 
 -- and so does what comes back of it

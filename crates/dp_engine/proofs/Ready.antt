@@ -7,7 +7,7 @@ use Rattle.std.proofs.lemmas.List.Sums.{sum_by-cons}
 use Rattle.dp_region.specs.Ownership.{Home}
 use Rattle.dp_pool.specs.Pools.{PoolView}
 use Rattle.dp_model.specs.declared.env.PoolSpec.{PoolSpec}
-use Rattle.dp_mbuf.specs.Objects.{present, no_pool, spec_of, specs_of, HasRooms, PoolsFirst}
+use Rattle.dp_mbuf.specs.Objects.{present, no_pool, spec_of, specs_of, HeadersFirst}
 use Rattle.dp_mbuf.specs.Mbufs.{AreReady}
 use Rattle.dp_engine.specs.Spaces.{AreFilled, IsNewPool}
 
@@ -31,16 +31,13 @@ specs_are home (s ∷ specs) (Some p ∷ slots) are = let here = spec_is home s 
 present_count : (home : Home) (specs : List PoolSpec) (slots : List (Option PoolView)) → AreNew home specs slots → length (present slots) ≡ length specs
 present_count home specs slots are = sym (length-map (present slots) spec_of) ∙ ap length (specs_are home specs slots are)
 
-rooms : (home : Home) (s : PoolSpec) (p : PoolView) → IsNewPool home s p → HasRooms p
-rooms home s p new = let size = new.size in let room = new.room in record { pool = new.pool; header = omega arith; room = omega arith }
-
-first : (home : Home) (specs : List PoolSpec) (slots : List (Option PoolView)) → AreNew home specs slots → PoolsFirst slots
+first : (home : Home) (specs : List PoolSpec) (slots : List (Option PoolView)) → AreNew home specs slots → HeadersFirst slots
 first home [] [] are = tt
 first home [] (None ∷ slots) are = are.1
 first home [] (Some p ∷ slots) are = let no : Some p ≡ None = are.0 in absurd cc
 first home (s ∷ specs) [] are = absurd are
 first home (s ∷ specs) (None ∷ slots) are = absurd are.0
-first home (s ∷ specs) (Some p ∷ slots) are = (rooms home s p are.0, first home specs slots are.1)
+first home (s ∷ specs) (Some p ∷ slots) are = (let size = are.0.size in omega arith, first home specs slots are.1)
 
 counts : (home : Home) (specs : List PoolSpec) (slots : List (Option PoolView)) → AreNew home specs slots → sum_by (λ p. length p.objects) (present slots) ≡ sum_by (λ s. s.count) specs
 counts home [] slots are = ap (sum_by (λ p. length p.objects)) (none_present slots are)

@@ -3,7 +3,7 @@ use Rattle.std.specs.Prelude.{◌≡◌, ℕ, ◌+◌, ◌≤◌, false, if◌th
 use Rattle.std.specs.List.{AllByRecursion}
 use Rattle.dp_region.specs.Ownership.{Home}
 use Rattle.dp_ring.specs.Rings.{RingView}
-use Rattle.dp_pool.specs.Pools.{PoolView, IsPool}
+use Rattle.dp_pool.specs.Pools.{PoolView}
 use Rattle.dp_model.specs.declared.env.PoolSpec.{PoolSpec}
 
 -- what a contract sees of a space: its region, how many bytes that has, and how many zones are out
@@ -36,7 +36,6 @@ pub record IsNewRing (home : Home) (count : ℕ) (r : RingView) : Type 0 where
 
 -- a pool for mbufs as it is wanted, all of them in, in zones of the region
 pub record IsNewPool (home : Home) (s : PoolSpec) (p : PoolView) : Type 0 where
-  pub pool : IsPool p
   pub size : p.size ≡ s.room + 128
   pub room : s.room ≤ 4096
   pub count_is : length p.objects ≡ s.count

@@ -100,10 +100,7 @@ fn make(heap: &mut Heap, zones: &mut Zones, k: usize, spec: PoolSpec) -> Pool
 {
     let size = spec.room + 128;
     match Pool::make(heap, zones, pool_name(k), spec.count, size, spec.cache) {
-        Ok(pool) => {
-            let _ = pool.count();
-            pool
-        }
+        Ok(pool) => pool,
         Err(_) => unreachable!(),
     }
 }

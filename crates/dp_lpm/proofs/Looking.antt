@@ -1,6 +1,6 @@
 -- The deepest route that is at most so deep is the deepest of those that match.
 use Rattle.std.proofs.Common.{◌≡◌, ℕ, zero, suc, ◌-◌, ◌/◌, ◌^◌, ◌≤◌, Bool, true, false, cond, ◌&&◌, ◌||◌, List, [], ◌∷◌, Option, Some, None, refl, sym, ◌∙◌, ap, subst, arith, ⊎_elim}
-use Rattle.std.specs.Prelude.{◌==◌, Contains, option_map}
+use Rattle.std.specs.Prelude.{◌==◌, Contains, option_map, IfSome}
 use Rattle.std.specs.List.{list_any, AllByRecursion}
 use Rattle.std.specs.Option.{option_or}
 use Rattle.std.proofs.lemmas.Bool.{eq-eqb, eqb-true, cases_eq, cases_Bool}
@@ -123,3 +123,11 @@ is_table s kept = record {
 pub low_hops : (routes : List Route) → AllByRecursion IsRoute routes → AllByRecursion (λ route. route.hop ≤ 16777215) routes
 low_hops [] all = tt
 low_hops (r ∷ routes) all = (all.0.hop, low_hops routes all.1)
+
+-- what a look-up answers is no greater
+pub low_hop : (routes : List Route) (ip : ℕ) → AllByRecursion IsRoute routes → IfSome (hop_for routes ip) (λ hop. hop ≤ 16777215)
+low_hop routes ip all = subst (λ o. IfSome o (λ hop. hop ≤ 16777215)) (sym (hop_is routes ip 32)) (go (deepest_within 32 routes ip) refl)
+  where
+    go : (o : Option Route) → deepest_within 32 routes ip ≡ o → IfSome (option_map (λ r. r.hop) o) (λ hop. hop ≤ 16777215)
+    go None none = tt
+    go (Some r) found = (all_contains IsRoute routes r all (deepest_there 32 routes ip r found).0).hop

@@ -1,6 +1,6 @@
 // A table for longest prefixes.
 
-ghost use Rattle.std.specs.Prelude.{◌≡◌, ◌≤◌, [], length, IsTrue, ◌↔◌, None, Some, IfOk, OnOk, OnErr, IfErr};
+ghost use Rattle.std.specs.Prelude.{◌≡◌, ◌≤◌, [], length, IsTrue, ◌↔◌, None, Some, IfOk, IfSome, OnOk, OnErr, IfErr};
 ghost use Rattle.dp_model.specs.Prefixes.{hop_for, LooksUp};
 ghost use Rattle.dp_lpm.specs.Routes.{prefix_of, IsTableOfRoutes, Puts, Drops};
 ghost use Rattle.std.specs.List.{AllByRecursion};
@@ -63,10 +63,11 @@ impl Lpm {
         self.store.delete(ip, depth)
     }
 
-    /// The hop of the deepest rule whose prefix the address begins with.
+    /// The hop of the deepest rule whose prefix the address begins with. No hop is above 16,777,215.
     pub fn lookup(&self, ip: u32) -> Option<u32>
         ensures value { result ≡ hop_for self.now.routes ip }
         ensures deepest { LooksUp self.now.routes ip result }
+        ensures low { IfSome result (λ hop. hop ≤ 16777215) }
     {
         self.store.lookup(ip)
     }

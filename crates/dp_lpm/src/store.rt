@@ -1,6 +1,6 @@
 // A table of rules, and the entries of all addresses.
 
-ghost use Rattle.std.specs.Prelude.{◌≡◌, ℕ, ◌<◌, ◌≤◌, [], length, Some, None, IfOk, OnOk, OnErr, IfErr};
+ghost use Rattle.std.specs.Prelude.{◌≡◌, ℕ, ◌<◌, ◌≤◌, [], length, Some, None, IfOk, IfSome, OnOk, OnErr, IfErr};
 ghost use Rattle.dp_model.specs.Prefixes.{hop_for, LooksUp};
 ghost use Rattle.dp_lpm.specs.Faults.{add_fault, delete_fault, added};
 
@@ -53,6 +53,7 @@ impl Store {
         requires { IsKept self.now }
         ensures value { result ≡ hop_for (routes_in self.now) ip }
         ensures deepest { LooksUp (routes_in self.now) ip result }
+        ensures low { IfSome result (λ hop. hop ≤ 16777215) }
     {
         match self.table.entry_for(ip) {
             Entry::Hop { hop, .. } => Some(hop),

@@ -20,7 +20,8 @@ use Rattle.dp_mbuf.proofs.Edits.{all_at, hooked}
 use Rattle.dp_mbuf.proofs.InHand.{grown, nothing_at, zero_at}
 use Rattle.dp_mbuf.proofs.Taking.{free_from}
 use Rattle.dp_mbuf.proofs.Chaining.{joined, last_of_links}
-use Rattle.dp_mbuf.proofs.Live.{opened, get_some, settled, store_eq, last_mbuf_is}
+use Rattle.dp_mbuf.proofs.PoolLemmas.{get_some}
+use Rattle.dp_mbuf.proofs.Live.{opened, settled, store_eq, last_mbuf_is}
 use Rattle.dp_mbuf.proofs.Allocs.{get_there, free_in, pool_there}
 
 -- ---- the segments in hand in another order

@@ -20,3 +20,4 @@ pub mod Reading
 pub mod Filling
 pub mod Receiving
 pub mod Owned
+pub mod Parting

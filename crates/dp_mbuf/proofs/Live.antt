@@ -1,6 +1,6 @@
 -- What the headers say of a live packet, and what a call leaves of the store.
 use Rattle.std.proofs.Common.{◌≡◌, ℕ, zero, suc, ◌+◌, ◌-◌, ◌<◌, ◌≤◌, List, [], ◌∷◌, ◌++◌, length, Option, Some, None, refl, sym, ◌∙◌, ap, subst, arith, ⊎_elim, get_or, set}
-use Rattle.std.specs.Prelude.{slice_get, slice_set, replicate}
+use Rattle.std.specs.Prelude.{slice_set, replicate}
 use Rattle.std.specs.List.{AllByRecursion}
 use Rattle.std.proofs.lemmas.Bool.{cases_lt}
 use Rattle.std.proofs.lemmas.Option.{same_Some}
@@ -13,6 +13,7 @@ use Rattle.dp_mbuf.specs.declared.header.Header.{Header}
 use Rattle.dp_pool.specs.Pools.{PoolView}
 use Rattle.dp_mbuf.specs.Objects.{header_at, specs_of, buffers_of, HasObject, ArePools, HeaderSet}
 use Rattle.dp_mbuf.specs.Mbufs.{MbufsView, numbered, segment_at, slots_of, shown, mbufs, Linked, last_mbuf, Stands, StandsAt, Whole, Sound}
+use Rattle.dp_mbuf.proofs.PoolLemmas.{get_some}
 use Rattle.dp_mbuf.proofs.ObjectLemmas.{object_pool, room_is}
 use Rattle.dp_mbuf.proofs.Counting.{AllOf, all_slot, all_rest, slot_among, count_of}
 use Rattle.dp_mbuf.proofs.Links.{first_in, linked_at}
@@ -31,11 +32,6 @@ pub store_eq : (s t : Store) → s.pools ≡ t.pools → s.buffers ≡ t.buffers
 store_eq s t a b c =
     let m : (x : List PoolSpec) (y : Buffers) (z : List (Option Packet)) → Store = λ x y z. record { pools = x; buffers = y; slots = z } in
     ap (λ x. m x s.buffers s.slots) a ∙ (ap (λ y. m t.pools y s.slots) b ∙ ap (λ z. m t.pools t.buffers z) c)
-
-pub get_some : {X : Type 0} (xs : List X) (i : ℕ) (x d : X) → slice_get xs i ≡ Some x → get_or xs i d ≡ x
-get_some [] i x d e = cc
-get_some (y ∷ xs) zero x d e = same_Some y x e
-get_some (y ∷ xs) (suc i) x d e = get_some xs i x d e
 
 pub has_same : (v : Store) (h : ℕ) (k j : Packet) → Has v h k → Has v h j → k ≡ j
 has_same v h k j a b =

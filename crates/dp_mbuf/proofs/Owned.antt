@@ -1,5 +1,5 @@
 -- The world of an `Mbufs` is well formed.
-use Rattle.std.proofs.Common.{◌≡◌, ℕ, zero, suc, ◌+◌, ◌<◌, ◌≤◌, Bool, true, false, cond, List, [], ◌∷◌, length, sym, ◌∙◌, ap, subst, arith, ⊎_elim, map}
+use Rattle.std.proofs.Common.{◌≡◌, ℕ, zero, suc, ◌+◌, ◌<◌, ◌≤◌, Bool, true, false, cond, List, [], ◌∷◌, length, refl, sym, ◌∙◌, ap, subst, arith, ⊎_elim, map}
 use Rattle.std.specs.Prelude.{◌&&◌, not}
 use Rattle.std.specs.List.{AllByRecursion}
 use Rattle.std.proofs.lemmas.Bool.{cases_eq}
@@ -7,15 +7,16 @@ use Rattle.std.proofs.lemmas.List.Sums.{sum_by-cons}
 use Rattle.dp_model.specs.declared.env.PoolSpec.{PoolSpec}
 use Rattle.dp_model.specs.Environments.{count_at}
 use Rattle.dp_model.specs.Buffers.{Number, same_number, IsNumber, AreDistinct}
-use Rattle.dp_model.specs.Packets.{Segment, refs, AreOwned, IsWithin}
+use Rattle.dp_model.specs.Packets.{Segment, Packet, refs, AreOwned, IsWithin}
 use Rattle.dp_model.specs.Machine.{segments_held}
-use Rattle.dp_model.specs.Stores.{Store, segments_of}
+use Rattle.dp_model.specs.Stores.{Store, Has, segments_of}
 use Rattle.dp_pool.specs.Pools.{PoolView}
-use Rattle.dp_mbuf.specs.Objects.{specs_of}
+use Rattle.dp_mbuf.specs.Objects.{spec_of, specs_of, objects_in_all}
 use Rattle.dp_mbuf.specs.Mbufs.{mbufs, indirects, slots_of, shown, Sound, mbufs_in_all}
 use Rattle.dp_mbuf.proofs.PoolLemmas.{one_if}
 use Rattle.dp_mbuf.proofs.ObjectLemmas.{same_or, same_self}
 use Rattle.dp_mbuf.proofs.Counting.{mbufs-cons, mbufs_first, refs-cons, refs_le, indirects-cons}
+use Rattle.dp_mbuf.proofs.Live.{opened}
 use Rattle.dp_mbuf.proofs.Receiving.{buffer_long, are_bytes}
 
 apart_from : (n : Number) (ss : List Segment) → mbufs ss n ≡ 0 → AllByRecursion (λ m. same_number n m ≡ false) (map (λ s. s.mbuf) ss)
@@ -155,3 +156,17 @@ pub few_refs : (ps : List PoolView) (v : Store) → shown ps ≡ v → Sound ps 
 few_refs ps v e sound b =
     subst (λ s. refs (segments_of s) b ≤ mbufs_in_all s.pools) e
     (omega (arith, refs_le (segments_held (slots_of ps)) b, all_counted (specs_of ps) (segments_held (slots_of ps)) sound.counted.numbers, rows_few (mbufs (segments_held (slots_of ps))) 0 (specs_of ps) sound.counted.once))
+
+-- ---- so many mbufs
+
+mbufs_are : (ps : List PoolView) → mbufs_in_all (specs_of ps) ≡ objects_in_all ps
+mbufs_are [] = refl
+mbufs_are (p ∷ ps) =
+    let more = mbufs_are ps in
+    omega (arith, more, sum_by-cons (λ (s : PoolSpec). s.count) (spec_of p) (specs_of ps), sum_by-cons (λ (q : PoolView). length q.objects) p ps)
+
+pub few_mbufs : (ps : List PoolView) (v : Store) → shown ps ≡ v → objects_in_all ps ≤ 65535 → mbufs_in_all v.pools ≤ 65535
+few_mbufs ps v e few = let same = ap (λ s. mbufs_in_all s.pools) e in omega (arith, same, mbufs_are ps, few)
+
+pub one_to_64 : (ps : List PoolView) (v : Store) → shown ps ≡ v → Sound ps → (h : ℕ) (k : Packet) → Has v h k → (1 ≤ length k) × (length k ≤ 64)
+one_to_64 ps v e sound h k has = let stands = (opened ps v h k e sound has).stands in (stands.some, stands.few)

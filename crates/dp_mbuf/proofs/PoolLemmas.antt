@@ -26,6 +26,11 @@ some_below [] i x h = cc
 some_below (y ∷ xs) zero x h = omega arith
 some_below (y ∷ xs) (suc i) x h = let q = some_below xs i x h in omega (arith, q)
 
+pub get_some : {X : Type 0} (xs : List X) (i : ℕ) (x d : X) → slice_get xs i ≡ Some x → get_or xs i d ≡ x
+get_some [] i x d e = cc
+get_some (y ∷ xs) zero x d e = same_Some y x e
+get_some (y ∷ xs) (suc i) x d e = get_some xs i x d e
+
 -- ---- bytes
 
 abbrev pub Small : List ℕ → Type 0
@@ -74,6 +79,8 @@ pool_out p i b cached h = record {
   out = length-set p.out i b ∙ h.out;
   sizes = h.sizes;
   bytes = h.bytes;
+  size = h.size;
+  cache = h.cache;
 }
 
 pub pool_written : (p : PoolView) (i at : ℕ) (new : List ℕ) → IsPool p → i < length p.objects → at + length new ≤ p.size → Small new → IsPool (with_written p i at new)
@@ -94,6 +101,8 @@ pool_written p i at new h there fits small =
           (subst Small (sym (get_or-set_same p.objects i now [] there)) (small_overwritten (object_in p i) at new (h.bytes i) small)))
           (λ ne. subst Small (sym (get_or-set_other p.objects i j now [] ne)) (h.bytes j))
           (cases_eq j i);
+      size = h.size;
+      cache = (h.cache.0, omega (arith, h.cache.1, length-set p.objects i now));
     }
 
 -- ---- lists

@@ -8,7 +8,7 @@ use Rattle.dp_model.specs.Machine.{segments_held}
 use Rattle.dp_model.specs.Stores.{Store}
 use Rattle.dp_mbuf.specs.declared.header.Header.{Header}
 use Rattle.dp_pool.specs.Pools.{PoolZones, PoolView}
-use Rattle.dp_mbuf.specs.Objects.{header_at, is_out, specs_of, buffers_of, zones_of, present, PoolsFirst, ArePools, AreAllIn}
+use Rattle.dp_mbuf.specs.Objects.{header_at, is_out, specs_of, buffers_of, zones_of, present, objects_in_all, HeadersFirst, PoolsFirst, ArePools, AreAllIn}
 
 -- ---- what contracts see: a packet's handle is the number of its first mbuf
 
@@ -128,12 +128,12 @@ mbufs_in_all pools = sum_by (λ p. p.count) pools
 
 -- ---- making and unmaking
 
--- one to eight pools, of at most 65,535 objects in all, all of them in
+-- one to eight pools whose objects have room for a header, of at most 65,535 objects in all, all of them in
 pub record AreReady (pools : List (Option PoolView)) : Type 0 where
-  pub first : PoolsFirst pools
+  pub first : HeadersFirst pools
   pub some : 1 ≤ length (present pools)
   pub few : length (present pools) ≤ 8
-  pub mbufs : sum_by (λ p. length p.objects) (present pools) ≤ 65535
+  pub mbufs : objects_in_all (present pools) ≤ 65535
   pub all_in : AreAllIn (present pools)
 
 -- over these pools, with the bytes that stand behind the headers, and no packet

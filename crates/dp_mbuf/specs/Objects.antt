@@ -1,5 +1,5 @@
 -- What the objects of all pools hold: a header each, and the bytes behind it.
-use Rattle.std.specs.Prelude.{◌≡◌, ℕ, ◌+◌, ◌-◌, ◌<◌, ◌≤◌, ◌==◌, Bool, true, false, List, [], ◌∷◌, length, map, drop, Option, Some, None, slice_get, slice_index_or}
+use Rattle.std.specs.Prelude.{◌≡◌, ℕ, ◌+◌, ◌-◌, ◌<◌, ◌≤◌, ◌==◌, Bool, true, false, List, [], ◌∷◌, length, map, drop, sum_by, Option, Some, None, slice_get, slice_index_or}
 use Rattle.std.specs.List.{AllByRecursion}
 use Rattle.dp_model.specs.declared.env.PoolSpec.{PoolSpec}
 use Rattle.dp_model.specs.Buffers.{Number, same_number, Buffers, overwritten, written}
@@ -85,6 +85,20 @@ abbrev pub PoolsFirst : List (Option PoolView) → Type 0
 PoolsFirst [] = Unit {0}
 PoolsFirst (None ∷ pools) = AllByRecursion (λ o. o ≡ None) pools
 PoolsFirst (Some p ∷ pools) = HasRooms p × PoolsFirst pools
+
+-- the filled places come first, and their pools' objects have room for a header
+abbrev pub HeadersFirst : List (Option PoolView) → Type 0
+HeadersFirst [] = Unit {0}
+HeadersFirst (None ∷ pools) = AllByRecursion (λ o. o ≡ None) pools
+HeadersFirst (Some p ∷ pools) = (128 ≤ p.size) × HeadersFirst pools
+
+-- how many objects the pools have in all
+abbrev pub objects_in_all : List PoolView → ℕ
+objects_in_all pools = sum_by (λ p. length p.objects) pools
+
+-- eight places, of which the first have pools of mbufs, at most 65,535 in all
+abbrev pub ArePlaces : List (Option PoolView) → Type 0
+ArePlaces pools = (length pools ≡ 8) × PoolsFirst pools × (objects_in_all (present pools) ≤ 65535)
 
 -- at most eight pools of mbufs
 pub record ArePools (pools : List PoolView) : Type 0 where

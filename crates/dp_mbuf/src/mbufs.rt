@@ -68,11 +68,10 @@ fn last_header(objects: &Objects, packet: &Packet) -> Header
 
 // How many parts of at most `full` bytes there are, and one where there are no bytes.
 fn count_needed(len: usize, full: u16) -> usize
-    requires some { 1 ≤ full }
-    requires fits { len < 2 ^ 63 }
+    requires { 1 ≤ full }
     ensures { result ≡ max 1 ((len + (full - 1)) / full) }
 {
-    ((len + (full as usize - 1)) / full as usize).max(1)
+    len.div_ceil(full as usize).max(1)
 }
 
 // The number of a packet's `k`-th mbuf.
@@ -427,20 +426,24 @@ impl Mbufs {
     }
 
     /// How many buffers of the pool a packet of so many bytes needs.
-    pub fn needed(&self, pool: u32, len: u32) -> u32
+    pub fn needed(&self, pool: u32, len: usize) -> usize
         requires { 129 ≤ room_at self.now.store.pools pool }
         ensures { result ≡ needed self.now.store.pools pool len }
     {
         let full = self.objects.room(pool as u16) - 128;
-        count_needed(len as usize, full) as u32
+        count_needed(len, full)
     }
 
     /// What is true of every `Mbufs`, a law: the world of its packets is well formed, the segments lie within their
-    /// buffers, and no buffer has more references than there are mbufs.
+    /// buffers, no buffer has more references than there are mbufs, of which there are at most 65,535, and a packet has 1 to
+    /// 64 segments.
     pub fn is_well_formed(&self)
         ensures world { IsWellFormedStore self.now.store }
         ensures few { (b : Number) → refs (segments_of self.now.store) b ≤ mbufs_in_all self.now.store.pools }
+        ensures mbufs { mbufs_in_all self.now.store.pools ≤ 65535 }
+        ensures counts { (b : Number) → refs (segments_of self.now.store) b ≤ 65535 }
+        ensures sizes { (h : ℕ) → Of self.now.store h (λ k. (1 ≤ length k) × (length k ≤ 64)) }
     {
-        let _ = &self.objects;
+        self.objects.are_few();
     }
 }

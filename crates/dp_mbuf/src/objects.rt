@@ -1,11 +1,11 @@
 // The objects of all pools, each with a header and with bytes behind it.
 
-ghost use Rattle.std.specs.Prelude.{◌≡◌, ℕ, ◌<◌, ◌≤◌, ◌+◌, [], true, false, length, Some, None, slice_get, slice_index, replicate, MatchOption, IsTrue, ◌↔◌};
+ghost use Rattle.std.specs.Prelude.{◌≡◌, ℕ, ◌<◌, ◌≤◌, ◌+◌, [], true, false, length, Some, None, slice_get, slice_index, replicate, MatchOption, IfSome, IsTrue, ◌↔◌};
 ghost use Rattle.std.specs.List.{list_all};
 ghost use Rattle.dp_model.specs.Buffers.{bytes_of};
 ghost use Rattle.dp_model.specs.Environments.{room_at};
-ghost use Rattle.dp_pool.specs.Pools.{object_in, with_written, put_back};
-ghost use Rattle.dp_mbuf.specs.Objects.{present, pool_in, header_at, header_with, is_out, count_in, specs_of, buffers_of, HasObject, HasRooms, PoolsFirst, ArePools, HeaderSet, RoomWritten, Taken, Given, SlotHas, SlotFits, SlotIsOut, SlotBecomes, SlotGives, slot_count, slot_whole, AreAllIn};
+ghost use Rattle.dp_pool.specs.Pools.{PoolView, IsPool, object_in, with_written, put_back};
+ghost use Rattle.dp_mbuf.specs.Objects.{present, pool_in, header_at, header_with, is_out, count_in, specs_of, buffers_of, HasObject, HasRooms, HeadersFirst, PoolsFirst, objects_in_all, ArePools, HeaderSet, RoomWritten, Taken, Given, SlotHas, SlotFits, SlotIsOut, SlotBecomes, SlotGives, slot_count, slot_whole, AreAllIn};
 
 use crate::header::{Header, Place, bytes_of_header, bytes_of_word, bytes_of_words, read_header};
 use dp_pool::Pool;
@@ -17,15 +17,15 @@ pub(crate) struct Objects {
 }
 
 impl Model for Objects {
-    ghost use Rattle.std.specs.Prelude.{◌≡◌, List, length};
+    ghost use Rattle.std.specs.Prelude.{List};
     ghost use Rattle.dp_pool.specs.Pools.{PoolView};
-    ghost use Rattle.dp_mbuf.specs.Objects.{PoolsFirst, present};
+    ghost use Rattle.dp_mbuf.specs.Objects.{ArePlaces, present};
 
     ghost Value = { List PoolView };
 
     ghost view = { λ o. present o.pools };
 
-    ghost invariant = { λ o. (length o.pools ≡ 8) × PoolsFirst o.pools };
+    ghost invariant = { λ o. ArePlaces o.pools };
 }
 
 // The pool of this number.
@@ -113,15 +113,42 @@ fn get_in(slot: &mut Option<Pool>) -> Option<u16>
     }
 }
 
+// What is known of a place's pool, as of every pool.
+fn tell_pool(slot: &Option<Pool>)
+    ensures { IfSome slot.now IsPool }
+{
+    if let Some(pool) = slot {
+        let _count = pool.count();
+    }
+}
+
+// What is known of each of these places' pools.
+fn tell_pools(slots: &[Option<Pool>])
+    ensures { (k : ℕ) (p : PoolView) → slice_get slots.now k ≡ Some (Some p) → IsPool p }
+{
+    for slot in slots {
+        tell_pool(slot);
+    }
+}
+
 impl Objects {
     /// The objects of these pools.
     pub fn over(pools: [Option<Pool>; 8]) -> Objects
-        requires first { PoolsFirst pools }
+        requires first { HeadersFirst pools }
         requires few { length (present pools) ≤ 8 }
+        requires objects { objects_in_all (present pools) ≤ 65535 }
         ensures value { result ≡ present pools }
         ensures pools { ArePools result }
     {
+        tell_pools(&pools);
         Objects { pools }
+    }
+
+    /// A law: there are at most 65,535 objects in all.
+    pub fn are_few(&self)
+        ensures { objects_in_all self.now ≤ 65535 }
+    {
+        let _ = &self.pools;
     }
 
     /// The header of an object.

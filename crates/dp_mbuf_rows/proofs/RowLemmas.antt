@@ -8,7 +8,7 @@ use Rattle.dp_model.specs.Packets.{Segment, Packet, refs, IsTailSole, IsHeadSole
 use Rattle.dp_model.specs.Stores.{Store, HasSome, IsLive, Of, with_slot, Gives, Allocates, ReceivesInto, Clones, Chains}
 use Rattle.dp_region.specs.Ownership.{Home}
 use Rattle.dp_pool.specs.Pools.{PoolView}
-use Rattle.dp_mbuf.specs.Objects.{present, PoolsFirst, HasRooms, pool_in, zones_of}
+use Rattle.dp_mbuf.specs.Objects.{present, PoolsFirst, pool_in, zones_of}
 use Rattle.dp_mbuf.specs.Mbufs.{MbufsView, AreReady, IsNew, AreBack}
 use Rattle.dp_mbuf_rows.specs.Rows.{IsOver, AreIn, SlotIn, IsReadyPool}
 
@@ -45,19 +45,12 @@ none_out zero i = refl
 none_out (suc n) zero = refl
 none_out (suc n) (suc i) = none_out n i
 
-rooms_of : (count room : ℕ) (home : Home) (p : PoolView) → IsReadyPool count room home p → room ≤ 4096 → HasRooms p
-rooms_of count room home p r high = record {
-  pool = r.pool;
-  header = let s = r.size in omega (arith, s);
-  room = let s = r.size in omega (arith, s, high);
-}
-
 abbrev pub two_of : PoolView → PoolView → List (Option PoolView)
 two_of a b = Some a ∷ Some b ∷ None ∷ None ∷ None ∷ None ∷ None ∷ None ∷ []
 
-pub ready_two : (a b : PoolView) (m n x y : ℕ) (home home' : Home) → IsReadyPool m x home a → IsReadyPool n y home' b → m + n ≤ 65535 → x ≤ 4096 → y ≤ 4096 → AreReady (two_of a b)
-ready_two a b m n x y home home' ra rb few hx hy = record {
-  first = (rooms_of m x home a ra hx, (rooms_of n y home' b rb hy, (refl, (refl, (refl, (refl, (refl, tt)))))));
+pub ready_two : (a b : PoolView) (m n x y : ℕ) (home home' : Home) → IsReadyPool m x home a → IsReadyPool n y home' b → m + n ≤ 65535 → AreReady (two_of a b)
+ready_two a b m n x y home home' ra rb few = record {
+  first = (let s = ra.size in omega (arith, s), (let s = rb.size in omega (arith, s), (refl, (refl, (refl, (refl, (refl, tt)))))));
   some = omega arith;
   few = omega arith;
   mbufs = let c = ra.count in let d = rb.count in omega (arith, c, d, few);

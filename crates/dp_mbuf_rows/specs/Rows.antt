@@ -4,7 +4,7 @@ use Rattle.std.specs.List.{AllByRecursion}
 use Rattle.dp_model.specs.Environments.{room_at}
 use Rattle.dp_model.specs.Stores.{Store}
 use Rattle.dp_region.specs.Ownership.{Home}
-use Rattle.dp_pool.specs.Pools.{PoolZones, PoolView, IsPool}
+use Rattle.dp_pool.specs.Pools.{PoolZones, PoolView}
 
 -- there are two pools, with room for received bytes
 pub record IsOver (s : Store) : Type 0 where
@@ -22,7 +22,6 @@ SlotIn home (Some p) = p.zones.home ≡ home
 
 -- a pool of so many objects for mbufs with so much room, all of them in, in zones of the region
 pub record IsReadyPool (n room : ℕ) (region : Home) (p : PoolView) : Type 0 where
-  pub pool : IsPool p
   pub size : p.size ≡ room + 128
   pub count : length p.objects ≡ n
   pub all_in : p.out ≡ replicate n false

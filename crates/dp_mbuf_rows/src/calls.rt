@@ -23,7 +23,7 @@ pub(crate) fn receive(rt: &impl Abort, m: &mut Mbufs, pool: u32, bytes: &[u8]) -
     ensures zones { m.new.zones ≡ m.old.zones }
 {
     assert!(rt; bytes.len() < 262_145);
-    let need = m.needed(pool, bytes.len() as u32);
+    let need = m.needed(pool, bytes.len());
     assert!(rt; need <= 64);
     m.receive(pool, bytes)
 }

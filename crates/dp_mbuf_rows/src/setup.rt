@@ -40,9 +40,7 @@ fn make(rt: &impl Abort, heap: &mut Heap, zones: &mut Zones, name: &str, sizes: 
         sizes.room + 128,
         sizes.cache,
     );
-    let pool = made.expect(rt, "a pool");
-    let _ = pool.count();
-    pool
+    made.expect(rt, "a pool")
 }
 
 /// Mbufs over two pools of these sizes.

@@ -39,9 +39,9 @@ small_objects bytes size place zero small i k = omega arith
 small_objects bytes size place (suc n) small zero k = small_take size (drop place bytes) (small_drop place bytes small) k
 small_objects bytes size place (suc n) small (suc i) k = small_objects bytes size (place + stride_of size) n small i k
 
-pub is_pool : (size cache cached n : ℕ) (bytes : List ℕ) (out : List Bool) (zones : PoolZones) → length out ≡ n → 1 ≤ n → n ≤ 65535 → n * stride_of size ≤ length bytes → ((k : ℕ) → slice_index bytes k < 256)
+pub is_pool : (size cache cached n : ℕ) (bytes : List ℕ) (out : List Bool) (zones : PoolZones) → length out ≡ n → 1 ≤ n → n ≤ 65535 → n * stride_of size ≤ length bytes → ((k : ℕ) → slice_index bytes k < 256) → (1 ≤ size) × (size ≤ 4224) → (cache ≤ 512) × (3 * cache ≤ 2 * n)
     → IsPool (record { size = size; cache = cache; cached = cached; objects = objects_from bytes size 0 n; out = out; zones = zones })
-is_pool size cache cached n bytes out zones long some few room small =
+is_pool size cache cached n bytes out zones long some few room small sizes caches =
     let objects = length-objects bytes size 0 n in
     record {
       some = omega (arith, objects, some);
@@ -49,6 +49,8 @@ is_pool size cache cached n bytes out zones long some few room small =
       out = long ∙ sym objects;
       sizes = λ i less. let low : i < n = omega (arith, less, objects) in ap length (object_is bytes size 0 n i low) ∙ length-bytes_in bytes (object_place size 0 i) size (object_fits bytes size n i low room);
       bytes = small_objects bytes size 0 n small;
+      size = sizes;
+      cache = (caches.0, omega (arith, objects, caches.1));
     }
 
 -- the product of a place's number and the part of each object is its place

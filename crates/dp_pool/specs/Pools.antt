@@ -76,6 +76,8 @@ pub record IsPool (p : PoolView) : Type 0 where
   pub out : length p.out ≡ length p.objects
   pub sizes : (i : ℕ) → i < length p.objects → length (object_in p i) ≡ p.size
   pub bytes : (i k : ℕ) → slice_index (object_in p i) k < 256
+  pub size : (1 ≤ p.size) × (p.size ≤ 4224)
+  pub cache : (p.cache ≤ 512) × (3 * p.cache ≤ 2 * length p.objects)
 
 -- ---- how the objects stand in their zone
 

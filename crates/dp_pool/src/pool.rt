@@ -55,7 +55,8 @@ impl Model for Pool {
     } };
 
     ghost invariant = { λ p. (length p.indexes.out ≡ p.count) × (1 ≤ p.count) × (p.count ≤ 65535) × (1 ≤ p.size) × (p.size ≤ 4224)
-        × (p.stride ≡ stride_of p.size) × (p.count * stride_of p.size ≤ length p.objects.bytes) × (p.indexes.home ≡ p.objects.home) };
+        × (p.stride ≡ stride_of p.size) × (p.count * stride_of p.size ≤ length p.objects.bytes) × (p.indexes.home ≡ p.objects.home)
+        × (p.indexes.cache ≤ 512) × (3 * p.indexes.cache ≤ 2 * p.count) };
 }
 
 // Where an object begins in the zone of so many, each of which takes so many bytes.

@@ -1,7 +1,8 @@
 -- Tables of zones and their entries.
-use Rattle.std.proofs.Common.{◌≡◌, ℕ, zero, suc, ◌<◌, length, arith, Bool, true, false, ◌||◌, cond, List, [], ◌∷◌, Option, Some, None, find, option_map, refl, sym, ap, ◌∙◌}
+use Rattle.std.proofs.Common.{◌≡◌, ℕ, zero, suc, ◌<◌, length, arith, Bool, true, false, ◌||◌, cond, List, [], ◌∷◌, Option, Some, None, find, position, option_map, refl, sym, ap, ◌∙◌}
 use lib.ListN.{get_or}
 use Rattle.std.proofs.lemmas.Bool.{false≢true, true≢false, or_parts}
+use Rattle.std.proofs.lemmas.List.Quantifiers.{position-Some}
 use Rattle.std.specs.List.{list_any, remove}
 use Rattle.dp_zone.specs.declared.zones.Entry.{Entry}
 use Rattle.dp_zone.specs.Names.{same_name}
@@ -48,6 +49,11 @@ table_without name d (e ∷ entries) zero less named others = cond_true (same_na
 table_without name d (e ∷ entries) (suc k) less named others =
     ap (λ table. entry_of e ∷ table) (table_without name d entries k (omega (arith, less)) named (λ j before. others (suc j) (omega (arith, before))))
     ∙ cond_false (same_name e.name.bytes name) (table_of entries) (entry_of e ∷ without_name name (table_of entries)) (others 0 (omega arith))
+
+pub table_removed : (name : List ℕ) (d : Entry) (entries left : List Entry) (k : ℕ) → position (λ e. same_name e.name.bytes name) entries ≡ Some k → left ≡ remove entries k → table_of left ≡ without_name name (table_of entries)
+table_removed name d entries left k at is =
+    let known = position-Some (λ (e : Entry). same_name e.name.bytes name) entries k d at in
+    ap table_of is ∙ table_without name d entries k known.0 known.1 known.2
 
 -- a table without the name stays
 pub table_stays : (name : List ℕ) (entries : List Entry) → list_any (λ e. same_name e.name.bytes name) entries ≡ false → table_of entries ≡ without_name name (table_of entries)

@@ -1,5 +1,5 @@
 -- Zones: what a contract sees of one, and of the table of those that are reserved.
-use Rattle.std.specs.Prelude.{◌≡◌, refl, ℕ, ◌<◌, ◌≤◌, Bool, true, false, List, [], ◌∷◌, ◌++◌, length, take, drop, Option, find, if◌then◌else◌}
+use Rattle.std.specs.Prelude.{◌≡◌, refl, ℕ, ◌<◌, ◌≤◌, Bool, true, false, List, [], ◌∷◌, length, Option, find, if◌then◌else◌}
 use Rattle.std.specs.List.{list_any}
 use Rattle.std.specs.Coded.{Coded, code_by, coded×, coded_list, coded_ℕ}
 use Rattle.dp_region.specs.Ownership.{Home, home_code}
@@ -58,6 +58,16 @@ zone_named name table = find (is_named name) table
 abbrev pub without_name : List ℕ → List Reserved → List Reserved
 without_name name [] = []
 without_name name (r ∷ rs) = if is_named name r then rs else r ∷ without_name name rs
+
+-- of each name one zone at most
+abbrev pub AreApart : List Reserved → Type 0
+AreApart [] = Unit {0}
+AreApart (r ∷ rs) = (has_name r.name rs ≡ false) × AreApart rs
+
+-- what every table is
+pub record IsZoneTable (table : List Reserved) : Type 0 where
+  pub few : length table ≤ 64
+  pub apart : AreApart table
 
 -- what a look-up tells of it
 abbrev pub info_of : Reserved → ZoneInfo

@@ -1,12 +1,12 @@
 //! The table of zones.
 
-ghost use Rattle.std.specs.Prelude.{◌≡◌, ◌+◌, ◌<◌, ◌≤◌, ◌&&◌, List, [], ◌∷◌, ◌++◌, length, Contains, IfOk, IfErr, IfSome, IfNone, OnOk, OnErr, MatchResult, find, position, option_map, true, false};
+ghost use Rattle.std.specs.Prelude.{◌≡◌, ◌+◌, ◌<◌, ◌≤◌, ◌&&◌, List, [], ◌∷◌, ◌++◌, length, Contains, IfOk, IfErr, IfSome, IfNone, OnOk, OnErr, MatchResult, find, position, option_map, None, true, false};
 ghost use Rattle.std.specs.List.{list_any};
 ghost use Rattle.dp_heap.specs.declared.elements.Element.{Element};
 ghost use Rattle.dp_heap.specs.Elements.{rounded, alignment, Taken, merged, IsOut, count_of, is_busy};
 ghost use Rattle.dp_zone.specs.Names.{same_name};
 ghost use Rattle.dp_zone.specs.Entries.{table_of};
-ghost use Rattle.dp_zone.specs.Zones.{Reserved, info_of, reserved_of, is_named, has_name, zone_named, without_name, IsZoneRefused, IsReservable};
+ghost use Rattle.dp_zone.specs.Zones.{Reserved, info_of, reserved_of, is_named, has_name, zone_named, without_name, IsZoneRefused, IsReservable, IsZoneTable};
 
 use crate::error::ZoneError;
 use crate::name::{ZoneName, is_name};
@@ -74,12 +74,14 @@ pub struct Zones {
 
 impl Model for Zones {
     ghost use Rattle.std.specs.Prelude.{List};
-    ghost use Rattle.dp_zone.specs.Zones.{Reserved};
+    ghost use Rattle.dp_zone.specs.Zones.{Reserved, AreApart};
     ghost use Rattle.dp_zone.specs.Entries.{table_of};
 
     ghost Value = { List Reserved };
 
     ghost view = { λ z. table_of z.entries.items };
+
+    ghost invariant = { λ z. AreApart (table_of z.entries.items) };
 }
 
 impl Zones {
@@ -90,6 +92,14 @@ impl Zones {
         Zones {
             entries: ArrayVec::new(),
         }
+    }
+
+    /// How many zones there are: at most 64, each of a name of its own.
+    pub fn count(&self) -> usize
+        ensures value { result ≡ length self.now }
+        ensures table { IsZoneTable self.now }
+    {
+        self.entries.len()
     }
 
     // Whether there is a zone of that name.
@@ -139,7 +149,8 @@ impl Zones {
 
     // Takes the zone of that name out of the table.
     fn forget(&mut self, name: &str)
-        ensures { self.new ≡ without_name name.now self.old }
+        ensures table { self.new ≡ without_name name.now self.old }
+        ensures gone { zone_named name.now self.new ≡ None }
     {
         if let Some(place) = place_of(self.entries.as_slice(), name) {
             self.entries.remove(place);
@@ -184,11 +195,13 @@ impl Zones {
         }
     }
 
-    /// Gives a zone of that heap back: its name is free again, and its bytes are the heap's.
+    /// Gives a zone of that heap back: its name is free again, so that no zone of that name is found, and its bytes are
+    /// the heap's.
     pub fn give_back(&mut self, heap: &mut Heap, zone: Zone)
         requires { zone.home ≡ heap.old.home }
         ensures was_out { IsOut zone.place heap.old.elements }
         ensures table { self.new ≡ without_name zone.name self.old }
+        ensures gone { zone_named zone.name self.new ≡ None }
         ensures heap { heap.new ≡ record { home = heap.old.home; elements = merged zone.place heap.old.elements } }
         ensures counted { count_of is_busy heap.new.elements + 1 ≡ count_of is_busy heap.old.elements }
     {

@@ -4,7 +4,7 @@ use Rattle.dp_mbuf_rows.proofs.setup.open.Goals as goal
 
 pub over-mbufs-requires : goal.over-mbufs-requires
 over-mbufs-requires g c =
-    ready_two c.make-one.result c.make-two.result c.args.first.count c.args.second.count c.args.first.room c.args.second.room _ _ c.make-one.ensures.pool c.make-two.ensures.pool c.requires.few c.requires.first.2 c.requires.second.1
+    ready_two c.make-one.result c.make-two.result c.args.first.count c.args.second.count c.args.first.room c.args.second.room _ _ c.make-one.ensures.pool c.make-two.ensures.pool c.requires.few
 
 pub returns-clause-over : goal.returns-clause-over
 returns-clause-over g c =

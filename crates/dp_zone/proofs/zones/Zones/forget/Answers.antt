@@ -1,13 +1,21 @@
 -- The entry goes that has the name, if one has.
-use Rattle.std.proofs.Common.{◌≡◌, position, Some, None, sym, ap, ◌∙◌}
-use Rattle.std.proofs.lemmas.List.Quantifiers.{position-Some}
+use Rattle.std.proofs.Common.{◌≡◌, position, Some, None, sym, ap, subst, ◌∙◌}
 use Rattle.dp_zone.specs.declared.zones.Entry.{Entry}
 use Rattle.dp_zone.specs.Names.{same_name}
-use Rattle.dp_zone.specs.Zones.{without_name}
+use Rattle.dp_zone.specs.Zones.{AreApart, zone_named, without_name}
 use Rattle.dp_zone.specs.Entries.{table_of}
+use Rattle.dp_zone.proofs.Apart.{apart_without, gone_without}
 use Rattle.dp_zone.proofs.Positions.{none_from_position}
-use Rattle.dp_zone.proofs.Tables.{table_without, table_stays}
+use Rattle.dp_zone.proofs.Tables.{table_removed, table_stays}
 use Rattle.dp_zone.proofs.zones.Zones.forget.Goals as goal
+
+pub invariant_of-self : goal.invariant_of-self
+invariant_of-self c =
+    let name = c.args.name.now in
+    let entries = c.self.inside.entries.items in
+    let at : position (λ e. same_name e.name.bytes name) entries ≡ Some c.in-Some.place =
+    ap (λ es. position (λ e. same_name e.name.bytes name) es) (sym c.as_slice.ensures.value) ∙ (sym c.place_of.ensures ∙ c.in-Some.is) in
+    subst AreApart (sym (table_removed name c.remove.result entries _ c.in-Some.place at c.remove.ensures.items)) (apart_without name (table_of entries) c.self.invariant)
 
 pub returns-in-Some : goal.returns-in-Some
 returns-in-Some c =
@@ -15,10 +23,11 @@ returns-in-Some c =
     let entries = c.self.inside.entries.items in
     let at : position (λ e. same_name e.name.bytes name) entries ≡ Some c.in-Some.place =
     ap (λ es. position (λ e. same_name e.name.bytes name) es) (sym c.as_slice.ensures.value) ∙ (sym c.place_of.ensures ∙ c.in-Some.is) in
-    let known = position-Some (λ (e : Entry). same_name e.name.bytes name) entries c.in-Some.place c.remove.result at in
-    ap table_of c.remove.ensures.items
-    ∙ (table_without name c.remove.result entries c.in-Some.place known.0 known.1 known.2
-    ∙ ap (λ table. without_name name table) c.self.view_is)
+    let left = table_removed name c.remove.result entries _ c.in-Some.place at c.remove.ensures.items in
+    record {
+      table = left ∙ ap (λ table. without_name name table) c.self.view_is;
+      gone = ap (λ table. zone_named name table) left ∙ gone_without name (table_of entries) c.self.invariant;
+    }
 
 pub returns-in_default : goal.returns-in_default
 returns-in_default c =
@@ -26,6 +35,10 @@ returns-in_default c =
     let entries = c.self.inside.entries.items in
     let none : position (λ e. same_name e.name.bytes name) entries ≡ None =
     ap (λ es. position (λ e. same_name e.name.bytes name) es) (sym c.as_slice.ensures.value) ∙ (sym c.place_of.ensures ∙ c.in_default.is) in
-    sym c.self.view_is
+    let left = sym c.self.view_is
     ∙ (table_stays name entries (none_from_position (λ (e : Entry). same_name e.name.bytes name) entries none)
-    ∙ ap (λ table. without_name name table) c.self.view_is)
+    ∙ ap (λ table. without_name name table) c.self.view_is) in
+    record {
+      table = left;
+      gone = ap (λ table. zone_named name table) left ∙ gone_without name c.args.self.now (subst AreApart c.self.view_is c.self.invariant);
+    }
