@@ -16,7 +16,7 @@ class Answer(NamedTuple):
     printed: str
     told: str
     written: dict[str, bytes] = {}
-    steps: int = 0
+    records: int = 0
 
 
 class Disk:
@@ -118,7 +118,7 @@ def forward(pipeline: pipelines.Pipeline, disk: Disk, pattern: frozenset[int]) -
     done = run(world, [Input(source.records, source.ending) for source in sources])
     written = {node.writes: captures.written(nano, sent) for node, sent in zip(ports, done.sent)}
     told = "" if done.fault is None else done.fault + "\n"
-    return Answer(3 if told else 0, done.report, told, written, world.steps)
+    return Answer(3 if told else 0, done.report, told, written, sum(map(len, done.sent)))
 
 
 def one(disk: Disk, node: str, cert: str, reads: str, writes: str) -> Answer:
