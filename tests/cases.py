@@ -10,7 +10,7 @@ from dataclasses import dataclass, field
 from random import Random
 from typing import Any
 
-from model import captures, pipelines, programs, rules
+from model import captures, heap, pipelines, programs, rules
 from model.answers import ONE
 from model.machine import BIGGEST, Env, Instr, Number, Pool, Port, Ring
 
@@ -69,7 +69,7 @@ class Writer:
         behind = [label for label, row in self.heads.items() if rules.entails(known, row)]
         if behind and self.rng.random() < 0.5:
             return self.rng.choice(behind)
-        ahead = [label for label, row in self.waiting.items() if rules.common(row, known)]
+        ahead = [label for label, row in self.waiting.items() if rules.are_held_alike(row, known)]
         label = self.rng.choice(ahead) if ahead and self.rng.random() < 0.7 else -1 - len(self.waiting) - len(self.placed)
         self.waiting[label] = rules.common(self.waiting.get(label, known), known)
         return label
@@ -177,7 +177,7 @@ class Writer:
         self.emit("enq", p, ring)
 
     def move_place(self, _p: int | None) -> None:
-        fitting = [label for label, row in self.waiting.items() if rules.common(row, self.row)]
+        fitting = [label for label, row in self.waiting.items() if rules.are_held_alike(row, self.row)]
         if fitting:
             self.put_label(self.rng.choice(fitting), True)
 
@@ -207,7 +207,7 @@ class Writer:
         """Sends or frees what is held, on each path."""
         while True:
             while self.held():
-                if self.rng.random() < 0.7 and len(self.waiting) < 12 and len(self.code) < 200:
+                if self.rng.random() < 0.6 and len(self.waiting) < 6 and len(self.code) < 40:
                     self.move_tx(self.rng.choice(self.held()))
                 else:
                     self.emit("free", self.rng.choice(self.held()))
@@ -215,7 +215,7 @@ class Writer:
             if not self.waiting:
                 return
             self.next_part()
-            for label in [label for label, row in self.waiting.items() if rules.common(row, self.row)]:
+            for label in [label for label, row in self.waiting.items() if rules.are_held_alike(row, self.row)]:
                 self.put_label(label, True)
 
     def written(self, moves: int) -> tuple[list[Instr], rules.Rows]:
@@ -231,7 +231,7 @@ class Writer:
 
 def program(rng: Random, env: Env, place: int) -> tuple[list[Instr], rules.Rows]:
     """A program that is accepted at a port or ring, and rows that it is accepted with."""
-    return Writer(rng, env, place).written(rng.choice((1, 3, 6, 10, 20, 40)))
+    return Writer(rng, env, place).written(rng.choice((1, 2, 3, 4, 6, 6, 10, 10, 16, 40)))
 
 
 def any_operand(rng: Random, kind: str, size: int) -> int:
@@ -401,9 +401,9 @@ def env_of(rng: Random, tables: list[dict[str, Any]]) -> Env:
     usable = [k for k, pool in enumerate(pools) if pool.room >= 129]
     ports = [
         Port(rng.choice(usable), rng.choice((1, 1, 1, 2, 3, 4, 64)), rng.choice((2, 4, 4, 8, 32)))
-        for _ in range(rng.choice((1, 1, 2, 2, 3, 8)))
+        for _ in range(rng.choice((1,) * 12 + (2,) * 12 + (3, 3, 4, 8)))
     ]
-    rings = [Ring(rng.choice((2, 4, 4, 8)), fact_of_ring(rng)) for _ in range(rng.choice((0, 0, 1, 1, 2, 3, 8)))]
+    rings = [Ring(rng.choice((2, 4, 4, 8)), fact_of_ring(rng)) for _ in range(rng.choice((0,) * 12 + (1,) * 12 + (2, 2, 3, 8)))]
     known = [pipelines.routes(table) for table in tables]
     return Env(pools, [{} if isinstance(table, str) else table for table in known], rings, ports)
 
@@ -456,16 +456,18 @@ def spoiled(rng: Random, data: bytes, order: str, units: int) -> bytes:
 
 
 def heap_script(rng: Random) -> bytes:
-    """A heap script."""
+    """A heap script, most of whose commands are none that is refused."""
     region = rng.choice((4096, 4096, 4160, 8192, 65_536, 1 << 20))
-    lines, given = [f"region {region}"], 0
+    lines, played = [f"region {region}"], heap.Heap(region)
     for _ in range(rng.choice((3, 10, 40))):
-        size = rng.choice((0, 1, 63, 64, 65, 100, 128, 192, 256, 1000, region - 64, region - 192, rng.randrange(region + 100)))
-        align = rng.choice((0, 0, 1, 64, 128, 256, 1024, 4096, 96, rng.randrange(300), 1 << 31))
-        call = f"{rng.choice(('malloc', 'zmalloc'))} {rng.choice((size, rng.randrange(600)))} {align}"
-        line = rng.choice((call, call, f"free {rng.randrange(1, given + 2)}", "list", "stats"))
-        given += line == call
-        lines.append(line)
+        edge = rng.choice((0, 1, 63, 64, 65, 100, 128, 192, 256, 1000, region - 64, region - 192, rng.randrange(region + 100)))
+        size = rng.choice((edge, rng.randrange(600), 64 * rng.randrange(1, 9)))
+        align = rng.choice((0, 0, 0, 1, 64, 128, 256, 1024, 4096, 96, rng.randrange(300), 1 << 31))
+        held = rng.choice(list(played.held) or [1]) if rng.random() < 0.99 else played.given + 1
+        line = rng.choice((f"malloc {size} {align}", f"zmalloc {size} {align}", f"free {held}", f"free {held}", "list", "stats"))
+        if not line.startswith("free") or held in played.held or rng.random() < 0.01:
+            heap.command(played, line.encode(), [])
+            lines.append(line)
     text = "\n".join(lines).encode() + b"\n" * rng.randrange(2)
     return changed_bytes(rng, text) if rng.random() < 0.2 else text
 
@@ -481,7 +483,7 @@ class Parts:
 
 def node_files(rng: Random, parts: Parts, place: int, sound: bool) -> dict[str, str]:
     """Makes the program of a node and its certificate, if one is named, and answers the keys that name them."""
-    wrong = rng.randrange(4) if not sound and rng.random() < 0.4 else -1
+    wrong = rng.choice((0, 0, 0, 1, 2, 2, 2, 3)) if not sound and rng.random() < 0.4 else -1
     code, rows = program(rng, parts.env, place)
     if wrong == 0:
         code = [any_instr(rng, 6) for _ in range(6)] if rng.random() < 0.3 else changed_program(rng, code)
@@ -626,7 +628,7 @@ def make_check(rng: Random) -> Case:
 def make_infer(rng: Random) -> Case:
     """`dpv infer`."""
     parts = pipeline_files(rng, rng.random() < 0.6)
-    which = rng.choice(("port", "port", "ring")) + str(rng.choice((0, 0, 1, 2, 9)))
+    which = rng.choice(("port",) * 4 + ("ring",)) + str(rng.choice((0,) * 9 + (1, 1, 2, 9)))
     return Case("infer", ["infer", "it.toml", which], parts.files, ["folder"])
 
 

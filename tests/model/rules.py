@@ -1,4 +1,5 @@
 """Rows of certificates, what is known after each instruction, and the rules that the checker asks (docs/certificate.md)."""
+import struct
 from collections.abc import Iterator
 from typing import NamedTuple
 
@@ -7,6 +8,8 @@ from .machine import BIGGEST, HEADROOM, Env, Instr, Number
 MOST_LENGTH = 65_535
 MOST_SEGMENTS = 64
 HIGHEST_HOP = 16_777_215
+SHARES = (0, 1, 2, *range(8, 16))
+ROW = struct.Struct(">B" + "BBHHHHB" * 8 + "8Q")
 TARGETS = {"alloc": 1, "clone": 1}
 PLACES = {"alloc": (1, "pools"), "clone": (2, "pools"), "lookup": (1, "tables"), "enq": (1, "rings")}
 
@@ -52,6 +55,11 @@ def is_well_formed(row: Row) -> bool:
     return all(len(group(row, share)) >= 2 and group(row, share)[0] == share - 8 for share in shares)
 
 
+def are_held_alike(row: Row, other: Row) -> bool:
+    """Whether the same registers hold packets in two rows, so that they have something in common."""
+    return [fact is None for fact in row.facts] == [fact is None for fact in other.facts]
+
+
 def entails_share(share: int, other: int) -> bool:
     """Whether a share says as much as another."""
     return other == 0 or share == other or (share, other) == (2, 1)
@@ -70,7 +78,7 @@ def entails(row: Row | None, other: Row | None) -> bool:
     if row is None or other is None:
         return False
     shares = {fact.share for fact in other.facts if fact is not None and fact.share >= 8}
-    return (
+    return row == other or (
         all(map(entails_fact, row.facts, other.facts))
         and all(mine <= yours for mine, yours in zip(row.bounds, other.bounds))
         and all(group(row, share) == group(other, share) for share in shares)
@@ -79,12 +87,12 @@ def entails(row: Row | None, other: Row | None) -> bool:
 
 def common(row: Row, other: Row) -> Row | None:
     """What two rows have in common; nothing where a register is held in one alone."""
+    if row == other or not are_held_alike(row, other):
+        return row if row == other else None
     facts: list[Fact | None] = []
     for fact, yours in zip(row.facts, other.facts):
-        if fact is None or yours is None:
-            if fact is not yours:
-                return None
-            facts.append(None)
+        if fact is None or fact == yours and fact.share < 8:
+            facts.append(fact)
             continue
         share = next(s for s in (fact.share, yours.share, 1, 0) if entails_share(fact.share, s) and entails_share(yours.share, s))
         if share >= 8 and group(row, share) != group(other, share):
@@ -378,12 +386,8 @@ def spelled_row(row: Row | None) -> bytes:
     """The line of a row."""
     if row is None:
         return b"0" * 306 + b"\n"
-    data = b"\1"
-    for fact in row.facts:
-        parts = (0,) * 6 if fact is None else fact
-        held = b"\0" if fact is None else b"\1"
-        data += held + bytes([parts[0]]) + b"".join(part.to_bytes(2, "big") for part in parts[1:5]) + bytes([parts[5]])
-    return (data + b"".join(value.to_bytes(8, "big") for value in row.bounds)).hex().encode() + b"\n"
+    facts = (part for fact in row.facts for part in ((0,) * 7 if fact is None else (1, *fact)))
+    return ROW.pack(1, *facts, *row.bounds).hex().encode() + b"\n"
 
 
 def decode(data: bytes, size: int) -> Rows | tuple[int, int]:
@@ -406,21 +410,17 @@ def decode(data: bytes, size: int) -> Rows | tuple[int, int]:
 
 def decode_row(data: bytes, has_groups: bool) -> Row | None | str:
     """The row of 153 bytes, or what is wrong."""
-    if data[0] == 0:
-        return None if not any(data) else "dead and not zeros"
+    live, *parts = ROW.unpack(data)
+    if live == 0:
+        return "dead and not zeros" if any(data) else None
     facts: list[Fact | None] = []
-    for at in range(1, 89, 11):
-        held, share, *parts, segs = data[at], data[at + 1], *numbers(data[at + 2 : at + 10], 2), data[at + 10]
-        if held == 0 and not any(data[at : at + 11]):
+    for at in range(0, 56, 7):
+        held, *known = parts[at : at + 7]
+        if not held and not any(known):
             facts.append(None)
-        elif held != 1 or share not in range(3) and not (has_groups and share in range(8, 16)) or segs not in range(1, 65):
+        elif held != 1 or known[0] not in (SHARES if has_groups else SHARES[:3]) or not 1 <= known[5] <= MOST_SEGMENTS:
             return "out of range"
         else:
-            facts.append(Fact(share, *parts, segs))
-    row = Row(tuple(facts), tuple(numbers(data[89:], 8)))
-    return row if data[0] == 1 and is_well_formed(row) else "no group or no flag"
-
-
-def numbers(data: bytes, width: int) -> list[int]:
-    """The numbers of so many bytes each, the highest byte first."""
-    return [int.from_bytes(data[at : at + width], "big") for at in range(0, len(data), width)]
+            facts.append(Fact(*known))
+    row = Row(tuple(facts), tuple(parts[56:]))
+    return row if live == 1 and is_well_formed(row) else "no group or no flag"
