@@ -18,8 +18,8 @@ WIDTHS = (1, 2, 4, 8)
 LENGTHS = (0, 1, 2, 3, 4, 7, 8, 13, 14, 15, 16, 20, 34, 60, 63, 64, 65, 127, 128, 129, 130, 256, 2047, 2048, 2049, 65_535)
 CONSTANTS = (*LENGTHS, 255, 0x0A0B0C0D, 2**32 - 1, 2**32, 2**63, BIGGEST - 1, BIGGEST)
 ROOMS = (0, 1, 64, 127, 128, 129, 130, 160, 192, 256, 512, 2176, 4096)
-RULES = {"alloc": 6, "clone": 9, "free": 3, "chain": 5, "resize": 16, "test": 12, "bytes": 14, "number": 12, "branch": 8}
-MOVES = {**RULES, "lookup": 2, "tx": 6, "enq": 6, "place": 8, "head": 3, "weaken": 2}
+USUAL = {"alloc": 6, "clone": 12, "free": 3, "chain": 5, "resize": 16, "test": 12, "bytes": 14, "number": 12, "branch": 8}
+MOVES = {**USUAL, "lookup": 2, "tx": 6, "enq": 6, "place": 8, "head": 3, "weaken": 2}
 
 
 @dataclass
@@ -332,7 +332,7 @@ def changed_bytes(rng: Random, data: bytes) -> bytes:
 def changed_rows(rng: Random, rows: rules.Rows) -> rules.Rows:
     """Rows with a field or a row changed."""
     rows, at = list(rows), rng.randrange(len(rows))
-    row, how = rows[at], rng.randrange(8)
+    row, how = rows[at], rng.randrange(11)
     if how == 0:
         rows[at] = None if row else rules.Row(rules.EMPTY, (0,) * 8)
     elif how == 1:
@@ -345,10 +345,25 @@ def changed_rows(rng: Random, rows: rules.Rows) -> rules.Rows:
     elif how == 3:
         r, step = rng.randrange(8), rng.choice((-1, 1, BIGGEST))
         rows[at] = row._replace(bounds=row.bounds[:r] + (min(max(row.bounds[r] + step, 0), BIGGEST),) + row.bounds[r + 1 :])
+    elif how < 7:
+        change_groups(rng, rows)
     else:
         p = rng.choice([p for p, fact in enumerate(row.facts) if fact] or [0])
         rows[at] = rules.with_fact(row, p, changed_fact(rng, row.facts[p]))
     return rows
+
+
+def change_groups(rng: Random, rows: rules.Rows) -> None:
+    """Changes who belongs to a group in some row and, often, in the rows behind it."""
+    many = [k for k, row in enumerate(rows) if row and sum(fact is not None for fact in row.facts) > 1]
+    at = rng.choice(many or [0])
+    held = [p for p, fact in enumerate(rows[at].facts) if fact] if many else []
+    chosen = rng.sample(held, rng.randrange(1, len(held) + 1)) if held else []
+    share = rng.choice((0, 0, 1, 2, *[8 + min(chosen)] * 3)) if chosen else 0
+    for k in range(at, len(rows) if rng.random() < 0.5 else at + 1):
+        row = rows[k] and rules.with_shares(rows[k], chosen, share)
+        if row and rules.is_well_formed(row):
+            rows[k] = row
 
 
 def changed_fact(rng: Random, fact: rules.Fact | None) -> rules.Fact | None:
