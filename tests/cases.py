@@ -19,7 +19,7 @@ LENGTHS = (0, 1, 2, 3, 4, 7, 8, 13, 14, 15, 16, 20, 34, 60, 63, 64, 65, 127, 128
 CONSTANTS = (*LENGTHS, 255, 0x0A0B0C0D, 2**32 - 1, 2**32, 2**63, BIGGEST - 1, BIGGEST)
 ROOMS = (0, 1, 64, 127, 128, 129, 130, 160, 192, 256, 512, 2176, 4096)
 USUAL = {"alloc": 6, "clone": 12, "free": 3, "chain": 5, "resize": 16, "test": 12, "bytes": 14, "number": 12, "branch": 8}
-MOVES = {**USUAL, "lookup": 2, "tx": 6, "enq": 6, "place": 8, "head": 3, "weaken": 2}
+MOVES = {**USUAL, "lookup": 2, "tx": 6, "enq": 6, "place": 8, "head": 3, "fork": 4, "weaken": 2}
 
 
 @dataclass
@@ -189,6 +189,29 @@ class Writer:
             self.row = rules.Row(tuple(facts), bounds)
         label = -1 - len(self.waiting) - len(self.placed)
         self.placed[label], self.heads[label] = len(self.code), self.row
+
+    def move_fork(self, p: int) -> None:
+        """Two ways on, which hold the same packets in the end: in one a packet is chained, in the other it is freed."""
+        others = [q for q in self.held() if q != p]
+        if not others:
+            return
+        q, other = self.rng.choice(others), -1 - len(self.waiting) - len(self.placed)
+        start, self.waiting[other] = self.row, self.row
+        self.code.append(Instr("jlt", (self.rng.randrange(8), max(self.constant(), 1), other)))
+        self.rows.append(self.row)
+        self.waiting[other] = rules.at_label(start, self.code[-1])
+        for _ in range(self.rng.randrange(4)):
+            self.move_resize(p)
+        self.emit("chain", p, q)
+        if self.row.facts[q] is not None:
+            self.emit("free", q)
+        self.emit("jmp")
+        if other in self.waiting:
+            self.put_label(other, False)
+            self.emit("free", q)
+            self.move_place(None)
+        else:
+            self.next_part()
 
     def move_weaken(self, _p: int | None) -> None:
         """Less is said than is known."""
@@ -498,7 +521,7 @@ class Parts:
 
 def node_files(rng: Random, parts: Parts, place: int, sound: bool) -> dict[str, str]:
     """Makes the program of a node and its certificate, if one is named, and answers the keys that name them."""
-    wrong = rng.choice((0, 0, 0, 1, 2, 2, 2, 3)) if not sound and rng.random() < 0.4 else -1
+    wrong = rng.choice((0, 0, 0, 1, 2, 2, 2, 3)) if not sound and rng.random() < 0.9 / len(parts.env.ports) else -1
     code, rows = program(rng, parts.env, place)
     if wrong == 0:
         code = [any_instr(rng, 6) for _ in range(6)] if rng.random() < 0.3 else changed_program(rng, code)
@@ -625,7 +648,7 @@ def pipeline_files(rng: Random, sound: bool) -> Parts:
 def make_one(rng: Random) -> Case:
     """`dpv one`."""
     parts = Parts({}, ONE, {})
-    names = node_files(rng, parts, 0, rng.random() < 0.6)
+    names = node_files(rng, parts, 0, rng.random() < 0.7)
     if "cert" not in names:
         names["cert"] = "c0"
         code = programs.assemble(parts.files.get("n0", b""))
