@@ -328,6 +328,24 @@ def text_of(rng: Random, code: list[Instr]) -> bytes:
     return "".join(lines).replace("L", rng.choice(("L", "_l", "a_name_of_27_letters_or_so_"))).encode()
 
 
+NEARLY = [
+    ("0x", "0X"), ("0x", "x"), (",", ",,"), (",", ", ,"), (",", " "), (":", " :"), (":", "::"), (":", ""), ("L", "1"), ("L", "L L"), ("\n", " "),
+    ("p0", "p8"), ("p0", "P0"), ("p0", "r0"), ("r0", "p0"), ("r", "r0"), ("0", "00000000000000000000000000"), ("1", "18446744073709551616"),
+    ("1", "65536"), ("exit", "exit 0"), ("exit", "Exit"), ("exit", "exit,"), ("free", "free\t"), ("tx", "enq"), ("L1", "L2"), ("\n", "\n#:\n"),
+    ("a", "a_name_that_is_longer_than_allowed"), ("L", "\u00e9"), ("\n", "\x0b\n"), ("\n", "\r"), ("exit", "L1: L1: exit"), ("0", "-0"), ("4", "+4"),
+]
+
+
+def changed_text(rng: Random, data: bytes) -> bytes:
+    """A program text with a part spelled in a way that is nearly right, or with some bytes changed."""
+    old, new = (text.encode() for text in rng.choice(NEARLY))
+    places = [at for at in range(len(data)) if data.startswith(old, at)]
+    if not places or rng.random() < 0.4:
+        return changed_bytes(rng, data)
+    at = rng.choice(places)
+    return data[:at] + new + data[at + len(old) :]
+
+
 def changed_bytes(rng: Random, data: bytes) -> bytes:
     """A text or capture with some bytes changed."""
     for _ in range(rng.choice((1, 1, 1, 2, 5))):
@@ -521,14 +539,14 @@ class Parts:
 
 def node_files(rng: Random, parts: Parts, place: int, sound: bool) -> dict[str, str]:
     """Makes the program of a node and its certificate, if one is named, and answers the keys that name them."""
-    wrong = rng.choice((0, 0, 0, 1, 2, 2, 2, 3)) if not sound and rng.random() < 0.9 / len(parts.env.ports) else -1
+    wrong = rng.choice((0, 0, 0, 1, 1, 2, 2, 2, 3)) if not sound and rng.random() < 0.9 / len(parts.env.ports) else -1
     code, rows = program(rng, parts.env, place)
     if wrong == 0:
         code = [any_instr(rng, 6) for _ in range(6)] if rng.random() < 0.3 else changed_program(rng, code)
         rows = rows if len(rows) == len(code) and rng.random() < 0.5 else None
     text = text_of(rng, code)
     names = {"node": f"n{place}"}
-    parts.files[names["node"]] = changed_bytes(rng, text) if wrong == 1 else text
+    parts.files[names["node"]] = changed_text(rng, text) if wrong == 1 else text
     if rng.random() < 0.6 or not rules.is_forward(code):
         names["cert"] = f"c{place}"
         parts.files[names["cert"]] = cert_of(rng, parts.env, code, rows, place, wrong != 2)
