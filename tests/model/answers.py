@@ -1,0 +1,170 @@
+"""What a command of `dpv` prints, tells, writes and ends with, given its words and files."""
+import pathlib
+from typing import NamedTuple
+
+from . import captures, heap, pipelines, rules
+from .machine import BIGGEST, Env, Input, Pool, Port, World, report, run
+
+LONGEST = pipelines.LONGEST
+ONE = Env([Pool(64, 0, 2176)], [], [], [Port(0, 1, 32)])
+
+
+class Answer(NamedTuple):
+    """How a command ends. `written` has the captures by name; nothing of them is said where they were not made."""
+
+    status: int
+    printed: str
+    told: str
+    written: dict[str, bytes] = {}
+    records: int = 0
+
+
+class Disk:
+    """The files of a folder, as they are before the run."""
+
+    def __init__(self, folder: pathlib.Path) -> None:
+        self.folder = folder
+
+    def read(self, name: str) -> bytes | None:
+        """The bytes of a file that can be read."""
+        try:
+            return (self.folder / name).read_bytes() if name else None
+        except (OSError, ValueError):
+            return None
+
+    def text(self, name: str) -> bytes | None:
+        """The bytes of a text that is not too long."""
+        data = self.read(name)
+        return data if data is not None and len(data) <= LONGEST else None
+
+    def may_open(self, name: str) -> bool:
+        """Whether a capture is opened, be it a folder."""
+        try:
+            return name != "" and (self.folder / name).exists()
+        except (OSError, ValueError):
+            return False
+
+    def may_make(self, name: str) -> bool:
+        """Whether a capture can be made."""
+        try:
+            path = self.folder / name
+            return name != "" and path.parent.is_dir() and not path.is_dir() and not name.endswith("/")
+        except (OSError, ValueError):
+            return False
+
+
+def mem(disk: Disk, file: str, said: str) -> Answer:
+    """`dpv mem FILE`."""
+    script = disk.text(file)
+    return Answer(3, "", f"fault: file {file}\n") if script is None else Answer(*heap.answer(script, said))
+
+
+def loaded(disk: Disk, file: str, inferred: bool, said: str) -> pipelines.Pipeline | Answer:
+    """The pipeline of a file; or how the command ends that loads it."""
+    text = disk.text(file)
+    if text is None:
+        return Answer(3, "", f"fault: file {file}\n")
+    pipeline = pipelines.load(text, disk.text, inferred, said)
+    return Answer(*pipeline) if isinstance(pipeline, pipelines.Fault) else pipeline
+
+
+def check(disk: Disk, file: str, said: str) -> Answer:
+    """`dpv check FILE`."""
+    pipeline = loaded(disk, file, False, said)
+    if isinstance(pipeline, Answer):
+        return pipeline
+    return Answer(0, "".join(f"{node.name} accepted\n" for node in pipeline.nodes), "")
+
+
+def infer(disk: Disk, file: str, which: str, said: str) -> Answer:
+    """`dpv infer FILE WHICH`. The certificate of a program with loops is open, as far as it is accepted."""
+    kind, place = which[:4], int(which[4:])
+    pipeline = loaded(disk, file, True, said)
+    if isinstance(pipeline, Answer):
+        return pipeline
+    ports = len(pipeline.env.ports)
+    if place >= (ports if kind == "port" else len(pipeline.env.rings)):
+        return Answer(2, "", f"error: the pipeline has no {kind} {place}\n")
+    at = place if kind == "port" else ports + place
+    program, rows = pipeline.programs[at], pipeline.rows[at]
+    if rules.is_forward(program):
+        return Answer(0, rules.spelled(rows).decode(), "")
+    given = rules.decode(said.encode(), len(program))
+    accepted = isinstance(given, list) and rules.check(pipeline.env, program, given, rules.entry_row(pipeline.env, at)) is None
+    spelled = accepted and rules.spelled(given).decode() == said
+    return Answer(0, said if spelled else "an accepted certificate, spelled as it has to be\n", "")
+
+
+def forward(pipeline: pipelines.Pipeline, disk: Disk, pattern: frozenset[int]) -> Answer:
+    """The run of a pipeline: inputs are opened in port order, then outputs are made, then headers are read."""
+    ports = pipeline.nodes[: len(pipeline.env.ports)]
+    lacking = next((node.reads for node in ports if not disk.may_open(node.reads)), None)
+    lacking = lacking if lacking is not None else next((node.writes for node in ports if not disk.may_make(node.writes)), None)
+    if lacking is not None:
+        return Answer(3, "", f"fault: file {lacking}\n")
+    world = World(pipeline.env, pipeline.programs, pattern)
+    written = {node.writes: b"" for node in ports}
+    if pipeline.region < pipeline.env.need():
+        return Answer(3, report(world, ["open"] * len(ports)), "fault: region\n", written)
+    sources = []
+    for k, node in enumerate(ports):
+        data = disk.read(node.reads)
+        source = captures.Capture(0, [], "8", False) if data is None else captures.read(data)
+        if not source.has_header:
+            told = f"fault: input {k} cause {source.ending}\n"
+            return Answer(3, report(world, ["open"] * len(ports)), told, written)
+        sources.append(source)
+    nano = any(source.units == 1_000_000_000 for source in sources)
+    done = run(world, [Input(source.records, source.ending) for source in sources])
+    written = {node.writes: captures.written(nano, sent) for node, sent in zip(ports, done.sent)}
+    told = "" if done.fault is None else done.fault + "\n"
+    return Answer(3 if told else 0, done.report, told, written, sum(map(len, done.sent)))
+
+
+def one(disk: Disk, node: str, cert: str, reads: str, writes: str) -> Answer:
+    """`dpv one NODE CERT IN OUT`: a pipeline of one port."""
+    port = pipelines.Node("port 0", node, cert, reads, writes)
+    program = disk.text(node)
+    if program is None:
+        return Answer(*pipelines.fault("5 File port 0"))
+    program = pipelines.programs.assemble(program)
+    if isinstance(program, pipelines.programs.Fault):
+        return Answer(*pipelines.fault(f"6 Asm port 0 line {program.line} cause {program.cause}"))
+    rows = pipelines.rows_for(port, program, ONE, 0, disk.text, "")
+    if isinstance(rows, pipelines.Fault):
+        return Answer(*rows)
+    return forward(pipelines.Pipeline(262_144, ONE, [port], [program], [rows]), disk, frozenset())
+
+
+def pattern_of(text: str) -> frozenset[int] | None:
+    """The calls that a list of words names, strictly ascending from 1."""
+    words = text.split(",")
+    if not all(word.isascii() and word.isdigit() for word in words):
+        return None
+    numbers = [int(word.lstrip("0")[:40] or "0") for word in words]
+    ascending = all(a < b for a, b in zip([0, *numbers], numbers))
+    return frozenset(numbers) if ascending and numbers[-1] <= BIGGEST else None
+
+
+def run_file(disk: Disk, file: str, refuse: str | None, said: str) -> Answer | None:
+    """`dpv run FILE [--refuse LIST]`; nothing where the words are wrong, which is told in words of their own."""
+    pattern = frozenset() if refuse is None else pattern_of(refuse)
+    if pattern is None:
+        return None
+    pipeline = loaded(disk, file, False, said)
+    return pipeline if isinstance(pipeline, Answer) else forward(pipeline, disk, pattern)
+
+
+def answer(words: list[str], folder: pathlib.Path, said: str) -> Answer | None:
+    """How `dpv` ends with these words in this folder, given what it printed where that is open."""
+    disk = Disk(folder)
+    command, *operands = words
+    if command == "one":
+        return one(disk, *operands)
+    if command == "check":
+        return check(disk, operands[0], said)
+    if command == "infer":
+        return infer(disk, *operands, said)
+    if command == "mem":
+        return mem(disk, operands[0], said)
+    return run_file(disk, operands[0], operands[2] if len(operands) > 1 else None, said)

@@ -1,0 +1,195 @@
+#!/usr/bin/env python3
+"""Runs the built program dpv where something goes on outside of it: streams are closed, files go away, signals come.
+
+Usage: tests/outside.py [PROGRAM]   (by default the one that ./dpv builds and runs; some seconds)
+The input is a pipe that is fed in two halves, so that what happens between them comes in the middle of a run. What is on disk then is
+always a front of the capture that a whole run writes. Prints a line for each case, and exits with 1 where one went another way.
+"""
+import os
+import pathlib
+import shutil
+import signal
+import struct
+import subprocess
+import sys
+import tempfile
+import time
+from collections.abc import Callable
+
+from model import captures
+from program import STRIP, built
+
+REPORT = "port 0 received {0} nobuf 0 oversize 0 sent {0} input whole\npool 0 free 64 of 64\ncalls {0} refused 0\n"
+COUNT = 4000
+HALF = 24 + 16 * (COUNT // 2) + 60 * (COUNT // 2)
+
+
+def source() -> bytes:
+    """A capture of records of 60 bytes."""
+    records = [(k, 0, struct.pack(">I", k) * 15) for k in range(COUNT)]
+    return captures.written(False, records)
+
+
+def target() -> bytes:
+    """What strip makes of it."""
+    return captures.written(False, [(second, 0, data[14:]) for second, _, data in captures.read(source()).records])
+
+
+class Tried:
+    """A run on a pipe, in a folder of its own."""
+
+    def __init__(self, program: str, folder: pathlib.Path) -> None:
+        self.program, self.folder, self.output = program, folder, folder / "out.pcap"
+        self.pipe = folder / "in.pcap"
+        os.mkfifo(self.pipe)
+
+    def words(self) -> list[str]:
+        """The words of the run."""
+        return [self.program, "one", str(STRIP / "strip.dpv"), str(STRIP / "strip.cert"), str(self.pipe), str(self.output)]
+
+    def between_halves(self, act: Callable[[subprocess.Popen[bytes]], None]) -> tuple[int, str, str]:
+        """Feeds a half, lets something happen once the program waits for more, then feeds the rest. How the program ended."""
+        run = subprocess.Popen(self.words(), stdout=subprocess.PIPE, stderr=subprocess.PIPE)
+        with open(self.pipe, "wb", buffering=0) as feed:
+            feed.write(source()[:HALF])
+            while self.output.stat().st_size == 0:
+                time.sleep(0.01)
+            act(run)
+            try:
+                feed.write(source()[HALF:])
+            except BrokenPipeError:
+                pass
+        printed, told = run.communicate(timeout=60)
+        return run.returncode, printed.decode(), told.decode()
+
+    def is_front(self) -> bool:
+        """Whether what is on disk is a front of the capture, and reads as records up to a cut."""
+        data = self.output.read_bytes()
+        read = captures.read(data)
+        return target().startswith(data) and len(data) > 24 and (read.ending == "whole" or read.ending.startswith("cut "))
+
+
+def is_whole(ended: tuple[int, str, str], tried: Tried) -> bool:
+    """Whether it ended as a run that nothing happens to."""
+    return ended == (0, REPORT.format(COUNT), "") and (not tried.output.exists() or tried.output.read_bytes() == target())
+
+
+def by_signal(number: signal.Signals) -> Callable[[Tried], bool]:
+    """A run that a signal ends."""
+    return lambda tried: tried.between_halves(lambda run: run.send_signal(number))[0] == -number and tried.is_front()
+
+
+def stopped(tried: Tried) -> bool:
+    """A run that is stopped for a while, and goes on."""
+
+    def act(run: subprocess.Popen[bytes]) -> None:
+        run.send_signal(signal.SIGSTOP)
+        time.sleep(0.1)
+        run.send_signal(signal.SIGCONT)
+
+    return is_whole(tried.between_halves(act), tried)
+
+
+def removed(tried: Tried) -> bool:
+    """The output is removed in the middle: the run ends as ever, and makes no other file."""
+    ended = tried.between_halves(lambda _: tried.output.unlink())
+    return is_whole(ended, tried) and not tried.output.exists()
+
+
+def emptied(tried: Tried) -> bool:
+    """The output is cut to nothing in the middle by another program: the run ends as ever."""
+    return tried.between_halves(lambda _: os.truncate(tried.output, 0)) == (0, REPORT.format(COUNT), "")
+
+
+def moved(tried: Tried) -> bool:
+    """The output gets another name in the middle: the capture is there."""
+    other = tried.folder / "other.pcap"
+    return is_whole(tried.between_halves(lambda _: tried.output.rename(other)), tried) and other.read_bytes() == target()
+
+
+def one_by_one(tried: Tried) -> bool:
+    """The pipe gives its bytes in small pieces, with pauses."""
+    run = subprocess.Popen(tried.words(), stdout=subprocess.PIPE, stderr=subprocess.PIPE)
+    with open(tried.pipe, "wb", buffering=0) as feed:
+        data = source()
+        for at in range(0, 300):
+            feed.write(data[at : at + 1])
+            time.sleep(0.0005)
+        feed.write(data[300:])
+    printed, told = run.communicate(timeout=60)
+    return is_whole((run.returncode, printed.decode(), told.decode()), tried)
+
+
+def ends(tried: Tried, suffix: str) -> tuple[int, str, str]:
+    """A run on the whole capture by the shell, with something behind its words."""
+    tried.pipe.unlink()
+    tried.pipe.write_bytes(source())
+    run = subprocess.run(["sh", "-c", f'"$@" {suffix}', "sh", *tried.words()], capture_output=True, text=True, timeout=60)
+    return run.returncode, run.stdout, run.stderr
+
+
+def without_output(tried: Tried) -> bool:
+    """Standard output is closed: the capture is whole, and the status says that the report is not."""
+    return ends(tried, ">&-") == (3, "", "") and tried.output.read_bytes() == target()
+
+
+def without_errors(tried: Tried) -> bool:
+    """Standard error is closed: nothing changes."""
+    return is_whole(ends(tried, "2>&-"), tried) and tried.output.exists()
+
+
+def closed_pipe(tried: Tried) -> bool:
+    """Nobody reads the report, and writing to it is an error and no signal: the capture is whole, and the status says it."""
+    tried.pipe.unlink()
+    tried.pipe.write_bytes(source())
+    reader, writer = os.pipe()
+    os.close(reader)
+    run = subprocess.run(tried.words(), stdout=writer, stderr=subprocess.PIPE, timeout=60, restore_signals=False)
+    os.close(writer)
+    return (run.returncode, run.stderr) == (3, b"") and tried.output.read_bytes() == target()
+
+
+def read_only(tried: Tried) -> bool:
+    """The folder of the output may not be written: the output cannot be made."""
+    tried.output = tried.folder / "closed" / "out.pcap"
+    tried.output.parent.mkdir(mode=0o555)
+    tried.pipe.unlink()
+    tried.pipe.write_bytes(source())
+    near = [shutil.copy(word, tried.folder) for word in tried.words()[:1] + tried.words()[2:4]]
+    words = [near[0], "one", *near[1:], *tried.words()[4:]]
+    nobody = 65_534 if os.geteuid() == 0 else None
+    run = subprocess.run(words, capture_output=True, text=True, timeout=60, user=nobody)
+    told = f"fault: file {tried.output}\n"
+    return (run.returncode, run.stdout, run.stderr) == (3, "", told) and not tried.output.exists()
+
+
+CASES: dict[str, Callable[[Tried], bool]] = {
+    **{f"{number.name} in the middle": by_signal(number) for number in (signal.SIGTERM, signal.SIGINT, signal.SIGHUP, signal.SIGKILL)},
+    "stopped in the middle": stopped,
+    "output removed in the middle": removed,
+    "output cut in the middle": emptied,
+    "output renamed in the middle": moved,
+    "input byte by byte": one_by_one,
+    "no standard output": without_output,
+    "no standard error": without_errors,
+    "closed pipe": closed_pipe,
+    "read-only folder": read_only,
+}
+
+
+def main() -> int:
+    """All of it."""
+    program = pathlib.Path(sys.argv[1]).resolve() if len(sys.argv) > 1 else built()
+    passed = []
+    signal.alarm(600)
+    for name, case in CASES.items():
+        with tempfile.TemporaryDirectory() as made:
+            folder = pathlib.Path(made)
+            folder.chmod(0o755)
+            passed.append(case(Tried(str(program), folder)))
+        print(f"{name}: {'as it has to be' if passed[-1] else 'ANOTHER WAY'}")
+    return 0 if all(passed) else 1
+
+
+if __name__ == "__main__":
+    sys.exit(main())
