@@ -11,18 +11,11 @@ import struct
 import sys
 from dataclasses import dataclass, replace
 
+from strip.make import checksum
+
 ROUTES = {"10.0.0.0/8": 1, "10.1.0.0/16": 2, "10.1.2.128/25": 0, "192.0.2.0/24": 0, "198.51.100.7/32": 2, "203.0.113.0/24": 9}
 HOST_A, HOST_B, ALL = bytes.fromhex("02000000000a"), bytes.fromhex("02000000000b"), b"\xff" * 6
 ICMP, TCP, UDP, GRE = 1, 6, 17, 47
-
-
-def checksum(data: bytes) -> int:
-    """The Internet checksum of the bytes."""
-    data += b"\0" * (len(data) % 2)
-    total = sum(struct.unpack(f">{len(data) // 2}H", data))
-    while total >> 16:
-        total = (total & 0xFFFF) + (total >> 16)
-    return ~total & 0xFFFF
 
 
 @dataclass(frozen=True)
