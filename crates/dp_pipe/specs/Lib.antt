@@ -10,4 +10,5 @@ pub mod Pipelines
 pub mod Routes
 pub mod Running
 pub mod Setup
+pub mod Surveys
 pub mod Views
