@@ -1,3 +1,4 @@
+pub mod Judging
 pub mod One
 pub mod Pipe
 pub mod Told

@@ -1,12 +1,16 @@
 //! The program `dpv`: words, files, and what is told of a run.
 #![tactic(auto)]
 
+mod explain;
 mod fault;
 mod files;
+mod judged;
 mod mem;
 mod one;
 mod pipe;
+mod reasons;
 mod report;
+mod rows;
 mod script;
 mod words;
 
@@ -19,10 +23,12 @@ use dp_lang::assemble;
 use dp_model::Entry;
 use dp_pcap::{OfBufReader, OfBufWriter};
 use dp_pipe::{How, PipeError, Pipeline};
+use explain::{explain_line, explain_node};
 use fault::{DONE, FAULT, Fault, USAGE, tell, tell_fault, tell_unloaded};
 use files::ReadFault;
+use judged::Asked;
 use mem::mem_line;
-use one::{asm_error, one_load, one_run};
+use one::{asm_error, one_env, one_load, one_run};
 use pipe::{HostFiles, check_line, infer_line, load_line};
 use std::alloc::Global;
 use std::io::{BufReader, BufWriter, Write};
@@ -100,6 +106,15 @@ fn check_file<R: Files + Print, E: io::Write>(
     }
 }
 
+/// Tells that a word names no node.
+fn tell_no_node<E: io::Write>(err: &mut E, which: &str) -> u8 {
+    tell(
+        err,
+        format_args!("error: '{which}' names no node: port or ring, and one digit"),
+        USAGE,
+    )
+}
+
 /// Prints the certificate of a program of a pipeline file.
 fn infer_file<R: Files + Print, E: io::Write>(
     rt: &R,
@@ -109,16 +124,66 @@ fn infer_file<R: Files + Print, E: io::Write>(
 ) -> u8 {
     let which = word(words, "WHICH");
     let Some(node) = node_named(which) else {
-        return tell(
-            err,
-            format_args!("error: '{which}' names no node: port or ring, and one digit"),
-            USAGE,
-        );
+        return tell_no_node(err, which);
     };
     match load_file(rt, alloc, word(words, "FILE"), How::Inferred, err) {
         Ok(pipeline) => infer_line(alloc, &pipeline, node, &mut io::writer(rt), err),
         Err(status) => status,
     }
+}
+
+/// Explains the programs of a pipeline file, or the one that is named.
+fn explain_file<R: Files + Print, E: io::Write>(
+    rt: &R,
+    alloc: Global,
+    words: &ArgMatches<'_>,
+    err: &mut E,
+) -> u8 {
+    let which = match words.get_str("WHICH") {
+        None => None,
+        Some(which) => match node_named(which) {
+            Some(node) => Some(node),
+            None => return tell_no_node(err, which),
+        },
+    };
+    let file = word(words, "FILE");
+    match files::read(rt, alloc, file) {
+        Ok(text) => explain_line(
+            alloc,
+            text.as_slice(),
+            &mut HostFiles(rt),
+            which,
+            &mut io::writer(rt),
+            err,
+        ),
+        Err(fault) => tell_fault(err, file_fault(fault, file)),
+    }
+}
+
+/// A program by itself, for the one port of `dpv one`.
+fn asked_one<'a>(words: &ArgMatches<'a>) -> Asked<'a> {
+    Asked {
+        node: Entry::Port(0),
+        program: word(words, "NODE"),
+        cert: words.get_str("CERT"),
+    }
+}
+
+/// Explains a program by itself.
+fn explain_one<R: Files + Print, E: io::Write>(
+    rt: &R,
+    alloc: Global,
+    words: &ArgMatches<'_>,
+    err: &mut E,
+) -> u8 {
+    explain_node(
+        alloc,
+        &mut HostFiles(rt),
+        &one_env(),
+        asked_one(words),
+        &mut io::writer(rt),
+        err,
+    )
 }
 
 /// The texts of a program and its certificate; or the status, once the first fault is told. Where the certificate cannot be
@@ -244,6 +309,8 @@ fn run<R: Files + Print, E: io::Write>(
         Some(("one", words)) => run_one_port(rt, alloc, words, err),
         Some(("check", words)) => check_file(rt, alloc, words, err),
         Some(("infer", words)) => infer_file(rt, alloc, words, err),
+        Some(("explain", words)) => explain_file(rt, alloc, words, err),
+        Some(("explain-one", words)) => explain_one(rt, alloc, words, err),
         Some(("mem", words)) => run_script(rt, alloc, word(words, "FILE"), err),
         _ => USAGE,
     }
@@ -269,6 +336,8 @@ fn main(rt: HostRuntime) -> ExitCode {
     ExitCode::from(status)
 }
 
+#[cfg(test)]
+mod explain_tests;
 #[cfg(test)]
 mod pipe_tests;
 #[cfg(test)]

@@ -50,6 +50,36 @@ fn infer<'a>(alloc: Global) -> Result<Command<'a>, AllocError> {
         .arg(which)
 }
 
+/// The operand WHICH, which may be left out.
+fn which<'a>(alloc: Global) -> Arg<'a> {
+    Arg::new(alloc, "WHICH").help("the node: port or ring, and one digit, as port0; else all")
+}
+
+/// The operands NODE and CERT of a command on one program, where CERT may be left out.
+fn of_one<'a>(alloc: Global, command: Command<'a>) -> Result<Command<'a>, AllocError> {
+    let node = Arg::new(alloc, "NODE")
+        .required(true)
+        .help("the node program");
+    let cert = Arg::new(alloc, "CERT").help("its certificate; else one is inferred");
+    command.arg(node)?.arg(cert)
+}
+
+/// `dpv explain FILE [WHICH]`.
+fn explain<'a>(alloc: Global) -> Result<Command<'a>, AllocError> {
+    Command::new(alloc, "explain")
+        .about("Says of the programs of a pipeline why they are refused and what would help")
+        .arg(file(alloc, "the pipeline file"))?
+        .arg(which(alloc))
+}
+
+/// `dpv explain-one NODE [CERT]`.
+fn explain_one<'a>(alloc: Global) -> Result<Command<'a>, AllocError> {
+    let explain = Command::new(alloc, "explain-one").about(
+        "Says of one program, on the port of one, why it is refused and what would help",
+    );
+    of_one(alloc, explain)
+}
+
 /// `dpv mem FILE`.
 fn mem<'a>(alloc: Global) -> Result<Command<'a>, AllocError> {
     Command::new(alloc, "mem")
@@ -67,6 +97,8 @@ pub fn command<'a>(alloc: Global) -> Result<Command<'a>, AllocError> {
         .subcommand(one(alloc)?)?
         .subcommand(check(alloc)?)?
         .subcommand(infer(alloc)?)?
+        .subcommand(explain(alloc)?)?
+        .subcommand(explain_one(alloc)?)?
         .subcommand(mem(alloc)?)
 }
 

@@ -12,4 +12,5 @@ pub mod Routes
 pub mod Running
 pub mod Headline
 pub mod Setup
+pub mod Surveys
 pub mod Views

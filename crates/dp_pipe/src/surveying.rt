@@ -1,7 +1,9 @@
 //! What a pipeline file says of its nodes, before any of their files is opened.
 
-ghost use Rattle.std.specs.Prelude.{◌≡◌, IfOk, IfErr};
+ghost use Rattle.std.specs.Prelude.{◌≡◌, option_map, option_and_then, string_bytes, IfOk, IfErr};
 ghost use Rattle.dp_pipe.specs.Config.{IsConfigOf, IsFaultOf};
+ghost use Rattle.dp_pipe.specs.Surveys.{files_at};
+ghost use Rattle.dp_pipe.specs.Views.{node_names};
 
 use crate::config::{Config, configure};
 use crate::error::PipeError;
@@ -24,7 +26,9 @@ impl Survey {
     }
 
     /// The names of the files of a node.
-    fn names(&self, node: Entry) -> Option<&NodeNames> {
+    fn names(&self, node: Entry) -> Option<&NodeNames>
+        ensures { option_map (λ names. node_names names.now) result ≡ files_at self.now.config node }
+    {
         match node {
             Entry::Port(port) => match self.config.ports.get(port as usize) {
                 Some(port) => Some(&port.files),
@@ -35,12 +39,16 @@ impl Survey {
     }
 
     /// The name of a node's program file, where the pipeline has the node.
-    pub fn program(&self, node: Entry) -> Option<&str> {
+    pub fn program(&self, node: Entry) -> Option<&str>
+        ensures { option_map (λ name. name.now) result ≡ option_map (λ files. files.node) (files_at self.now.config node) }
+    {
         Some(self.names(node)?.node.as_str())
     }
 
     /// The name of a node's certificate file, where one is named.
-    pub fn cert(&self, node: Entry) -> Option<&str> {
+    pub fn cert(&self, node: Entry) -> Option<&str>
+        ensures { option_map (λ name. name.now) result ≡ option_and_then (λ files. files.cert) (files_at self.now.config node) }
+    {
         match &self.names(node)?.cert {
             Some(name) => Some(name.as_str()),
             None => None,

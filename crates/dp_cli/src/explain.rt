@@ -1,0 +1,239 @@
+//! `dpv explain`: the verdict on programs, and why one is refused.
+
+ghost use Rattle.std.specs.Prelude.{◌≡◌, ◌⊎◌};
+ghost use Rattle.std.specs.Io.KnownBytes.{Appends};
+ghost use Rattle.dp_check.specs.Faults.{question};
+ghost use Rattle.dp_cli.specs.Judging.{asked_node, accepted_text, entry_at, IsVerdict, IsNodeTold, EndedAt, AreAllTold, IsToldAt, IsPipelineTold};
+ghost use Rattle.dp_cli.specs.Told.{IsTold};
+
+use crate::fault::{DONE, Fault, REFUSED, USAGE, tell, tell_fault, tell_if_memory, tell_unloaded};
+use crate::judged::{Asked, Judged, asked_of, judge};
+use crate::reasons::{HintText, KnownText, RuleText, WantedText};
+use dp_check::{Diagnosis, diagnose};
+use dp_lang::source_lines;
+use dp_model::{Entry, Env};
+use dp_pipe::{Files, NodeName, Survey, survey_of};
+use std::alloc::Global;
+use std::fmt;
+use std::io::Write;
+
+/// A line of a text, from 1, without the blanks round it.
+fn line_of(text: &[u8], line: usize) -> &str {
+    let Some(bytes) = text.split(|b| *b == b'\n').nth(line.saturating_sub(1)) else {
+        return "";
+    };
+    match std::str::from_utf8(bytes) {
+        Ok(line) => line.trim(),
+        Err(_) => "",
+    }
+}
+
+/// Why a node's program is refused, in six lines.
+#[derive(Drop)]
+struct Explanation<'a> {
+    asked: Asked<'a>,
+    /// The line of the source, from 1, and its text.
+    line: usize,
+    source: &'a str,
+    diagnosis: Diagnosis,
+}
+
+impl fmt::Display for Explanation<'_> {
+    fn fmt<W: fmt::Write>(&self, f: &mut fmt::Formatter<W>) -> fmt::Result {
+        let Diagnosis { label, reason } = self.diagnosis;
+        let Asked {
+            node,
+            program,
+            cert,
+        } = self.asked;
+        let node = NodeName(node);
+        let verdict = match cert {
+            Some(_) => "refused",
+            None => "not inferred",
+        };
+        let rule = reason.rule();
+        writeln!(f, "{node} {verdict} at {label} by J{}", rule.number())?;
+        writeln!(f, "{program}:{}: {}", self.line, self.source)?;
+        let rule = RuleText(rule);
+        writeln!(f, "  {rule}")?;
+        let known = KnownText(reason);
+        writeln!(f, "  known:  {known}")?;
+        let wanted = WantedText(reason);
+        writeln!(f, "  wanted: {wanted}")?;
+        let hint = HintText {
+            reason,
+            inferred: cert.is_none(),
+        };
+        write!(f, "  help:   {hint}")
+    }
+}
+
+/// The line of an instruction, from 1; or nothing, where memory runs out.
+fn line_at(alloc: Global, text: &[u8], label: u16) -> Option<usize> {
+    match source_lines(alloc, text) {
+        Ok(lines) => lines.get(label as usize).copied(),
+        Err(_) => None,
+    }
+}
+
+/// Tells the verdict on a program, and why it is refused, and answers the status.
+fn tell_verdict<O: Write, E: Write>(
+    alloc: Global,
+    env: &Env,
+    asked: Asked<'_>,
+    judged: &Judged,
+    out: &mut O,
+    err: &mut E,
+) -> u8
+    ensures status { IsVerdict (question judged.now.program judged.now.cert env.now asked.entry.node) result }
+    ensures printed { result ≡ DONE → Appends (O.contents out.old) (O.contents out.new) (accepted_text asked.entry.node) }
+    ensures silent { (result ≡ DONE) ⊎ (result ≡ REFUSED) → err.new ≡ err.old }
+{
+    let Some(diagnosis) = diagnose(&judged.program, &judged.cert, env, asked.node) else {
+        let name = NodeName(asked.node);
+        let status = tell(out, format_args!("{name} accepted"), DONE);
+        return tell_if_memory(err, status);
+    };
+    let Some(line) = line_at(alloc, judged.text.as_slice(), diagnosis.label) else {
+        return tell_fault(err, Fault::Memory);
+    };
+    let explanation = Explanation {
+        asked,
+        line,
+        source: line_of(judged.text.as_slice(), line),
+        diagnosis,
+    };
+    let status = tell(out, explanation, REFUSED);
+    tell_if_memory(err, status)
+}
+
+/// Tells whether a node's program is accepted, and where it is not why, and answers the status: 1 where it is refused.
+pub fn explain_node<F: Files, O: Write, E: Write>(
+    alloc: Global,
+    files: &mut F,
+    env: &Env,
+    asked: Asked<'_>,
+    out: &mut O,
+    err: &mut E,
+) -> u8
+    ensures status { IsNodeTold (F.known files.old) env.now (asked_node asked.entry) result }
+    ensures printed { result ≡ DONE → Appends (O.contents out.old) (O.contents out.new) (accepted_text asked.entry.node) }
+    ensures silent { (result ≡ DONE) ⊎ (result ≡ REFUSED) → err.new ≡ err.old }
+    ensures stays { F.known files.new ≡ F.known files.old }
+{
+    match judge(alloc, files, env, asked) {
+        Ok(judged) => tell_verdict(alloc, env, asked, &judged, out, err),
+        Err(error) => tell_unloaded(error, out, err),
+    }
+}
+
+/// The nodes that a pipeline can have: eight ports, and then eight rings.
+fn entry_at(place: u8) -> Entry
+    ensures { result ≡ entry_at place }
+{
+    if place < 8 {
+        Entry::Port(place)
+    } else {
+        Entry::Ring(place - 8)
+    }
+}
+
+/// Explains the node of a place, and answers the status: 0 also where the pipeline has no such node.
+#[tactic(auto, using(crate::proofs::Endings::node_ends))]
+fn explain_place<F: Files, O: Write, E: Write>(
+    alloc: Global,
+    files: &mut F,
+    survey: &Survey,
+    place: u8,
+    out: &mut O,
+    err: &mut E,
+) -> u8
+    ensures told { EndedAt (F.known files.old) survey.now.config result place }
+    ensures ends { IsTold DONE result ⊎ (result ≡ REFUSED) }
+    ensures silent { (result ≡ DONE) ⊎ (result ≡ REFUSED) → err.new ≡ err.old }
+    ensures stays { F.known files.new ≡ F.known files.old }
+{
+    match asked_of(survey, entry_at(place)) {
+        Some(asked) => explain_node(alloc, files, survey.env(), asked, out, err),
+        None => DONE,
+    }
+}
+
+/// Explains each node of a pipeline: 1 where one is refused, unless a fault ends it before.
+fn explain_all<F: Files, O: Write, E: Write>(
+    alloc: Global,
+    files: &mut F,
+    survey: &Survey,
+    out: &mut O,
+    err: &mut E,
+) -> u8
+    ensures told { AreAllTold (F.known files.old) survey.now.config result }
+    ensures silent { (result ≡ DONE) ⊎ (result ≡ REFUSED) → err.new ≡ err.old }
+    ensures stays { F.known files.new ≡ F.known files.old }
+{
+    let mut worst = DONE;
+    for place in 0..16 {
+        let status = explain_place(alloc, files, survey, place, out, err);
+        if status == REFUSED {
+            worst = REFUSED;
+        } else if status != DONE {
+            return status;
+        }
+    }
+    worst
+}
+
+/// Tells that a pipeline has no such node.
+pub fn tell_no_node<E: Write>(node: Entry, err: &mut E) -> u8
+    ensures { IsTold USAGE result }
+{
+    let name = NodeName(node);
+    tell(
+        err,
+        format_args!("error: the pipeline has no {name}"),
+        USAGE,
+    )
+}
+
+/// Explains the node of a pipeline with this entry.
+fn explain_at<F: Files, O: Write, E: Write>(
+    alloc: Global,
+    files: &mut F,
+    survey: &Survey,
+    node: Entry,
+    out: &mut O,
+    err: &mut E,
+) -> u8
+    ensures told { IsToldAt (F.known files.old) survey.now.config node result }
+    ensures silent { (result ≡ DONE) ⊎ (result ≡ REFUSED) → err.new ≡ err.old }
+    ensures stays { F.known files.new ≡ F.known files.old }
+{
+    match asked_of(survey, node) {
+        Some(asked) => explain_node(alloc, files, survey.env(), asked, out, err),
+        None => tell_no_node(node, err),
+    }
+}
+
+/// Tells of the nodes of a pipeline, or of the one that is named, whether they are accepted, and where not why, and answers the
+/// status: 1 where one is refused, 2 where the pipeline has no such node.
+pub fn explain_line<F: Files, O: Write, E: Write>(
+    alloc: Global,
+    text: &[u8],
+    files: &mut F,
+    which: Option<Entry>,
+    out: &mut O,
+    err: &mut E,
+) -> u8
+    ensures told { IsPipelineTold (F.known files.old) text.now which result }
+    ensures silent { (result ≡ DONE) ⊎ (result ≡ REFUSED) → err.new ≡ err.old }
+    ensures stays { F.known files.new ≡ F.known files.old }
+{
+    let survey = match survey_of(alloc, text) {
+        Ok(survey) => survey,
+        Err(error) => return tell_unloaded(error, out, err),
+    };
+    match which {
+        None => explain_all(alloc, files, &survey, out, err),
+        Some(node) => explain_at(alloc, files, &survey, node, out, err),
+    }
+}
