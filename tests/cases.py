@@ -329,10 +329,11 @@ def text_of(rng: Random, code: list[Instr]) -> bytes:
 
 
 NEARLY = [
-    ("0x", "0X"), ("0x", "x"), (",", ",,"), (",", ", ,"), (",", " "), (":", " :"), (":", "::"), (":", ""), ("L", "1"), ("L", "L L"), ("\n", " "),
-    ("p0", "p8"), ("p0", "P0"), ("p0", "r0"), ("r0", "p0"), ("r", "r0"), ("0", "00000000000000000000000000"), ("1", "18446744073709551616"),
-    ("1", "65536"), ("exit", "exit 0"), ("exit", "Exit"), ("exit", "exit,"), ("free", "free\t"), ("tx", "enq"), ("L1", "L2"), ("\n", "\n#:\n"),
-    ("a", "a_name_that_is_longer_than_allowed"), ("L", "\u00e9"), ("\n", "\x0b\n"), ("\n", "\r"), ("exit", "L1: L1: exit"), ("0", "-0"), ("4", "+4"),
+    *(("0x", "0X"), ("0x", "x"), (",", ",,"), (",", ", ,"), (",", " "), (":", " :"), (":", "::"), (":", ""), ("L", "1")),
+    *(("L", "L L"), ("L1", "L2"), ("\n", " "), ("\n", "\n#:\n"), ("\n", "\x0b\n"), ("\n", "\r"), ("L", "\u00e9"), ("r", "r0")),
+    *(("p0", "p8"), ("p0", "P0"), ("p0", "r0"), ("r0", "p0"), ("0", "0" * 26), ("1", "18446744073709551616"), ("1", "65536")),
+    *(("exit", "exit 0"), ("exit", "Exit"), ("exit", "exit,"), ("exit", "L1: L1: exit"), ("free", "free\t"), ("tx", "enq")),
+    *(("a", "a_name_that_is_longer_than_allowed"), ("0", "-0"), ("4", "+4")),
 ]
 
 
@@ -445,7 +446,8 @@ def routes_of(rng: Random, number: int) -> list[str]:
 def tables_of(rng: Random) -> list[dict[str, Any]]:
     """The tables of a pipeline. They are large, so most have none."""
     number = rng.choice((0,) * 24 + (1, 1, 2))
-    return [{"rules": rng.choice((4, 16, 16)), "groups": rng.choice((0, 4, 8)), "routes": routes_of(rng, rng.randrange(6))} for _ in range(number)]
+    limits = [(rng.choice((4, 16, 16)), rng.choice((0, 4, 8))) for _ in range(number)]
+    return [{"rules": rules, "groups": groups, "routes": routes_of(rng, rng.randrange(6))} for rules, groups in limits]
 
 
 def env_of(rng: Random, tables: list[dict[str, Any]]) -> Env:
@@ -574,7 +576,7 @@ def parts_of(rng: Random, sound: bool) -> Parts:
     return parts
 
 
-EDGES = (-1, 0, 1, 3, 64, 65, 127, 129, 255, 256, 512, 4096, 4097, 65_535, 65_536, 65_537, 1 << 32, (1 << 32) - 1, 1 << 63, -(1 << 63))
+EDGES = (-1, 0, 1, 3, 64, 65, 127, 129, 255, 256, 512, 4096, 4097, 65_535, 65_536, 65_537, (1 << 32) - 1, 1 << 32, 1 << 63, -(1 << 63))
 TYPES = (True, 1.5, "1", "", [], [1], {}, [[]], {"a": 1}, "none", "\0", "é", "a\nb", "/")
 
 
@@ -631,7 +633,8 @@ def toml_of(rng: Random, top: dict[str, Any]) -> bytes:
     arrays = [kind for kind, parts in top.items() if kind != "region" and is_array(parts)]
     inline = [kind for kind in arrays if not plain and rng.random() < 0.2 or not top[kind]]
     single = [kind for kind in top if kind not in arrays]
-    lines = [f"{key_of(key)} = {shown(rng, top[key], plain)}" for key in [*single, *inline] if top[key] != [] or rng.random() < 0.5]
+    said = [key for key in [*single, *inline] if top[key] != [] or rng.random() < 0.5]
+    lines = [f"{key_of(key)} = {shown(rng, top[key], plain)}" for key in said]
     rest = [kind for kind in arrays if kind not in inline]
     if not plain:
         rng.shuffle(rest)
@@ -710,7 +713,8 @@ def make_run(rng: Random) -> Case:
 
 def changed_list(rng: Random, text: str) -> str:
     """A list of calls that may be none."""
-    return rng.choice((text + ",", "," + text, text + ",1", "0," + text, text + " ", str(BIGGEST), str(BIGGEST + 1), "", "01", "1,1", "+1"))
+    wrong = (text + ",", "," + text, text + ",1", "0," + text, text + " ", str(BIGGEST + 1), "", "1,1", "+1", "1,,2", "0x1")
+    return rng.choice((*wrong, str(BIGGEST), "01", f"1,{BIGGEST}"))
 
 
 MAKERS: dict[str, Callable[[Random], Case]] = {
