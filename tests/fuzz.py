@@ -55,7 +55,6 @@ class Tally:
     cases: Counter[str] = field(default_factory=Counter)
     statuses: Counter[str] = field(default_factory=Counter)
     records: int = 0
-    runs: int = 0
     findings: int = 0
     seconds: float = 0.0
     memory: int = 0
@@ -64,7 +63,7 @@ class Tally:
         """Adds what another counted."""
         self.cases += other.cases
         self.statuses += other.statuses
-        self.records, self.runs = self.records + other.records, self.runs + other.runs
+        self.records += other.records
         self.findings += other.findings
         self.seconds, self.memory = max(self.seconds, other.seconds), max(self.memory, other.memory)
 
@@ -94,21 +93,24 @@ def start(program: str, words: list[str]) -> Ended:
     return Ended(os.waitstatus_to_exitcode(status), printed, told, {}, used.ru_utime + used.ru_stime, used.ru_maxrss)
 
 
-def try_words(program: str, words: list[str], names: list[str]) -> Ended:
-    """Runs the program in this folder, with what it wrote to these files."""
-    for name in names:
-        pathlib.Path(name).unlink(missing_ok=True)
-    ended = start(program, words)
-    return ended._replace(written={name: pathlib.Path(name).read_bytes() for name in names if os.path.isfile(name)})
+def written(case: Case) -> dict[str, pathlib.Path]:
+    """The files of this folder that are none of the case's own."""
+    names = {entry.name for entry in os.scandir() if entry.is_file()} - {".printed", ".told", *case.files}
+    return {name: pathlib.Path(name) for name in names}
 
 
-def outputs(case: Case) -> list[str]:
-    """The files that a case writes, if it does."""
-    return [f"o{k}" for k in range(9)] if case.kind in ("one", "run") else []
+def try_case(program: str, case: Case) -> Ended:
+    """Runs the program in this folder, with what it wrote to files."""
+    for old in written(case).values():
+        old.unlink()
+    ended = start(program, case.words)
+    return ended._replace(written={name: path.read_bytes() for name, path in written(case).items()})
 
 
 def complaint(expected: answers.Answer | None, ended: Ended) -> str | None:
     """What is wrong with how a run ended; of words that are wrong only the status is fixed, and where texts go."""
+    if expected is answers.OPEN:
+        return None if ended.status in range(5) else f"status: {ended.status}"
     if expected is None:
         is_usage = (ended.status, ended.printed, ended.written) == (2, "", {}) and ended.told != ""
         return None if is_usage else "words that are wrong are not told so"
@@ -128,28 +130,36 @@ def without_cache(case: Case) -> bytes | None:
     return b"\n".join(plain) if plain != lines else None
 
 
-def judge(program: str, case: Case, rng: Random, tally: Tally) -> str | None:
-    """Runs a case, and tells what is wrong with it."""
-    ended = try_words(program, case.words, outputs(case))
-    tally.runs += 1
-    tally.seconds, tally.memory = max(tally.seconds, ended.seconds), max(tally.memory, ended.memory)
-    tally.statuses[f"{case.kind} {ended.status}"] += 1
+def fault_of(program: str, case: Case, tally: Tally) -> tuple[Ended, str | None]:
+    """How a case ended, and what is wrong with it. What the documents leave open is told from what was printed."""
     try:
-        expected = answers.answer(case.words, pathlib.Path(), ended.printed)
+        expected = answers.answer(case.words, pathlib.Path(), "")
+        ended = try_case(program, case)
+        wrong = complaint(expected, ended)
+        if wrong and not ended.written and (case.kind in ("mem", "infer") or ended.status == 1):
+            wrong = complaint(answers.answer(case.words, pathlib.Path(), ended.printed), ended)
     except machine.Stuck as stuck:
-        return f"an accepted program is stuck: {stuck}"
+        return try_case(program, case), f"an accepted program is stuck: {stuck}"
+    tally.cases[case.kind] += 1
+    tally.statuses[f"{case.kind} {ended.status}"] += 1
     tally.records += expected.records if expected else 0
-    wrong = complaint(expected, ended)
+    tally.seconds, tally.memory = max(tally.seconds, ended.seconds), max(tally.memory, ended.memory)
+    return ended, wrong
+
+
+def judge(program: str, case: Case, rng: Random, tally: Tally) -> str | None:
+    """Runs a case, some of them twice, and tells what is wrong with it."""
+    ended, wrong = fault_of(program, case, tally)
     if wrong or rng.random() < 0.75:
         return wrong
-    twice = try_words(program, case.words, outputs(case))
+    twice = try_case(program, case)
     if twice[:4] != ended[:4]:
         return f"another answer the second time: {ended[:3]}, then {twice[:3]}"
     plain = without_cache(case) if case.kind == "run" and ended.status == 0 else None
     if plain is None:
         return None
     pathlib.Path("it.toml").write_bytes(plain)
-    twice = try_words(program, case.words, outputs(case))
+    twice = try_case(program, case)
     return None if twice[:4] == ended[:4] else f"another answer without a cache: {ended[:3]}, then {twice[:3]}"
 
 
@@ -193,7 +203,6 @@ def work(asked: argparse.Namespace, first: int, until: float) -> Tally:
             case, rng = made(asked.seed, number, asked.only)
             put_files(case, pathlib.Path(name))
             wrong = judge(asked.program, case, rng, tally)
-            tally.cases[case.kind] += 1
             if wrong:
                 tally.findings += 1
                 keep(case, wrong, number, asked.seed, asked.keep)

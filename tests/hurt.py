@@ -6,6 +6,7 @@ Prints a line for each: what it is, the time to load it, the time of a record, a
 Exits with 1 where one ends in another way than it has to, or with other numbers of records.
 """
 import argparse
+import itertools
 import os
 import pathlib
 import resource
@@ -74,7 +75,8 @@ def put_pipeline(load: Load) -> None:
     rings = [{"count": count, **fact, "node": f"n{ports + k}"} for k, count in enumerate(load.rings)]
     port = {"pool": 0, "segs": load.segs, "queue": load.queue}
     nodes = [{**port, "node": f"n{k}", "in": f"i{k}", "out": f"o{k}"} for k in range(ports)]
-    env = Env([Pool(*pool) for pool in load.pools], [], [Ring(count, ()) for count in load.rings], [Port(0, 1, load.queue)] * ports)
+    sizes = [Ring(count, ()) for count in load.rings]
+    env = Env([Pool(*pool) for pool in load.pools], [], sizes, [Port(0, 1, load.queue)] * ports)
     text = f"region = {env.need()}\n" + keys("pool", pools) + load.table + keys("ring", rings) + keys("port", nodes)
     pathlib.Path("it.toml").write_text(text)
 
@@ -124,8 +126,9 @@ def filling(ring: int, other: int) -> list[str]:
 def shortest_routes() -> list[str]:
     """65,536 routes that are spelled as short as can be, a fourth of them deeper than 24."""
     one, two = range(10), range(10, 100)
-    wide = [(a, b, c) for firsts in ((one, one, one), (one, one, two), (one, two, one), (two, one, one)) for a in firsts[0] for b in firsts[1] for c in firsts[2]]
-    deep = [(a, b, c) for a in one for b in one for c in one][:256]
+    ranges = ((one, one, one), (one, one, two), (one, two, one), (two, one, one))
+    wide = [place for three in ranges for place in itertools.product(*three)]
+    deep = list(itertools.product(one, one, one))[:256]
     routes = [f"{a}.{b}.{c}.0/24 1" for a, b, c in wide]
     routes += [f"{a}.{b}.{c}.{d}/32 1" for a, b, c in deep for d in range(100)]
     return (routes + [f"{a}.{b}.{c}.{d}/31 1" for a, b, c in deep for d in range(0, 100, 2)])[:65_536]
@@ -172,7 +175,7 @@ def loads() -> list[Load]:
         Load("nothing but `tx`", [FORWARD], count=200_000, printed="sent 200000"),
         Load("510 `alloc`, 510 `free`", [straight()], count=2000, printed="sent 2000"),
         *loops(),
-        Load("64 segments received, 253,952 bytes", [FORWARD], [(64, 0, 4096)], segs=64, size=253_952, count=500, printed="sent 500"),
+        Load("64 segments, 253,952 bytes", [FORWARD], [(64, 0, 4096)], segs=64, size=253_952, count=500, printed="sent 500"),
         Load("64 segments of 4,096 bytes made and sent", [chained()], [(65, 0, 4096)], count=500, printed="sent 500"),
         Load("8 pools, 65,535 buffers of 4,096 bytes", [FORWARD], all_pools, count=1000, printed="pool 7 free 8198 of 8198"),
         Load("8 rings that fill each other", fill, fill_pools, [65_536] * 8, share=0, count=5, size=1, printed=whole),
@@ -199,6 +202,27 @@ def measure(program: str, load: Load) -> bool:
     return passed
 
 
+def scripts() -> dict[str, list[str]]:
+    """Heap scripts, and the last line that they print."""
+    taken = ["malloc 1 0"] * 60_000
+    holes = taken[:30_000] + [f"free {k}" for k in range(1, 30_000, 2)]
+    return {
+        "60,000 `malloc`": taken,
+        "60,000 `malloc`, 30,000 `free`": [*taken, *[f"free {k}" for k in range(1, 60_000, 2)]],
+        "30,000 elements, 10 `list`": [*holes, *["list"] * 10],
+        "15,000 holes, 10,000 `malloc` that fit in none": [*holes, *["malloc 1 4096"] * 10_000],
+        "region of 1 GiB, `zmalloc` of all": ["zmalloc 1073741760 0"],
+    }
+
+
+def measure_script(program: str, name: str, lines: list[str]) -> bool:
+    """Prints what a heap script takes. Whether it ended as it has to."""
+    pathlib.Path("script").write_text("\n".join([f"region {1 << 30}", *lines, "stats"]) + "\n")
+    used = start(program, ["mem", "script"])
+    print(f"| {name} | {used.seconds:.2f} s | {used.memory} MiB |", flush=True)
+    return used.status == 0 and used.printed.count("\n") > len(lines)
+
+
 def main() -> int:
     """All of it."""
     parser = argparse.ArgumentParser(description="Measures what is to cost as much as it can.")
@@ -211,6 +235,8 @@ def main() -> int:
     with tempfile.TemporaryDirectory() as folder:
         os.chdir(folder)
         passed = [measure(program, load) for load in loads() if asked.only in load.name]
+        print("\n| heap script | time | memory |\n|---|---|---|")
+        passed += [measure_script(program, *it) for it in scripts().items() if asked.only in it[0]]
         os.chdir(home)
     return 0 if all(passed) else 1
 

@@ -19,6 +19,10 @@ class Answer(NamedTuple):
     records: int = 0
 
 
+# Nothing is said of a run that reads a file which it writes, or writes one twice.
+OPEN = Answer(-1, "", "")
+
+
 class Disk:
     """The files of a folder, as they are before the run."""
 
@@ -98,12 +102,18 @@ def infer(disk: Disk, file: str, which: str, said: str) -> Answer:
 def forward(pipeline: pipelines.Pipeline, disk: Disk, pattern: frozenset[int]) -> Answer:
     """The run of a pipeline: inputs are opened in port order, then outputs are made, then headers are read."""
     ports = pipeline.nodes[: len(pipeline.env.ports)]
+    targets = [node.writes for node in ports]
+    if len({*targets}) < len(targets) or any(disk.read(name) is not None for name in targets):
+        return OPEN
     lacking = next((node.reads for node in ports if not disk.may_open(node.reads)), None)
-    lacking = lacking if lacking is not None else next((node.writes for node in ports if not disk.may_make(node.writes)), None)
     if lacking is not None:
         return Answer(3, "", f"fault: file {lacking}\n")
+    written = {}
+    for name in targets:
+        if not disk.may_make(name):
+            return Answer(3, "", f"fault: file {name}\n", written)
+        written[name] = b""
     world = World(pipeline.env, pipeline.programs, pattern)
-    written = {node.writes: b"" for node in ports}
     if pipeline.region < pipeline.env.need():
         return Answer(3, report(world, ["open"] * len(ports)), "fault: region\n", written)
     sources = []
