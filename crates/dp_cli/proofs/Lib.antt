@@ -1,1 +1,3 @@
 pub mod Endings
+mod Lines
+mod Numbers
