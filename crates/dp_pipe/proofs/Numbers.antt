@@ -81,7 +81,7 @@ state_at (x ∷ inputs) zero i e = ap (λ (j : Input). Some j.state) (same_Some 
 state_at (x ∷ inputs) (suc q) i e = state_at inputs q i e
 
 -- what is left in rings, where nothing was before
-left_only : (most : ℕ) (counts : List ℕ) → length counts ≤ most → take (length counts) (with_left (replicate most 0) counts) ≡ counts
+pub left_only : (most : ℕ) (counts : List ℕ) → length counts ≤ most → take (length counts) (with_left (replicate most 0) counts) ≡ counts
 left_only zero [] few = refl
 left_only (suc most) [] few = refl
 left_only zero (n ∷ counts) few = absurd (omega (arith, few))
