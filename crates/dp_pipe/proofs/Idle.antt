@@ -1,6 +1,6 @@
 -- The report of an engine that took no turn.
 use Rattle.std.proofs.Common.{◌≡◌, ℕ, zero, suc, ◌+◌, ◌≤◌, List, [], ◌∷◌, length, map, take, replicate, refl, sym, ◌∙◌, ap, subst, arith, zero-add}
-use Rattle.std.specs.Prelude.{nat_le, if◌then◌else◌}
+use Rattle.std.specs.Prelude.{if◌then◌else◌}
 use Rattle.std.specs.List.{AllByRecursion}
 use Rattle.std.proofs.lemmas.Bool.{lt-leb}
 use Rattle.std.proofs.lemmas.List.{length-map}
@@ -10,7 +10,6 @@ use Rattle.dp_model.specs.Machine.{Setting}
 use Rattle.dp_model.specs.Packets.{Packet}
 use Rattle.dp_engine.specs.declared.report.InputState.{InputState}
 use Rattle.dp_engine.specs.declared.report.InputState.TheVariants.{Open}
-use Rattle.dp_engine.specs.declared.report.PortReport.{PortReport}
 use Rattle.dp_engine.specs.declared.report.Report.{Report}
 use Rattle.dp_engine.specs.declared.report.Tallies.{Tallies}
 use Rattle.dp_engine.specs.Engines.{EngineState, IsAscending, no_tallies, with_left}

@@ -1,6 +1,6 @@
 -- A turn behind which a writer failed: what was written until then, and what is counted.
-use Rattle.std.proofs.Common.{◌≡◌, ◌≢◌, ℕ, zero, suc, ◌+◌, ◌<◌, ◌≤◌, ◌⊎◌, inl, inr, Bool, true, false, List, [], ◌∷◌, ◌++◌, length, map, take, replicate, Option, Some, None, refl, sym, ◌∙◌, ap, subst, arith, append-nil, zero-add}
-use Rattle.std.specs.Prelude.{slice_get, slice_set, flat_map, nat_lt, ◌==◌, if◌then◌else◌}
+use Rattle.std.proofs.Common.{◌≡◌, ◌≢◌, ℕ, zero, suc, ◌+◌, ◌<◌, ◌≤◌, ◌⊎◌, inl, inr, Bool, true, false, List, [], ◌∷◌, ◌++◌, length, take, Option, Some, refl, sym, ◌∙◌, ap, subst, arith, append-nil, zero-add}
+use Rattle.std.specs.Prelude.{slice_get, slice_set, nat_lt, ◌==◌, if◌then◌else◌}
 use Rattle.std.specs.Option.{option_map_or}
 use Rattle.std.specs.Io.KnownBytes.{Appends}
 use Rattle.std.proofs.lemmas.Bool.{lt-ltb, le-ltb, eq-eqb, ne_eqb}
@@ -10,18 +10,18 @@ use Rattle.dp_pcap.specs.declared.time.Time.{Time}
 use Rattle.dp_pcap.specs.declared.time.Unit.{Unit as TimeUnit}
 use Rattle.dp_pcap.specs.Capture.{PacketRecord}
 use Rattle.dp_pcap.specs.Text.{header_text, record_text, text}
-use Rattle.dp_model.specs.Machine.{Setting, World}
-use Rattle.dp_model.specs.Runs.{Arrival, Outcome, Nodes, Turn, Run, records_at, joined, with_empty_outboxes}
+use Rattle.dp_model.specs.Machine.{Setting}
+use Rattle.dp_model.specs.Runs.{Outcome, Nodes, Turn, Run, records_at, joined, with_empty_outboxes}
 use Rattle.dp_model.proofs.RunSteps.{run_push}
 use Rattle.dp_engine.specs.declared.report.Tallies.{Tallies}
-use Rattle.dp_engine.specs.Drains.{captured, WrotePart}
+use Rattle.dp_engine.specs.Drains.{captured}
 use Rattle.dp_engine.specs.Engines.{EngineState, no_tallies, tallies_at, counted_at, sent_at}
 use Rattle.dp_engine.specs.Tallies.{counted}
-use Rattle.dp_pipe.specs.Forwarding.{Input, HasRun, FailedAt, AreWritten, DrainedFirst, DrainsStopped, TakesTurn, capture_at, capture_of, drained_at, records_text, tally_of}
+use Rattle.dp_pipe.specs.Forwarding.{Input, FailedAt, AreWritten, DrainsStopped, capture_at, capture_of, drained_at, records_text, tally_of}
 use Rattle.dp_pipe.specs.Headline.{PacketRun, GoesOnBy, WroteFront, capture_text, sent_until}
 use Rattle.dp_pipe.specs.Pipelines.{Plan}
 use Rattle.dp_pipe.specs.Running.{HeadersWritten, setting_in, programs_in}
-use Rattle.dp_pipe.proofs.Advancing.{appends_then, joined_here, joined_many, mid_of, texts_append}
+use Rattle.dp_pipe.proofs.Advancing.{appends_then, joined_here, mid_of, texts_append}
 use Rattle.dp_pipe.proofs.Forwarded.{split, tallies_other, tallies_same}
 use Rattle.dp_pipe.proofs.Heading.{order}
 use Rattle.dp_pipe.proofs.Numbers.{IsCounted}

@@ -1,18 +1,17 @@
 -- The numbers of a report are those of a run.
-use Rattle.std.proofs.Common.{◌≡◌, ℕ, zero, suc, ◌+◌, ◌<◌, ◌≤◌, Bool, true, false, List, [], ◌∷◌, length, map, take, replicate, Some, refl, sym, ◌∙◌, ap, subst, arith, zero-add}
+use Rattle.std.proofs.Common.{◌≡◌, ℕ, zero, suc, ◌<◌, ◌≤◌, Bool, true, false, List, [], ◌∷◌, length, map, take, replicate, Some, refl, sym, ◌∙◌, ap, subst, arith, zero-add}
 use Rattle.std.specs.Prelude.{slice_get, ◌==◌, if◌then◌else◌}
 use Rattle.std.proofs.lemmas.List.{length-map, length-take-le}
 use Rattle.std.proofs.lemmas.Option.{same_Some, slice_get_within}
 use Rattle.dp_pcap.specs.declared.time.Time.{Time}
 use Rattle.dp_model.specs.Machine.{Setting}
-use Rattle.dp_model.specs.Packets.{Packet}
 use Rattle.dp_model.specs.Runs.{Arrival, Outcome, Got, NoBuffer, Oversize, left_in_rings}
 use Rattle.dp_engine.specs.declared.report.InputState.{InputState}
 use Rattle.dp_engine.specs.declared.report.InputState.TheVariants.{Open}
 use Rattle.dp_engine.specs.declared.report.PortReport.{PortReport}
 use Rattle.dp_engine.specs.declared.report.Report.{Report}
 use Rattle.dp_engine.specs.declared.report.Tallies.{Tallies}
-use Rattle.dp_engine.specs.Engines.{EngineState, no_tallies, tallies_at, with_left, flushed}
+use Rattle.dp_engine.specs.Engines.{EngineState, no_tallies, tallies_at, with_left}
 use Rattle.dp_engine.specs.Reports.{port_report, IsWhole}
 use Rattle.dp_engine.specs.Tallies.{Tallied, counted, how_many, is_got, is_nobuf, is_oversize, refused_of}
 use Rattle.dp_pipe.specs.declared.forwarding.Progress.{Progress}

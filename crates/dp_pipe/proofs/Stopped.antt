@@ -1,12 +1,10 @@
 -- What an open engine did before a fault is what is promised of a run that stopped.
-use Rattle.std.proofs.Common.{◌≡◌, ℕ, ◌+◌, ◌<◌, ◌≤◌, ◌⊎◌, inl, inr, List, [], ◌∷◌, ◌++◌, length, map, Option, Some, Result, Ok, Err, refl, sym, ◌∙◌, ap, subst, arith}
-use Rattle.std.specs.Prelude.{⊤, IfErr, slice_get, ◌↔◌}
+use Rattle.std.proofs.Common.{◌≡◌, ℕ, ◌+◌, ◌<◌, ◌≤◌, ◌⊎◌, inl, inr, List, [], ◌∷◌, length, map, Option, Result, Ok, Err, refl, sym, ◌∙◌, ap, subst, arith}
+use Rattle.std.specs.Prelude.{⊤, IfErr, ◌↔◌}
 use Rattle.std.specs.List.{AllByRecursion}
 use Rattle.std.specs.Io.KnownBytes.{Appends}
 use Rattle.std.proofs.lemmas.List.{length-map}
-use Rattle.dp_pcap.specs.declared.error.PcapError.{PcapError}
 use Rattle.dp_pcap.specs.declared.time.Unit.{Unit as TimeUnit}
-use Rattle.dp_model.specs.Machine.{Setting}
 use Rattle.dp_model.specs.Runs.{records_at}
 use Rattle.dp_engine.specs.declared.report.InputState.TheVariants.{Open}
 use Rattle.dp_engine.specs.declared.report.Report.{Report}
@@ -16,8 +14,8 @@ use Rattle.dp_pipe.specs.declared.forwarding.Progress.{Progress}
 use Rattle.dp_pipe.specs.declared.forwarding.RunCause.{RunCause}
 use Rattle.dp_pipe.specs.declared.forwarding.RunCause.TheVariants.{Memory, NoRoom, In, Out}
 use Rattle.dp_pipe.specs.declared.running.RunFault.{RunFault}
-use Rattle.dp_pipe.specs.Forwarding.{Input, FailedAt, capture_at, unit_for, units_of}
-use Rattle.dp_pipe.specs.Headline.{StoppedWriting, StoppedBy, WroteFront, capture_text, sent_until}
+use Rattle.dp_pipe.specs.Forwarding.{Input, FailedAt, capture_at}
+use Rattle.dp_pipe.specs.Headline.{StoppedWriting, StoppedBy, WroteFront, capture_text}
 use Rattle.dp_pipe.specs.Pipelines.{Plan}
 use Rattle.dp_pipe.specs.Running.{RunAnswers, RanOn, GoesForward, HeadersWritten, IsBegun, IsIdle, IsUnopened, Tells, all_begun, begun, answer_of}
 use Rattle.dp_pipe.proofs.Headline.{is_first, ports_in, went_on}

@@ -1,5 +1,5 @@
 -- What the run of a pipeline promises, from captures to captures.
-use Rattle.std.specs.Prelude.{◌≡◌, ℕ, ◌+◌, ◌==◌, ◌<◌, ◌≤◌, ◌⊎◌, Bool, true, nat_lt, if◌then◌else◌, List, [], ◌∷◌, ◌++◌, length, take, flat_map, Option, Some, slice_get, Result, Ok, Err}
+use Rattle.std.specs.Prelude.{◌≡◌, ℕ, ◌+◌, ◌==◌, ◌<◌, ◌≤◌, ◌⊎◌, Bool, true, nat_lt, if◌then◌else◌, List, [], ◌∷◌, ◌++◌, length, take, Option, Some, slice_get}
 use Rattle.std.specs.List.{AllByRecursion}
 use Rattle.std.specs.Io.KnownBytes.{Appends}
 use Rattle.dp_pcap.specs.declared.time.Time.{Time}
@@ -22,7 +22,6 @@ use Rattle.dp_engine.specs.Steps.{routes_of}
 use Rattle.dp_engine.specs.Tallies.{how_many, is_got, is_nobuf, is_oversize, refused_of}
 use Rattle.dp_pipe.specs.declared.forwarding.RunCause.{RunCause}
 use Rattle.dp_pipe.specs.declared.forwarding.RunCause.TheVariants.{Memory, NoRoom, In, Out}
-use Rattle.dp_pipe.specs.declared.running.RunFault.{RunFault}
 use Rattle.dp_pipe.specs.Pipelines.{Plan}
 use Rattle.dp_pipe.specs.Forwarding.{Input, AreRead, AskedUntil, HasFault, arrivals_of, capture_at, is_over, unit_for, units_of}
 use Rattle.dp_pipe.specs.Running.{setting_in, programs_in, IsIdle, HasHeaderFault, HeadersStopped, AreKept}
@@ -200,9 +199,3 @@ StoppedBy p pattern olds news held holds (In port error) r =
     HeaderRefused p olds news held holds port error r ⊎ StoppedReading p pattern olds news held holds port error r
 StoppedBy p pattern olds news held holds (Out port) r =
     HeaderUnwritten p olds news held holds port r ⊎ StoppedWriting p pattern olds news held holds port r
-
--- What the run of a pipeline answers: the bytes that each reader had and has left, and those that each writer held and holds, as
--- far as they are known.
-abbrev pub IsForwarded : Plan → List ℕ → List (Option (List ℕ)) → List (Option (List ℕ)) → List (Option (List ℕ)) → List (Option (List ℕ)) → Result Report RunFault → Type 0
-IsForwarded p pattern olds news held holds (Ok r) = Forwarded p pattern olds news held holds r
-IsForwarded p pattern olds news held holds (Err f) = StoppedBy p pattern olds news held holds f.cause f.report
