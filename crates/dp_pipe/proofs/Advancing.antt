@@ -33,7 +33,7 @@ use Rattle.dp_pipe.proofs.RunOn.{run_on, joined_at, arrival}
 
 -- ---- what was written
 
-joined_here : {A : Type 0} (xs ys : List (List A)) (q : ℕ) → q < length xs → q < length ys → (x : List A) × (y : List A) × (slice_get xs q ≡ Some x) × (slice_get ys q ≡ Some y) × (slice_get (joined xs ys) q ≡ Some (x ++ y))
+pub joined_here : {A : Type 0} (xs ys : List (List A)) (q : ℕ) → q < length xs → q < length ys → (x : List A) × (y : List A) × (slice_get xs q ≡ Some x) × (slice_get ys q ≡ Some y) × (slice_get (joined xs ys) q ≡ Some (x ++ y))
 joined_here [] ys q lt lt' = absurd (omega (arith, lt))
 joined_here (x ∷ xs) [] q lt lt' = absurd (omega (arith, lt'))
 joined_here (x ∷ xs) (y ∷ ys) zero lt lt' = (x, y, refl, refl, refl)
@@ -44,7 +44,7 @@ joined_many [] ys e = refl
 joined_many (x ∷ xs) [] e = absurd (omega (arith, e))
 joined_many (x ∷ xs) (y ∷ ys) e = ap suc (joined_many xs ys (omega (arith, e)))
 
-texts_append : (unit : TimeUnit) (xs ys : List PacketRecord) → flat_map (record_text unit) (xs ++ ys) ≡ flat_map (record_text unit) xs ++ flat_map (record_text unit) ys
+pub texts_append : (unit : TimeUnit) (xs ys : List PacketRecord) → flat_map (record_text unit) (xs ++ ys) ≡ flat_map (record_text unit) xs ++ flat_map (record_text unit) ys
 texts_append unit [] ys = refl
 texts_append unit (x ∷ xs) ys = ap (λ l. record_text unit x ++ l) (texts_append unit xs ys) ∙ sym (append_assoc (record_text unit x) (flat_map (record_text unit) xs) (flat_map (record_text unit) ys))
 

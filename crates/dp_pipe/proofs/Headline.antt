@@ -1,19 +1,16 @@
 -- What an open engine did is what is promised of a run.
-use Rattle.std.proofs.Common.{◌≡◌, ℕ, ◌+◌, ◌<◌, ◌≤◌, ◌⊎◌, inl, inr, List, [], ◌∷◌, ◌++◌, length, map, replicate, Option, Some, None, Result, Ok, Err, refl, sym, ◌∙◌, ap, subst, arith}
-use Rattle.std.specs.Prelude.{⊤, IfOk, IfErr}
-use Rattle.dp_pcap.specs.declared.time.Time.{Time}
+use Rattle.std.proofs.Common.{◌≡◌, ℕ, inl, inr, List, length, map, Option, Result, Ok, Err, ◌∙◌, ap, subst}
+use Rattle.std.specs.Prelude.{IfOk}
 use Rattle.dp_pcap.specs.declared.time.Unit.{Unit as TimeUnit}
 use Rattle.dp_engine.specs.Engines.{EngineState}
-use Rattle.dp_engine.specs.Needs.{bytes_needed}
 use Rattle.dp_engine.specs.declared.report.Report.{Report}
 use Rattle.dp_model.specs.Machine.{Setting}
 use Rattle.dp_pipe.specs.declared.forwarding.Progress.{Progress}
-use Rattle.dp_pipe.specs.declared.forwarding.RunCause.{RunCause}
 use Rattle.dp_pipe.specs.declared.running.RunFault.{RunFault}
-use Rattle.dp_pipe.specs.Forwarding.{Input, HasRun, Went, AreWritten, arrivals_of, capture_at, unit_for, units_of}
+use Rattle.dp_pipe.specs.Forwarding.{Input, Went, arrivals_of, capture_at, unit_for, units_of}
 use Rattle.dp_pipe.specs.Headline.{PacketRun, HasNumbers, AreGiven, capture_text, Forwarded}
 use Rattle.dp_pipe.specs.Pipelines.{Plan}
-use Rattle.dp_pipe.specs.Running.{RunAnswers, RanOn, GoesForward, HeadersFail, HeadersWritten, RoundsMade, Tells, answer_of, report_of}
+use Rattle.dp_pipe.specs.Running.{RunAnswers, RanOn, GoesForward, HeadersWritten, Tells}
 use Rattle.dp_pipe.proofs.Loaded.{few}
 use Rattle.dp_pipe.proofs.Numbers.{numbers_told}
 use Rattle.dp_pipe.proofs.PacketRuns.{IsReady, IsFirst, run_of, counted_run}

@@ -23,6 +23,9 @@ pub mod Texts
 pub mod Numbers
 pub mod PacketRuns
 pub mod Headline
+pub mod Idle
+pub mod LastTurn
+pub mod Stopped
 pub mod GoingOn
 pub mod Stopping
 pub mod Rounding

@@ -1,18 +1,17 @@
 -- The numbers of a report are those of a run.
-use Rattle.std.proofs.Common.{◌≡◌, ℕ, zero, suc, ◌+◌, ◌<◌, ◌≤◌, Bool, true, false, List, [], ◌∷◌, length, map, take, replicate, Some, refl, sym, ◌∙◌, ap, subst, arith, zero-add}
+use Rattle.std.proofs.Common.{◌≡◌, ℕ, zero, suc, ◌<◌, ◌≤◌, Bool, true, false, List, [], ◌∷◌, length, map, take, replicate, Some, refl, sym, ◌∙◌, ap, subst, arith, zero-add}
 use Rattle.std.specs.Prelude.{slice_get, ◌==◌, if◌then◌else◌}
 use Rattle.std.proofs.lemmas.List.{length-map, length-take-le}
 use Rattle.std.proofs.lemmas.Option.{same_Some, slice_get_within}
 use Rattle.dp_pcap.specs.declared.time.Time.{Time}
 use Rattle.dp_model.specs.Machine.{Setting}
-use Rattle.dp_model.specs.Packets.{Packet}
 use Rattle.dp_model.specs.Runs.{Arrival, Outcome, Got, NoBuffer, Oversize, left_in_rings}
 use Rattle.dp_engine.specs.declared.report.InputState.{InputState}
 use Rattle.dp_engine.specs.declared.report.InputState.TheVariants.{Open}
 use Rattle.dp_engine.specs.declared.report.PortReport.{PortReport}
 use Rattle.dp_engine.specs.declared.report.Report.{Report}
 use Rattle.dp_engine.specs.declared.report.Tallies.{Tallies}
-use Rattle.dp_engine.specs.Engines.{EngineState, no_tallies, tallies_at, with_left, flushed}
+use Rattle.dp_engine.specs.Engines.{EngineState, no_tallies, tallies_at, with_left}
 use Rattle.dp_engine.specs.Reports.{port_report, IsWhole}
 use Rattle.dp_engine.specs.Tallies.{Tallied, counted, how_many, is_got, is_nobuf, is_oversize, refused_of}
 use Rattle.dp_pipe.specs.declared.forwarding.Progress.{Progress}
@@ -81,7 +80,7 @@ state_at (x ∷ inputs) zero i e = ap (λ (j : Input). Some j.state) (same_Some 
 state_at (x ∷ inputs) (suc q) i e = state_at inputs q i e
 
 -- what is left in rings, where nothing was before
-left_only : (most : ℕ) (counts : List ℕ) → length counts ≤ most → take (length counts) (with_left (replicate most 0) counts) ≡ counts
+pub left_only : (most : ℕ) (counts : List ℕ) → length counts ≤ most → take (length counts) (with_left (replicate most 0) counts) ≡ counts
 left_only zero [] few = refl
 left_only (suc most) [] few = refl
 left_only zero (n ∷ counts) few = absurd (omega (arith, few))

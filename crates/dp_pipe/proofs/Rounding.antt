@@ -104,16 +104,16 @@ asked_on remaining contents unit e0 e e' olds held ins outs outs' progress input
 
 pub asked_stops : {R W : Type 0} (remaining : R → Option (List ℕ)) (contents : W → Option (List ℕ)) (unit : TimeUnit) (e0 e e' : EngineState) (olds held : List (Option (List ℕ))) (ins : List R) (outs outs' : List W) (progress : List Progress) (inputs : List Input) (round port : ℕ)
     (p p' : Progress) (r r' : R) (answer : Result ⊤ RunCause) (cause : RunCause)
-    → Along unit e0 e olds (map remaining ins) held (map contents outs) progress inputs round port → slice_get progress port ≡ Some p → slice_get ins port ≡ Some r → answer ≡ Err cause
+    → Along unit e0 e olds (map remaining ins) held (map contents outs) progress inputs round port → slice_get progress port ≡ Some p → slice_get ins port ≡ Some r → length outs ≡ length e0.setting.env.ports → answer ≡ Err cause
     → (p.state ≡ Open → Advances port unit e e' p p' (remaining r) (remaining r') (map contents outs) (map contents outs') answer)
     → ((p.state ≡ Open → ⊥) → (answer ≡ Ok tt) × (e' ≡ e) × (p' ≡ p) × (r' ≡ r) × (outs' ≡ outs))
     → Stops unit e0 e' olds (map remaining (slice_set ins port r')) held (map contents outs') (slice_set progress port p') cause
-asked_stops remaining contents unit e0 e e' olds held ins outs outs' progress inputs round port p p' r r' answer cause along here reader err step over =
+asked_stops remaining contents unit e0 e e' olds held ins outs outs' progress inputs round port p p' r r' answer cause along here reader many err step over =
     go (decide p.state)
   where
     go : (p.state ≡ Open) ⊎ (p.state ≡ Open → ⊥) → Stops unit e0 e' olds (map remaining (slice_set ins port r')) held (map contents outs') (slice_set progress port p') cause
     go (inl open_p) =
-        rw (map_set remaining ins port r') (stops_at unit e0 e e' olds (map remaining ins) held (map contents outs) (map contents outs') progress inputs round port p p' (remaining r) (remaining r') cause along here open_p
+        rw (map_set remaining ins port r') (stops_at unit e0 e e' olds (map remaining ins) held (map contents outs) (map contents outs') progress inputs round port p p' (remaining r) (remaining r') cause along (length-map outs contents ∙ many) here open_p
         (map_at remaining ins port r reader)
         (subst (λ (x : Result ⊤ RunCause). Advances port unit e e' p p' (remaining r) (remaining r') (map contents outs) (map contents outs') x) err (step open_p)))
     go (inr closed) = let bad : Err cause ≡ Ok tt = sym err ∙ (over closed).0 in cc

@@ -52,7 +52,7 @@ tally_more port (b ∷ arrivals) [] a o t many = absurd (omega (arith, many))
 tally_more port (b ∷ arrivals) (x ∷ outcomes) a o t many = tally_more port arrivals outcomes a o (if b.port == port then counted x t else t) (omega (arith, many))
 
 -- counting an outcome leaves what was sent
-counted_sent : (o : Outcome) (t : Tallies) (n : ℕ) → counted o (record t { sent = n }) ≡ record (counted o t) { sent = n }
+pub counted_sent : (o : Outcome) (t : Tallies) (n : ℕ) → counted o (record t { sent = n }) ≡ record (counted o t) { sent = n }
 counted_sent Got t n = refl
 counted_sent NoBuffer t n = refl
 counted_sent Oversize t n = refl
@@ -65,7 +65,7 @@ joined_at (x ∷ xs) (y ∷ ys) zero zs e = (x, y, refl, refl, sym (same_Some _ 
 joined_at (x ∷ xs) (y ∷ ys) (suc q) zs e = joined_at xs ys q zs e
 
 -- what was counted at a port behind a turn
-turn_tally : (q port : ℕ) (o : Outcome) (tallies : List Tallies) → port < length tallies
+pub turn_tally : (q port : ℕ) (o : Outcome) (tallies : List Tallies) → port < length tallies
     → tallies_at (counted_at port o tallies) q ≡ (if port == q then counted o (tallies_at tallies q) else tallies_at tallies q)
 turn_tally q port o tallies lt = go (split q port)
   where

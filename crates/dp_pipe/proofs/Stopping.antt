@@ -116,10 +116,10 @@ refuses_of Read s s' unit records bytes rest buf same has = tt
 refuses_of error s s' unit records bytes rest buf same has = rw (← same) has
 
 pub stops_at : (unit : TimeUnit) (e0 e e' : EngineState) (olds news held mids holds : List (Option (List ℕ))) (progress : List Progress) (inputs : List Input) (round port : ℕ) (p p' : Progress) (a b : Option (List ℕ)) (cause : RunCause)
-    → Along unit e0 e olds news held mids progress inputs round port → slice_get progress port ≡ Some p → p.state ≡ Open → slice_get news port ≡ Some a
+    → Along unit e0 e olds news held mids progress inputs round port → length mids ≡ length e0.setting.env.ports → slice_get progress port ≡ Some p → p.state ≡ Open → slice_get news port ≡ Some a
     → Advances port unit e e' p p' a b mids holds (Err cause)
     → Stops unit e0 e' olds (slice_set news port b) held holds (slice_set progress port p') cause
-stops_at unit e0 e e' olds news held mids holds progress inputs round port p p' a b cause along here open_p left_a step =
+stops_at unit e0 e e' olds news held mids holds progress inputs round port p p' a b cause along mids_many here open_p left_a step =
     go step.next step.read step.in_range step.moves step.follows
   where
     i : Input
@@ -163,6 +163,7 @@ stops_at unit e0 e e' olds news held mids holds progress inputs round port p p' 
             many = along.many;
             run = along.run;
             mids = mids;
+            mids_many = mids_many ∙ sym along.held_many;
             wrote = along.wrote;
             behind = step.engine;
             turn = turn;

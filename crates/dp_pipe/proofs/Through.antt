@@ -113,12 +113,12 @@ fail_read e olds news held progress (In port error) begins is = (is, kept, begin
     kept : (q : ℕ) (old new : Option (List ℕ)) → slice_get held q ≡ Some old → slice_get held q ≡ Some new → Keeps old new
     kept q old new here there = subst (Keeps old) (same_Some old new (sym here ∙ there)) (keeps_it old)
 
-pub fail_write : (e : EngineState) (olds news held holds : List (Option (List ℕ))) (progress : List Progress) (cause : RunCause) → AreRead olds news (all_begun progress) → AllByRecursion IsBegun progress
+pub fail_write : (e : EngineState) (olds news held holds : List (Option (List ℕ))) (progress : List Progress) (cause : RunCause) → length progress ≡ length e.setting.env.ports → AreRead olds news (all_begun progress) → AllByRecursion IsBegun progress
     → IsWriteCause (unit_for (units_of (all_begun progress))) held holds cause → HeadersFail e e olds news held holds progress (Err cause)
-fail_write e olds news held holds progress Memory read begins is = absurd is
-fail_write e olds news held holds progress NoRoom read begins is = absurd is
-fail_write e olds news held holds progress (In port error) read begins is = absurd is
-fail_write e olds news held holds progress (Out port) read begins is = (read, is, begins, refl)
+fail_write e olds news held holds progress Memory many read begins is = absurd is
+fail_write e olds news held holds progress NoRoom many read begins is = absurd is
+fail_write e olds news held holds progress (In port error) many read begins is = absurd is
+fail_write e olds news held holds progress (Out port) many read begins is = (many, read, is, begins, refl)
 
 -- ---- behind the last
 
@@ -130,7 +130,7 @@ pub record Stays (e e' : EngineState) : Type 0 where
 stays_run : (e e' : EngineState) (arrivals : List (Arrival Time)) (captures : List (List (Time × List ℕ))) → HasRun e e' arrivals captures → Stays e e'
 stays_run e e' arrivals captures run = record { setting = ap (λ (x : EngineState). x.setting) run.stays; each = run.each }
 
-stays_failed : (unit : TimeUnit) (e e' : EngineState) (olds news held holds : List (Option (List ℕ))) (inputs : List Input) (port : ℕ) → FailedAt unit e e' olds news held holds inputs port → Stays e e'
+pub stays_failed : (unit : TimeUnit) (e e' : EngineState) (olds news held holds : List (Option (List ℕ))) (inputs : List Input) (port : ℕ) → FailedAt unit e e' olds news held holds inputs port → Stays e e'
 stays_failed unit e e' olds news held holds inputs port f =
     let ran = stays_run e f.engine f.before f.captures f.run in
     let turn = f.turn.is in

@@ -298,6 +298,7 @@ pub record FailedAt (unit : TimeUnit) (e e' : EngineState) (olds news : List (Op
   pub many : length captures ≡ length e.setting.env.ports
   pub run : HasRun e engine before captures
   pub mids : List (Option (List ℕ))
+  pub mids_many : length mids ≡ length held
   pub wrote : AreWritten unit held mids (capture_at captures)
   pub behind : EngineState
   pub turn : TakesTurn last.port engine behind last.bytes

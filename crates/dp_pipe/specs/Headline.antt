@@ -1,5 +1,5 @@
 -- What the run of a pipeline promises, from captures to captures.
-use Rattle.std.specs.Prelude.{◌≡◌, ℕ, ◌+◌, ◌==◌, ◌<◌, ◌≤◌, ◌⊎◌, Bool, true, nat_lt, if◌then◌else◌, List, [], ◌∷◌, ◌++◌, length, take, flat_map, Option, Some, slice_get, Result, Ok, Err}
+use Rattle.std.specs.Prelude.{◌≡◌, ℕ, ◌+◌, ◌==◌, ◌<◌, ◌≤◌, ◌⊎◌, Bool, true, nat_lt, if◌then◌else◌, List, [], ◌∷◌, ◌++◌, length, take, Option, Some, slice_get}
 use Rattle.std.specs.List.{AllByRecursion}
 use Rattle.std.specs.Io.KnownBytes.{Appends}
 use Rattle.dp_pcap.specs.declared.time.Time.{Time}
@@ -22,7 +22,6 @@ use Rattle.dp_engine.specs.Steps.{routes_of}
 use Rattle.dp_engine.specs.Tallies.{how_many, is_got, is_nobuf, is_oversize, refused_of}
 use Rattle.dp_pipe.specs.declared.forwarding.RunCause.{RunCause}
 use Rattle.dp_pipe.specs.declared.forwarding.RunCause.TheVariants.{Memory, NoRoom, In, Out}
-use Rattle.dp_pipe.specs.declared.running.RunFault.{RunFault}
 use Rattle.dp_pipe.specs.Pipelines.{Plan}
 use Rattle.dp_pipe.specs.Forwarding.{Input, AreRead, AskedUntil, HasFault, arrivals_of, capture_at, is_over, unit_for, units_of}
 use Rattle.dp_pipe.specs.Running.{setting_in, programs_in, IsIdle, HasHeaderFault, HeadersStopped, AreKept}
@@ -100,3 +99,103 @@ pub record Forwarded (p : Plan) (pattern : List ℕ) (olds news held holds : Lis
   pub run : PacketRun p pattern (arrivals_of inputs)
   pub wrote : AreGiven held holds (capture_text (unit_for (units_of inputs)) run.captures)
   pub numbers : HasNumbers p pattern (arrivals_of inputs) run inputs (λ port. length (capture_at run.captures port)) r
+
+-- ---- an input is at fault
+
+-- The header of this port's input is the first with a fault: nothing was written.
+pub record HeaderRefused (p : Plan) (olds news held holds : List (Option (List ℕ))) (port : ℕ) (error : PcapError) (r : Report) : Type 0 where
+  pub room : bytes_needed p.env ≤ p.region
+  pub fault : HasHeaderFault olds news port error
+  pub kept : AreKept held holds
+  pub idle : IsIdle p.env r
+
+-- The input of this port is the first with a fault, behind a record: there was a run on the records before, and each writer was
+-- given the whole capture of its port in that run.
+pub record StoppedReading (p : Plan) (pattern : List ℕ) (olds news held holds : List (Option (List ℕ))) (port : ℕ) (error : PcapError) (r : Report) : Type 0 where
+  pub room : bytes_needed p.env ≤ p.region
+  pub inputs : List Input
+  pub many : length inputs ≡ length p.env.ports
+  pub read : AreRead olds news inputs
+  pub fault : HasFault olds news inputs port error
+  pub run : PacketRun p pattern (arrivals_of inputs)
+  pub wrote : AreGiven held holds (capture_text (unit_for (units_of inputs)) run.captures)
+  pub numbers : HasNumbers p pattern (arrivals_of inputs) run inputs (λ port. length (capture_at run.captures port)) r
+
+-- ---- a writer fails
+
+-- The header of this port's output was not written whole: those before it were, and nothing behind it; no record was read.
+pub record HeaderUnwritten (p : Plan) (olds news held holds : List (Option (List ℕ))) (port : ℕ) (r : Report) : Type 0 where
+  pub room : bytes_needed p.env ≤ p.region
+  pub inputs : List Input
+  pub many : length inputs ≡ length p.env.ports
+  pub read : AreRead olds news inputs
+  pub none : AllByRecursion (λ (i : Input). (i.records ≡ []) × (i.state ≡ Open)) inputs
+  pub stopped : HeadersStopped (unit_for (units_of inputs)) held holds port
+  pub idle : IsIdle p.env r
+
+-- the first so many records of a capture were written whole, and a part of the next that is not all of it
+pub record WroteFront (old new : Option (List ℕ)) (unit : TimeUnit) (records : List PacketRecord) (sent : ℕ) : Type 0 where
+  pub next : PacketRecord
+  pub next_is : slice_get records sent ≡ Some next
+  pub bytes : ℕ
+  pub part : bytes < length (record_text unit next)
+  pub wrote : Appends old new (text unit (take sent records) ++ take bytes (record_text unit next))
+
+-- a run that goes on by one more record: its turn, and then the drains of all ports
+pub record GoesOnBy (p : Plan) (pattern : List ℕ) (before : List (Arrival Time)) (last : Arrival Time) (earlier : PacketRun p pattern before) (run : PacketRun p pattern (before ++ last ∷ [])) : Type 0 where
+  pub first : run.first ≡ earlier.first
+  pub mid : World
+  pub outcome : Outcome
+  pub runs : ℕ
+  pub told : List Bool
+  pub turn : Turn (setting_in p pattern) (programs_in p) last.port last.bytes earlier.last outcome runs told mid
+  pub told_is : run.told ≡ earlier.told ++ told
+  pub outcomes_are : run.outcomes ≡ earlier.outcomes ++ outcome ∷ []
+  pub captures_are : run.captures ≡ joined earlier.captures (records_at last.time mid)
+  pub last_is : run.last ≡ with_empty_outboxes mid
+
+-- how many records each port has written whole, where the writer of one fails: those before it have written all, it so many, and
+-- those behind it what was sent before the last record
+abbrev pub sent_until : ℕ → ℕ → List (List (Time × List ℕ)) → List (List (Time × List ℕ)) → ℕ → ℕ
+sent_until port own captures earlier q =
+    if nat_lt q port then length (capture_at captures q) else if q == port then own else length (capture_at earlier q)
+
+-- The writer of this port failed in the drains behind a record, the last that was read; the inputs were asked in turn until then.
+-- There was a run on the records before, and a run through the last. The writers before this one were given the whole capture of
+-- their port in the run through the last record, and those behind it the whole capture in the run before; this one was given a
+-- front of its capture in the run through the last record, with all that it had sent before.
+pub record StoppedWriting (p : Plan) (pattern : List ℕ) (olds news held holds : List (Option (List ℕ))) (port : ℕ) (r : Report) : Type 0 where
+  pub room : bytes_needed p.env ≤ p.region
+  pub inputs : List Input
+  pub many : length inputs ≡ length p.env.ports
+  pub read : AreRead olds news inputs
+  pub before : List (Arrival Time)
+  pub last : Arrival Time
+  pub arrivals_are : arrivals_of inputs ≡ before ++ last ∷ []
+  pub round : ℕ
+  pub order : AskedUntil round (last.port + 1) inputs
+  pub earlier : PacketRun p pattern before
+  pub run : PacketRun p pattern (before ++ last ∷ [])
+  pub goes_on : GoesOnBy p pattern before last earlier run
+  pub there : port < length p.env.ports
+  pub ahead : (q : ℕ) (old new : Option (List ℕ)) → q < port → slice_get held q ≡ Some old → slice_get holds q ≡ Some new
+      → Appends old new (capture_text (unit_for (units_of inputs)) run.captures q)
+  pub sent : ℕ
+  pub not_less : length (capture_at earlier.captures port) ≤ sent
+  pub own : (old new : Option (List ℕ)) → slice_get held port ≡ Some old → slice_get holds port ≡ Some new
+      → WroteFront old new (unit_for (units_of inputs)) (capture_at run.captures port) sent
+  pub behind : (q : ℕ) (old new : Option (List ℕ)) → port < q → slice_get held q ≡ Some old → slice_get holds q ≡ Some new
+      → Appends old new (capture_text (unit_for (units_of inputs)) earlier.captures q)
+  pub numbers : HasNumbers p pattern (before ++ last ∷ []) run inputs (sent_until port sent run.captures earlier.captures) r
+
+-- ---- what is answered
+
+-- Why a run stopped, and what it did until then. Without memory, and exactly where the region is smaller than the engine needs,
+-- there was none.
+abbrev pub StoppedBy : Plan → List ℕ → List (Option (List ℕ)) → List (Option (List ℕ)) → List (Option (List ℕ)) → List (Option (List ℕ)) → RunCause → Report → Type 0
+StoppedBy p pattern olds news held holds Memory r = IsIdle p.env r
+StoppedBy p pattern olds news held holds NoRoom r = (p.region < bytes_needed p.env) × IsIdle p.env r
+StoppedBy p pattern olds news held holds (In port error) r =
+    HeaderRefused p olds news held holds port error r ⊎ StoppedReading p pattern olds news held holds port error r
+StoppedBy p pattern olds news held holds (Out port) r =
+    HeaderUnwritten p olds news held holds port r ⊎ StoppedWriting p pattern olds news held holds port r

@@ -118,7 +118,7 @@ abbrev pub HeadersFail : EngineState → EngineState → List (Option (List ℕ)
 HeadersFail e e' olds news held holds progress (Err (In port error)) =
     HasHeaderFault olds news port error × AreKept held holds × AllByRecursion IsBegun progress × (e' ≡ e)
 HeadersFail e e' olds news held holds progress (Err (Out port)) =
-    AreRead olds news (all_begun progress) × HeadersStopped (unit_for (units_of (all_begun progress))) held holds port × AllByRecursion IsBegun progress × (e' ≡ e)
+    (length progress ≡ length e.setting.env.ports) × AreRead olds news (all_begun progress) × HeadersStopped (unit_for (units_of (all_begun progress))) held holds port × AllByRecursion IsBegun progress × (e' ≡ e)
 HeadersFail e e' olds news held holds progress answer = ⊥
 
 -- All headers were written, of the one unit of time in which records are, and then all rounds were made.

@@ -1,6 +1,6 @@
 //! The run of a pipeline, from captures to captures.
 
-ghost use Rattle.std.specs.Prelude.{◌≡◌, ℕ, ◌+◌, ◌<◌, ◌≤◌, ◌++◌, ◌∷◌, ◌⊎◌, [], false, length, map, replicate, slice_get, Some, OnOk, OnErr, IfOk, IfErr, IsOk, IsTrue, vec_len};
+ghost use Rattle.std.specs.Prelude.{◌≡◌, ℕ, ◌+◌, ◌<◌, ◌≤◌, ◌++◌, ◌∷◌, ◌⊎◌, ◌↔◌, [], Err, false, length, map, replicate, slice_get, Some, OnOk, OnErr, IfOk, IfErr, IsOk, IsTrue, vec_len};
 ghost use Rattle.std.specs.List.{AllByRecursion, list_any};
 ghost use Rattle.std.specs.Vec.{vec_capacity};
 ghost use Rattle.dp_pcap.specs.Source.{IsStart};
@@ -12,7 +12,7 @@ ghost use Rattle.dp_pipe.specs.Forwarding as forwarding;
 ghost use Rattle.dp_pipe.specs.Forwarding.{AllStand, units_of};
 ghost use Rattle.dp_lpm.specs.Routes.{RouteTable};
 ghost use Rattle.dp_model.specs.Prefixes.{Route};
-ghost use Rattle.dp_pipe.specs.Headline.{Forwarded};
+ghost use Rattle.dp_pipe.specs.Headline.{Forwarded, StoppedBy};
 ghost use Rattle.dp_pipe.specs.Running as spec;
 
 use crate::forwarding::{Progress, RunCause, rounds};
@@ -272,15 +272,20 @@ fn tell_hops(tables: &[Lpm])
 /// The headers are read and then written first, with nanoseconds if any input has them, else microseconds. The allocation calls
 /// whose numbers stand in `pattern` are refused.
 ///
+/// No node run is ever stuck. What a port sends is what it sends where each packet has bytes of its own and the allocation calls
+/// are told the same: no write is seen through another packet.
+///
 /// All memory is taken before anything is read: the engine's region, a buffer for a record, and a list of the inputs. Whatever
 /// is answered, all packets are given up at the end and all buffers are free.
 ///
 /// # Errors
 ///
 /// [`RunCause::Memory`] where a growth is refused and [`RunCause::NoRoom`] exactly where the pipeline's region is smaller than
-/// its engine needs; nothing was read or written then. [`RunCause::In`] names the first input with a fault, and
-/// [`RunCause::Out`] the port whose writer failed; what was written before stands. A reader or writer that failed is not called
-/// again.
+/// its engine needs; nothing was read or written then. [`RunCause::In`] names the first input with a fault, in the order in which they are read:
+/// the outputs are those of the run on the records before, and nothing where the fault is in a header. [`RunCause::Out`] names
+/// the port whose writer failed: it was given a part of its output in the run through that record, the ports before it all of
+/// theirs, and those behind it theirs in the run before; of headers the ports before have theirs, and those behind it nothing.
+/// A reader or writer that failed is not called again.
 pub fn run<R: Feed, W: Sink>(
     alloc: Global,
     pipeline: Pipeline,
@@ -293,6 +298,8 @@ pub fn run<R: Feed, W: Sink>(
     requires pattern { IsAscending 0 pattern.items }
     ensures answers { spec.RunAnswers pipeline pattern.items (map R.remaining ins.old) (map R.remaining ins.new) (map W.contents outs.old) (map W.contents outs.new) result }
     ensures forwarded { IfOk result (Forwarded pipeline pattern.items (map R.remaining ins.old) (map R.remaining ins.new) (map W.contents outs.old) (map W.contents outs.new)) }
+    ensures stopped { IfErr result (λ f. StoppedBy pipeline pattern.items (map R.remaining ins.old) (map R.remaining ins.new) (map W.contents outs.old) (map W.contents outs.new) f.cause f.report) }
+    ensures no_room { (spec.answer_of result ≡ Err RunCause.Memory) ⊎ ((spec.answer_of result ≡ Err RunCause.NoRoom) ↔ (pipeline.region < bytes_needed pipeline.env)) }
     ensures free { spec.AllFree pipeline.env result }
     ensures untouched { IfErr result (λ f. (f.cause ≡ RunCause.Memory) ⊎ (f.cause ≡ RunCause.NoRoom) → (ins.new ≡ ins.old) × (outs.new ≡ outs.old)) }
     // Where all went well, no device is broken.

@@ -108,11 +108,12 @@ pub returns-in_err-ask-clause-goes : goal.returns-in_err-ask-clause-goes
 returns-in_err-ask-clause-goes g c e0 olds held read k start =
     let inv = c.loop-port.invariant in
     let (now, along) = inv.goes e0 olds held read k start in
+    let before = ap (λ (x : EngineState). length x.setting.env.ports) (start.run.stays) in
     let here = slice_get_read c.loop-port.inputs _ c.loop-port.port c.index-inputs-k.result refl (omega (arith, inv.inputs, c.loop-port-test.true)) c.index-inputs-k.is in
     let reader = slice_get_read c.loop-port.ins _ c.loop-port.port c.index-ins-k.result refl (omega (arith, inv.ins, c.loop-port-test.true, c.requires.inputs, c.requires.ins)) c.index-ins-k.is in
     let gone : c.from_residual.result ≡ Err c.in_err-ask.field-0.0 = search rules in
     rw gone (asked_stops g.R.Feed.remaining g.W.Sink.contents c.args.unit e0 c.loop-port.engine c.ask.new.engine olds held c.loop-port.ins c.loop-port.outs c.ask.new.outs c.loop-port.inputs now k c.loop-port.port
-    c.index-inputs-k.result c.ask.new.input c.index-ins-k.result c.ask.new.r c.ask.result c.in_err-ask.field-0.0 along here reader c.in_err-ask.was
+    c.index-inputs-k.result c.ask.new.input c.index-ins-k.result c.ask.new.r c.ask.result c.in_err-ask.field-0.0 along here reader (inv.outs ∙ c.requires.outs ∙ before) c.in_err-ask.was
     (rw (← c.index-inputs-k.is, ← c.index-ins-k.is) at c.ask.ensures.step) (rw (← c.index-inputs-k.is, ← c.index-ins-k.is) at c.ask.ensures.over))
 
 pub returns-clause-goes : goal.returns-clause-goes

@@ -26,7 +26,7 @@ returns-in_err-put_headers-clause-forward g c =
     let stand = c.in_ok-read_headers.ensures.ok in
     let cause = rw (c.unit_for-unit.ensures, here) at c.in_err-put_headers.ensures.err in
     rw gone (inl (fail_write c.args.engine.now (map g.R.Feed.remaining c.args.ins.now) (map g.R.Feed.remaining c.read_headers.new.ins) (map g.W.Sink.contents c.args.outs.now) (map g.W.Sink.contents c.put_headers.new.outs)
-    c.read_headers.new.inputs.items c.in_err-put_headers.field-0.0 (are_read (map g.R.Feed.remaining c.args.ins.now) (map g.R.Feed.remaining c.read_headers.new.ins) c.read_headers.new.inputs.items (all_begun c.read_headers.new.inputs.items) stand)
+    c.read_headers.new.inputs.items c.in_err-put_headers.field-0.0 (c.in_ok-read_headers.ensures.all ∙ c.requires.readers) (are_read (map g.R.Feed.remaining c.args.ins.now) (map g.R.Feed.remaining c.read_headers.new.ins) c.read_headers.new.inputs.items (all_begun c.read_headers.new.inputs.items) stand)
     c.read_headers.ensures.begun cause))
 
 pub rounds-requires-clause-along : goal.rounds-requires-clause-along

@@ -1,20 +1,16 @@
-use Rattle.std.proofs.Common.{rules, ◌≡◌, ◌∙◌, ◌≤◌, ℕ, List, Some, None, inl, sym, ap, subst, arith, length, map}
-use Rattle.std.specs.Prelude.{slice_get}
-use Rattle.std.specs.List.{AllByRecursion}
-use Rattle.dp_lpm.specs.Routes.{RouteTable}
-use Rattle.dp_model.specs.Environments.{fault_of}
-use Rattle.dp_model.specs.Prefixes.{Route}
+use Rattle.std.proofs.Common.{rules, ◌≡◌, ◌∙◌, ◌≤◌, inl, sym, ap, subst, arith, length, map}
 use Rattle.dp_model.specs.Machine.{Setting}
 use Rattle.dp_model.specs.Starts.{IsStart}
 use Rattle.dp_engine.specs.Engines.{EngineState}
 use Rattle.dp_engine.specs.Schemes.{nodes_of}
 use Rattle.dp_engine.specs.Steps.{setting_of}
 use Rattle.dp_pipe.specs.Running.{AllFree}
-use Rattle.std.proofs.lemmas.List.{length-replicate}
+use Rattle.std.proofs.lemmas.List.{length-map, length-replicate}
 use Rattle.dp_engine.specs.Needs.{bytes_needed}
 use Rattle.dp_pipe.proofs.Loaded.{few}
 use Rattle.dp_pipe.proofs.Headline.{all_forwarded}
-use Rattle.dp_pipe.proofs.Planned.{are_nodes, is_ready}
+use Rattle.dp_pipe.proofs.Planned.{are_nodes, is_ready_in}
+use Rattle.dp_pipe.proofs.Stopped.{all_stopped, no_room_so}
 use Rattle.dp_pipe.proofs.Through.{unless_before}
 use Rattle.dp_pipe.proofs.running.run.Goals as goal
 
@@ -68,10 +64,19 @@ returns-in-Ok-open-clause-untouched g c =
 
 pub returns-in-Ok-open-clause-forwarded : goal.returns-in-Ok-open-clause-forwarded
 returns-in-Ok-open-clause-forwarded g c =
-    let p = c.args.pipeline in
-    let parts = c.into_parts-env.ensures in
-    let limits : fault_of p.env ≡ None = subst (λ e. fault_of e ≡ None) parts.env c.within_limits.ensures in
-    let hops : (k : ℕ) (t : RouteTable) → slice_get p.tables k ≡ Some t → AllByRecursion (λ (route : Route). route.hop ≤ 16777215) t.routes =
-    subst (λ (ts : List RouteTable). (k : ℕ) (t : RouteTable) → slice_get ts k ≡ Some t → AllByRecursion (λ (route : Route). route.hop ≤ 16777215) t.routes) (c.as_slice.ensures.value ∙ parts.tables) c.tell_hops.ensures in
-    all_forwarded p c.args.pattern.items (map g.R.Feed.remaining c.args.ins.now) (map g.R.Feed.remaining c.run_through.new.ins) (map g.W.Sink.contents c.args.outs.now) (map g.W.Sink.contents c.run_through.new.outs)
-    c.run_through.result (is_ready p c.args.pattern.items limits parts.plan hops) (returns-in-Ok-open-clause-answers g c)
+    let ready = is_ready_in c.args.pipeline c.args.pattern.items c.into_parts-env.result.0 c.into_parts-env.result.1.items _ c.into_parts-env.ensures.env c.into_parts-env.ensures.tables c.as_slice.ensures.value
+    c.within_limits.ensures c.into_parts-env.ensures.plan c.tell_hops.ensures in
+    all_forwarded c.args.pipeline c.args.pattern.items (map g.R.Feed.remaining c.args.ins.now) (map g.R.Feed.remaining c.run_through.new.ins) (map g.W.Sink.contents c.args.outs.now) (map g.W.Sink.contents c.run_through.new.outs)
+    c.run_through.result ready (returns-in-Ok-open-clause-answers g c)
+
+pub returns-in-Ok-open-clause-stopped : goal.returns-in-Ok-open-clause-stopped
+returns-in-Ok-open-clause-stopped g c =
+    let ready = is_ready_in c.args.pipeline c.args.pattern.items c.into_parts-env.result.0 c.into_parts-env.result.1.items _ c.into_parts-env.ensures.env c.into_parts-env.ensures.tables c.as_slice.ensures.value
+    c.within_limits.ensures c.into_parts-env.ensures.plan c.tell_hops.ensures in
+    all_stopped c.args.pipeline c.args.pattern.items (map g.R.Feed.remaining c.args.ins.now) (map g.R.Feed.remaining c.run_through.new.ins) (map g.W.Sink.contents c.args.outs.now) (map g.W.Sink.contents c.run_through.new.outs)
+    c.run_through.result ready c.requires.pattern (length-map c.args.outs.now g.W.Sink.contents ∙ c.requires.writers) (returns-in-Ok-open-clause-answers g c)
+
+pub returns-in-Ok-open-clause-no_room : goal.returns-in-Ok-open-clause-no_room
+returns-in-Ok-open-clause-no_room g c =
+    no_room_so c.args.pipeline c.args.pattern.items (map g.R.Feed.remaining c.args.ins.now) (map g.R.Feed.remaining c.run_through.new.ins) (map g.W.Sink.contents c.args.outs.now) (map g.W.Sink.contents c.run_through.new.outs)
+    c.run_through.result (returns-in-Ok-open-clause-answers g c)
