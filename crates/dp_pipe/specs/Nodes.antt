@@ -55,11 +55,13 @@ pub record IsProgramOf (known : Option FileMap) (name : List ℕ) (program : Lis
   pub file : IsFile known name text
   pub reads : Reads text program
 
--- the file spells the certificate, with so many rows
+-- The file spells the certificate, with so many rows; and it is the one that the text is read as, in which each row has eight
+-- facts and eight bounds: rows of other lengths may be spelled so too.
 pub record IsCertOf (known : Option FileMap) (name : List ℕ) (n : ℕ) (cert : Certificate) : Type 0 where
   pub text : List ℕ
   pub file : IsFile known name text
   pub spelled : CertText n text cert
+  pub reads : cert_of n text ≡ Ok cert
 
 -- The certificate is the one that its file spells, where one is read. Else it has the version of its rows, and no other says
 -- more, if the program is forward
