@@ -16,9 +16,10 @@ Where nothing says which, all are tried.
   --alone      each in a check of its own
   --jobs N     N checks side by side (by default as many as there are processors and memory)
 
-Edits of different functions share a check, which proves those functions alone: the prover judges a function by the contracts
-of what it calls. An edit is refused where the check says of a function that it changes that this one has no proof for a cause
-of its own; where only something that it calls has none, it is tried again beside few, and then alone. One that cannot be tried
+Edits of different functions share a check, which proves those functions and what they call: the prover judges a function by the
+contracts of what it calls. An edit is refused where the check says of a function that it changes that this one has no proof for
+a cause of its own; where only something that it calls has none, it is tried again, at last beside few and then alone. The checks
+that edits share take what is proved from the ones before them in the run; one alone is from nothing. An edit that cannot be tried
 (its old text stands there twice, or not at all, or outside of a function) counts as not refused.
 
 It reads the libraries below a crate as `rt ci` left them in crates/*/out/rlib; `rt all check` makes them too.
@@ -51,8 +52,9 @@ IMPL = re.compile(r"(?:unsafe )?impl\b(?:<.*?>)? *(?:([\w:]+)(?:<.*>)? for )?&?(
 # An impl of a type at other types, which a check prints behind a plus.
 IMPL_AT = re.compile(r"(?:unsafe )?impl (\w+)<(\w+)>(?! for)")
 TRAIT = re.compile(r"(?:pub )?(?:unsafe )?trait (\w+)")
-# What a check says of a function that has no proof for a cause of its own.
-UNPROVED = re.compile(r"^fn (\S+): (?:not proved|no proof)(?!(?:; |: )it calls).*$", re.M)
+CALL = re.compile(r"(?:\.|\b[A-Z]\w*::|\b)[a-z_]\w*(?=\()")
+# What a check says of a function that has no proof for a cause of its own, and not only for one of what it calls.
+UNPROVED = re.compile(r"^fn (\S+): (?:not proved|no proof)(?!(?:; it stands on [^;\n]*)?(?:; |: )it calls).*$", re.M)
 PRINTING = threading.Lock()
 
 
@@ -138,6 +140,32 @@ def function_at(text: str, at: int) -> tuple[str, ...] | None:
     return None
 
 
+@functools.cache
+def calls_of(crate: Crate) -> dict[str, set[str]]:
+    """What stands as a call in each function, by the ends of the functions' names: `name`, `Type::name`, or `.name` of any type."""
+    found: dict[str, set[str]] = collections.defaultdict(set)
+    for text in (it.read_text() for it in sorted((crate.folder / "src").rglob("*.rt"))):
+        around = name = ""
+        for row in text.split("\n"):
+            if row and not row[0].isspace() and (impl := IMPL.match(row) or TRAIT.match(row)):
+                around = impl[impl.re.groups]
+            if begun := FUNCTION.match(row):
+                name = f"{around}::{begun[2]}" if begun[1] else begun[2]
+            else:
+                found[name].update(it.replace("Self::", f"{around}::") for it in CALL.findall(row))
+    return found
+
+
+@functools.cache
+def below(crate: Crate, name: str) -> set[str]:
+    """The functions that this one may call, itself or through others, by the ends of their names."""
+    calls, found, new = calls_of(crate), set(), {name}
+    while new:
+        said = set().union(*(calls[it] for it in new))
+        found, new = found | new, {it for it in calls if it in said or "::" in it and f".{it.rpartition('::')[2]}" in said} - found - new
+    return found - {name}
+
+
 class Unfit(Exception):
     """Why an edit cannot be tried."""
 
@@ -148,6 +176,8 @@ class Edit:
     def __init__(self, crate: Crate, file: pathlib.Path) -> None:
         self.crate, self.file, self.name = crate, file, f"{crate.name}/{file.name}"
         self.pairs: list[tuple[str, str, str]] = []
+        # Whether a check that it shared told nothing of it.
+        self.was_hidden = False
         path = old = ""
         for line in file.read_text().split("\n"):
             if line.startswith("file: "):
@@ -181,6 +211,13 @@ class Edit:
             texts[path] = text.replace(old, new)
         return found
 
+    def is_hidden_by(self, other: "Edit") -> bool:
+        """Whether a check told nothing of it, and a function that it changes may call one that the other changes."""
+        if not self.was_hidden:
+            return False
+        ends = [{end if end[0].isupper() else end.rpartition("::")[2] for end in it.functions} for it in (self, other)]
+        return any(below(self.crate, end) & ends[1] for end in ends[0])
+
     def turn(self, parts: int) -> int:
         """The part that it is in."""
         return zlib.crc32(self.name.encode()) % parts
@@ -207,8 +244,9 @@ def run(words: list[str], folder: str) -> tuple[int, str, float]:
     return started.returncode, said, used.ru_utime + used.ru_stime
 
 
-def refused_of(crate: Crate, edits: list[Edit], tally: Tally) -> dict[Edit, str] | None:
-    """Tries these edits in one check. Those that are refused, each with what was said of it, or None where nothing was judged."""
+def refused_of(crate: Crate, edits: list[Edit], tally: Tally, kept: str | None) -> dict[Edit, str] | None:
+    """Tries these edits in one check, over what checks kept in that folder, if there is one. Those that are refused, each with what was
+    said of it, or None where nothing was judged."""
     names, texts = sorted(set().union(*(it.functions for it in edits))), functools.reduce(lambda texts, it: it.applied(texts), edits, {})
     with tempfile.TemporaryDirectory(prefix="planted-") as room:
         for part in (it for it in ("src", "specs", "proofs") if (crate.folder / it).is_dir()):
@@ -216,7 +254,8 @@ def refused_of(crate: Crate, edits: list[Edit], tally: Tally) -> dict[Edit, str]
         for path, text in texts.items():
             pathlib.Path(room, path).write_text(text)
         only = [word for name in names for word in ("--only", name)]
-        status, said, seconds = run([f"{toolchain()}/bin/rattle", "check", *crate.words(), *only], room)
+        over = ["--incremental", kept] if kept else []
+        status, said, seconds = run([f"{toolchain()}/bin/rattle", "check", *crate.words(), *over, *only], room)
     tally.checks, tally.seconds = tally.checks + 1, tally.seconds + seconds
     last = said.rstrip("\n").rpartition("\n")[2]
     causes = {it[1]: it[0] for it in UNPROVED.finditer(said)}
@@ -234,7 +273,7 @@ def together(edits: list[Edit], most: int) -> list[Edit]:
     for it in edits:
         if len(chosen) == most:
             break
-        if any(it.functions & other.functions for other in chosen):
+        if any(it.functions & other.functions or it.is_hidden_by(other) or other.is_hidden_by(it) for other in chosen):
             continue
         try:
             texts = it.applied(texts)
@@ -257,26 +296,35 @@ def fit(edits: list[Edit], tally: Tally) -> list[Edit]:
     return found
 
 
+def try_beside(crate: Crate, edits: list[Edit], most: int, tally: Tally, kept: str | None) -> list[Edit]:
+    """Tries these edits, so many to a check. Those of which that tells nothing."""
+    again, waiting = [], edits
+    while waiting:
+        now = together(waiting, most)
+        refused = refused_of(crate, now, tally, kept)
+        hidden = [it for it in now if it not in (refused or ())]
+        for it in hidden:
+            it.was_hidden = True
+        tally.refused += len(now) - len(hidden)
+        waiting = [it for it in waiting if it not in now]
+        if refused:
+            waiting += hidden
+        elif refused is None or most > 1:
+            again += hidden
+        else:
+            say(f"{now[0].name}: NOT REFUSED")
+            tally.passed.append(now[0].name)
+    return again
+
+
 def try_crate(crate: Crate, edits: list[Edit], is_alone: bool) -> Tally:
     """Tries a crate's edits, in as few checks as can tell them apart."""
     tally = Tally()
     left = fit(edits, tally)
-    for most in (1,) if is_alone else SHARING:
-        again, waiting = [], left
-        while waiting:
-            now = together(waiting, most)
-            refused = refused_of(crate, now, tally)
-            hidden = [it for it in now if it not in (refused or ())]
-            tally.refused += len(now) - len(hidden)
-            waiting = [it for it in waiting if it not in now]
-            if refused:
-                waiting += hidden
-            elif refused is None or len(now) > 1:
-                again += hidden
-            else:
-                say(f"{now[0].name}: NOT REFUSED")
-                tally.passed.append(now[0].name)
-        left = again
+    with tempfile.TemporaryDirectory(prefix="planted-kept-") as kept:
+        for most in () if is_alone else SHARING[:-1]:
+            left = try_beside(crate, left, most, tally, kept)
+    left = try_beside(crate, left, SHARING[-1], tally, None)
     for it in left:
         say(f"{it.name}: NOT TRIED: its check judged nothing; the edited text has to compile")
     tally.unfit += [it.name for it in left]
