@@ -8,3 +8,5 @@ pub mod Endings
 pub mod Once
 pub mod Back
 pub mod Refusals
+pub mod OfferLemmas
+pub mod Offering

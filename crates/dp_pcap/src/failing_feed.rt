@@ -65,7 +65,7 @@ impl<F: Feed> Feed for FailingFeed<F> {
 
     fn pass(&mut self, _n: usize) {}
 
-    /// Fails only where it was broken, where no byte may come any more, or where the feed inside failed.
+    /// Fails exactly where it was broken, where no byte may come any more, or where the feed inside is broken.
     fn pull(&mut self, buf: &mut [u8]) -> Result<usize, Failed>
         ensures bound { IfOk result (λ n. n ≤ length buf.new) }
         ensures bytes { ReadConsumes (option_map (take (bytes_to_give self.old)) (F.remaining (feed_inside self.old)))
@@ -80,6 +80,8 @@ impl<F: Feed> Feed for FailingFeed<F> {
         ensures left { IfOk result (λ n. bytes_to_give self.new + n ≡ bytes_to_give self.old) }
         ensures cause { OnErr result (IsTrue (feed_health self.old).is_broken
             ⊎ (bytes_to_give self.old ≡ 0) ⊎ IsTrue (F.is_broken (feed_inside self.new))) }
+        ensures certain { (IsTrue (feed_health self.old).is_broken
+            ⊎ (bytes_to_give self.old ≡ 0) ⊎ IsTrue (F.is_broken (feed_inside self.new))) → IsErr result }
     {
         self.health.call();
         if self.health.is_broken() || self.left == 0 {

@@ -1,7 +1,7 @@
 //! A sink that fails after a while, for tests.
-ghost use Rattle.std.specs.Prelude.{◌≡◌, ◌<◌};
+ghost use Rattle.std.specs.Prelude.{◌≡◌, ◌<◌, []};
 
-use crate::{Failed, Health, Sink};
+use crate::{Failed, Health, Offers, Sink};
 
 /// Passes a few bytes a call on to another [`Sink`], and fails behind a number of them.
 #[derive(Drop)]
@@ -12,12 +12,13 @@ pub struct FailingSink<S> {
     // How many bytes may still pass.
     left: usize,
     health: Health,
+    offers: Offers,
     ghost some: { 0 < most },
 }
 
 impl<S: Sink> FailingSink<S> {
     ghost use Rattle.dp_pcap.specs.Health.{fresh};
-    ghost use Rattle.dp_pcap.specs.Failing.{sink_inside, bytes_a_call, bytes_to_take, sink_health};
+    ghost use Rattle.dp_pcap.specs.Failing.{sink_inside, bytes_a_call, bytes_to_take, sink_health, sink_offers};
 
     /// Passes at most `most` bytes a call on to `inner`, and fails behind `left` bytes.
     pub fn new(inner: S, most: usize, left: usize) -> FailingSink<S>
@@ -26,12 +27,14 @@ impl<S: Sink> FailingSink<S> {
         ensures most { bytes_a_call result ≡ most }
         ensures left { bytes_to_take result ≡ left }
         ensures health { sink_health result ≡ fresh }
+        ensures offers { sink_offers result ≡ [] }
     {
         FailingSink {
             inner,
             most,
             left,
             health: Health::new(),
+            offers: Offers::new(),
         }
     }
 
@@ -44,15 +47,16 @@ impl<S: Sink> FailingSink<S> {
             most: _,
             left: _,
             health: _,
+            offers: _,
         } = self;
         inner
     }
 }
 
 impl<S: Sink> Sink for FailingSink<S> {
-    ghost use Rattle.std.specs.Prelude.{◌≡◌, ◌+◌, ◌<◌, ◌≤◌, ◌↔◌, ◌⊎◌, length, IfOk, IsErr, IsTrue, OnErr, MatchResult};
+    ghost use Rattle.std.specs.Prelude.{◌≡◌, ◌+◌, ◌<◌, ◌≤◌, ◌↔◌, ◌⊎◌, [], ◌∷◌, ◌++◌, length, IfOk, IsErr, IsTrue, OnErr, MatchResult};
     ghost use Rattle.std.specs.Io.KnownBytes.{WriteAppends};
-    ghost use Rattle.dp_pcap.specs.Failing.{sink_inside, bytes_a_call, bytes_to_take, sink_health};
+    ghost use Rattle.dp_pcap.specs.Failing.{sink_inside, bytes_a_call, bytes_to_take, sink_health, sink_offers};
 
     ghost is_broken = { λ d. d.health.is_broken };
 
@@ -60,9 +64,11 @@ impl<S: Sink> Sink for FailingSink<S> {
 
     ghost failures = { λ d. d.health.failures };
 
+    ghost offers = { λ d. d.offers.pieces };
+
     ghost contents = { λ d. S.contents d.inner };
 
-    /// Fails only where it was broken, where no byte may pass any more, or where the sink inside failed.
+    /// Fails exactly where it was broken, where no byte may pass any more, or where the sink inside is broken.
     fn push(&mut self, bytes: &[u8]) -> Result<usize, Failed>
         ensures bound { IfOk result (λ n. n ≤ length bytes.now) }
         ensures some { IfOk result (λ n. 0 < length bytes.now → 0 < n) }
@@ -71,6 +77,7 @@ impl<S: Sink> Sink for FailingSink<S> {
         ensures failed { IsErr result ↔ IsTrue (sink_health self.new).is_broken }
         ensures stays { IsTrue (sink_health self.old).is_broken → IsTrue (sink_health self.new).is_broken }
         ensures counted { (sink_health self.new).calls ≡ (sink_health self.old).calls + 1 }
+        ensures offered { sink_offers self.new ≡ sink_offers self.old ++ bytes.now ∷ [] }
         ensures failures { MatchResult result
             (λ _. (sink_health self.new).failures ≡ (sink_health self.old).failures)
             (λ _. (sink_health self.new).failures ≡ (sink_health self.old).failures + 1) }
@@ -79,8 +86,11 @@ impl<S: Sink> Sink for FailingSink<S> {
         ensures left { IfOk result (λ n. bytes_to_take self.new + n ≡ bytes_to_take self.old) }
         ensures cause { OnErr result (IsTrue (sink_health self.old).is_broken
             ⊎ (bytes_to_take self.old ≡ 0) ⊎ IsTrue (S.is_broken (sink_inside self.new))) }
+        ensures certain { (IsTrue (sink_health self.old).is_broken
+            ⊎ (bytes_to_take self.old ≡ 0) ⊎ IsTrue (S.is_broken (sink_inside self.new))) → IsErr result }
     {
         self.health.call();
+        self.offers = self.offers.and(bytes);
         if self.health.is_broken() || self.left == 0 {
             return Err(self.health.fail());
         }

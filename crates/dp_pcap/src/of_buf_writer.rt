@@ -1,27 +1,31 @@
 //! A sink made of a buffered writer of std.
-ghost use Rattle.std.specs.Prelude.{◌≡◌, ◌+◌, ◌<◌, ◌≤◌, ◌↔◌, length, IfOk, IsErr, IsTrue, MatchResult};
+ghost use Rattle.std.specs.Prelude.{◌≡◌, [], ◌+◌, ◌<◌, ◌≤◌, ◌↔◌, length, IfOk, IsErr, IsTrue, MatchResult};
 ghost use Rattle.std.specs.Io.KnownBytes.{WriteAppends};
 
-use crate::{Failed, OfWrite, Sink};
+use crate::{Failed, OfWrite, Offers, Sink};
 use std::io::{BufWriter, Write};
 
 /// A buffered writer as a [`Sink`], as [`OfWrite`] is. Bytes that fit into its buffer go there at once.
 #[derive(Drop)]
 pub struct OfBufWriter<W: Write + Drop> {
     sink: OfWrite<BufWriter<W>>,
+    // What it was offered itself: the sink inside is offered what fills the buffer.
+    offers: Offers,
 }
 
 impl<W: Write + Drop> OfBufWriter<W> {
     ghost use Rattle.dp_pcap.specs.Health.{fresh};
-    ghost use Rattle.dp_pcap.specs.OfStd.{buffered_writer, buffered_sink_health};
+    ghost use Rattle.dp_pcap.specs.OfStd.{buffered_writer, buffered_sink_health, buffered_sink_offers};
 
     /// Takes a writer.
     pub fn new(inner: BufWriter<W>) -> OfBufWriter<W>
         ensures inner { buffered_writer result ≡ inner }
         ensures health { buffered_sink_health result ≡ fresh }
+        ensures offers { buffered_sink_offers result ≡ [] }
     {
         OfBufWriter {
             sink: OfWrite::new(inner),
+            offers: Offers::new(),
         }
     }
 
@@ -29,7 +33,7 @@ impl<W: Write + Drop> OfBufWriter<W> {
     pub fn into_inner(self) -> BufWriter<W>
         ensures { result ≡ buffered_writer self }
     {
-        let OfBufWriter { sink } = self;
+        let OfBufWriter { sink, offers: _ } = self;
         sink.into_inner()
     }
 }
@@ -43,10 +47,13 @@ impl<W: Write + Drop> Sink for OfBufWriter<W> {
 
     ghost failures = { λ d. d.sink.health.failures };
 
+    ghost offers = { λ d. d.offers.pieces };
+
     ghost contents = { λ d. writer_contents W.contents d.sink.inner };
 
     #[inline(always)]
     fn push(&mut self, bytes: &[u8]) -> Result<usize, Failed> {
+        self.offers = self.offers.and(bytes);
         // It holds no more than its capacity, so nothing wraps. Asked first, so that what fits cannot fail.
         let held = self.sink.inner.buffer().len();
         let spare = self.sink.inner.capacity().wrapping_sub(held);

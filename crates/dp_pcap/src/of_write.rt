@@ -1,7 +1,7 @@
 //! A sink made of a writer of std.
-ghost use Rattle.std.specs.Prelude.{◌≡◌};
+ghost use Rattle.std.specs.Prelude.{◌≡◌, []};
 
-use crate::{Failed, Health, Sink};
+use crate::{Failed, Health, Offers, Sink};
 use std::io::Write;
 
 /// A writer as a [`Sink`]. Its first error breaks it, and so does a write that takes nothing of bytes
@@ -10,20 +10,23 @@ use std::io::Write;
 pub struct OfWrite<W> {
     pub(crate) inner: W,
     pub(crate) health: Health,
+    pub(crate) offers: Offers,
 }
 
 impl<W: Write> OfWrite<W> {
     ghost use Rattle.dp_pcap.specs.Health.{fresh};
-    ghost use Rattle.dp_pcap.specs.OfStd.{writer_inside, sink_health};
+    ghost use Rattle.dp_pcap.specs.OfStd.{writer_inside, sink_health, sink_offers};
 
     /// Takes a writer.
     pub fn new(inner: W) -> OfWrite<W>
         ensures inner { writer_inside result ≡ inner }
         ensures health { sink_health result ≡ fresh }
+        ensures offers { sink_offers result ≡ [] }
     {
         OfWrite {
             inner,
             health: Health::new(),
+            offers: Offers::new(),
         }
     }
 
@@ -31,7 +34,11 @@ impl<W: Write> OfWrite<W> {
     pub fn into_inner(self) -> W
         ensures { result ≡ writer_inside self }
     {
-        let OfWrite { inner, health: _ } = self;
+        let OfWrite {
+            inner,
+            health: _,
+            offers: _,
+        } = self;
         inner
     }
 }
@@ -43,11 +50,14 @@ impl<W: Write> Sink for OfWrite<W> {
 
     ghost failures = { λ d. d.health.failures };
 
+    ghost offers = { λ d. d.offers.pieces };
+
     ghost contents = { λ d. W.contents d.inner };
 
     #[inline(always)]
     fn push(&mut self, bytes: &[u8]) -> Result<usize, Failed> {
         self.health.call();
+        self.offers = self.offers.and(bytes);
         if self.health.is_broken() {
             return Err(self.health.fail());
         }

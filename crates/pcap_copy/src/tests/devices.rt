@@ -49,6 +49,8 @@ impl<S: Sink> Sink for Counting<S> {
 
     ghost failures = { λ d. S.failures d.inner };
 
+    ghost offers = { λ d. S.offers d.inner };
+
     ghost contents = { λ d. S.contents d.inner };
 
     fn push(&mut self, bytes: &[u8]) -> Result<usize, Failed> {

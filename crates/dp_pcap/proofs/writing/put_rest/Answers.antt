@@ -1,4 +1,6 @@
-use Rattle.std.proofs.Common.{rules, arith}
+use Rattle.std.proofs.Common.{rules, arith, length}
+use Rattle.std.proofs.lemmas.Slice.{between_to_end}
+use Rattle.dp_pcap.proofs.Offering.{more_offered}
 use Rattle.std.proofs.KnownBytes.{Appends-trans}
 use Rattle.dp_pcap.proofs.Pieces.{take_more-rest}
 use Rattle.dp_pcap.proofs.writing.put_rest.Goals as goal
@@ -14,4 +16,5 @@ loop-at-preserved g c =
       stays = λ h. search rules;
       counted = omega (arith, pushed.counted, pushed.some (search rules), c.loop-at.invariant.counted);
       failures = omega arith;
+      offered = more_offered _ _ _ c.args.piece.now _ c.loop-at.at _ c.loop-at.invariant.offered pushed.offered (between_to_end c.args.piece.now c.loop-at.at (length c.args.piece.now) (omega arith)) (omega (arith, pushed.some (search rules)));
     }
