@@ -216,6 +216,7 @@ impl Machine {
     }
 
     // An instruction that handles no packet. The label of the next.
+    #[inline(always)]
     pub(crate) fn calculate(&mut self, tables: &[Lpm], instr: Instr, label: u16) -> u16
         requires some { (after : ℕ × List ℕ) × (calculated (routes_of tables.now) label self.old.state.numbers instr ≡ Some after) }
         requires shifts { ShiftsWithin instr }

@@ -9,6 +9,7 @@ use dp_lpm::Lpm;
 use dp_model::{Instr, NumberRegister, Operand};
 
 // To that label where the test passes, and else on.
+#[inline(always)]
 pub(crate) fn branch(test: bool, to: u16, label: u16) -> u16
     requires { label < 1024 }
     ensures { result ≡ (if test then to else label + 1) }
@@ -17,6 +18,7 @@ pub(crate) fn branch(test: bool, to: u16, label: u16) -> u16
 }
 
 // The number of a register.
+#[inline(always)]
 fn number(numbers: &[u64; 8], register: NumberRegister) -> u64
     ensures { result ≡ slice_index numbers.now register }
 {
@@ -24,6 +26,7 @@ fn number(numbers: &[u64; 8], register: NumberRegister) -> u64
 }
 
 // The value of an operand.
+#[inline(always)]
 fn value(numbers: &[u64; 8], operand: Operand) -> u64
     ensures { result ≡ value numbers.now operand }
 {
@@ -42,6 +45,7 @@ fn hop_in(tables: &[Lpm], table: u8, n: u64) -> Option<u32>
 }
 
 // An instruction that handles no packet. The label of the next.
+#[inline(always)]
 pub(crate) fn calculate(numbers: &mut [u64; 8], tables: &[Lpm], instr: Instr, label: u16) -> u16
     requires some { (after : ℕ × List ℕ) × (calculated (routes_of tables.now) label numbers.old instr ≡ Some after) }
     requires shifts { ShiftsWithin instr }

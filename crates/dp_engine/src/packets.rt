@@ -48,6 +48,7 @@ pub(crate) fn take(m: &mut Machine, env: &Env, pattern: &[u64], instr: Instr, la
 }
 
 // Asks for a room or a length.
+#[inline(always)]
 pub(crate) fn ask(m: &Machine, instr: Instr, label: u16) -> u16
     requires has { MayAct m.now label instr }
     requires asks { Asks instr }
@@ -80,6 +81,7 @@ pub(crate) fn ask(m: &Machine, instr: Instr, label: u16) -> u16
 }
 
 // The place in a packet's first segment that a register and an offset make.
+#[inline(always)]
 fn place_of(m: &Machine, packet: PacketRegister, index: NumberRegister, offset: u16) -> u64
     requires { (k : Packet) × Holds m.now.state packet k × (slice_index m.now.state.numbers index + offset ≤ first_len k) }
     ensures { result ≡ slice_index m.now.state.numbers index + offset }
@@ -90,6 +92,7 @@ fn place_of(m: &Machine, packet: PacketRegister, index: NumberRegister, offset: 
 }
 
 // Reads a number from a packet.
+#[inline(always)]
 pub(crate) fn read(m: &mut Machine, instr: Instr, label: u16) -> u16
     requires has { MayAct m.old label instr }
     requires reads { Reads instr }
@@ -125,6 +128,7 @@ pub(crate) fn read(m: &mut Machine, instr: Instr, label: u16) -> u16
 }
 
 // Writes a number into a packet.
+#[inline(always)]
 pub(crate) fn write(m: &mut Machine, instr: Instr, label: u16) -> u16
     requires has { MayAct m.old label instr }
     requires writes { Writes instr }
@@ -160,6 +164,7 @@ pub(crate) fn write(m: &mut Machine, instr: Instr, label: u16) -> u16
 }
 
 // Changes a packet's bounds, joins two or gives one up.
+#[inline(always)]
 pub(crate) fn edit(m: &mut Machine, instr: Instr, label: u16) -> u16
     requires has { MayAct m.old label instr }
     requires edits { Edits instr }

@@ -12,6 +12,7 @@ use crate::machine::{Machine, is_listed};
 use dp_model::{Env, Packet as Handle, PacketRegister, Width};
 
 // The handle in a register, which holds a packet.
+#[inline(always)]
 pub(super) fn handle_in(registers: &[Register; 8], p: PacketRegister) -> Handle
     requires { (h : ℕ) × (slice_get registers.now p ≡ Some (Some h)) }
     ensures { slice_get registers.now p ≡ Some (Some result) }

@@ -23,6 +23,56 @@ edit-requires-clause-has c =
     may_act (setting_of c.args.env.now c.args.tables.now c.args.pattern.now) c.args.label c.args.m.now c.count_step.new.self c.args.instr.now
     c.count_step.ensures c.requires.pools c.requires.has
 
+pub ask-requires-in-IfTail-clause-has : goal.ask-requires-in-IfTail-clause-has
+ask-requires-in-IfTail-clause-has c =
+    may_act (setting_of c.args.env.now c.args.tables.now c.args.pattern.now) c.args.label c.args.m.now c.count_step.new.self c.args.instr.now
+    c.count_step.ensures c.requires.pools c.requires.has
+
+pub ask-requires-in-IfLen-clause-has : goal.ask-requires-in-IfLen-clause-has
+ask-requires-in-IfLen-clause-has c =
+    may_act (setting_of c.args.env.now c.args.tables.now c.args.pattern.now) c.args.label c.args.m.now c.count_step.new.self c.args.instr.now
+    c.count_step.ensures c.requires.pools c.requires.has
+
+pub ask-requires-in-IfLast-clause-has : goal.ask-requires-in-IfLast-clause-has
+ask-requires-in-IfLast-clause-has c =
+    may_act (setting_of c.args.env.now c.args.tables.now c.args.pattern.now) c.args.label c.args.m.now c.count_step.new.self c.args.instr.now
+    c.count_step.ensures c.requires.pools c.requires.has
+
+pub read-requires-in-LoadX-clause-has : goal.read-requires-in-LoadX-clause-has
+read-requires-in-LoadX-clause-has c =
+    may_act (setting_of c.args.env.now c.args.tables.now c.args.pattern.now) c.args.label c.args.m.now c.count_step.new.self c.args.instr.now
+    c.count_step.ensures c.requires.pools c.requires.has
+
+pub write-requires-in-StoreX-clause-has : goal.write-requires-in-StoreX-clause-has
+write-requires-in-StoreX-clause-has c =
+    may_act (setting_of c.args.env.now c.args.tables.now c.args.pattern.now) c.args.label c.args.m.now c.count_step.new.self c.args.instr.now
+    c.count_step.ensures c.requires.pools c.requires.has
+
+pub edit-requires-in-Prepend-clause-has : goal.edit-requires-in-Prepend-clause-has
+edit-requires-in-Prepend-clause-has c =
+    may_act (setting_of c.args.env.now c.args.tables.now c.args.pattern.now) c.args.label c.args.m.now c.count_step.new.self c.args.instr.now
+    c.count_step.ensures c.requires.pools c.requires.has
+
+pub edit-requires-in-Adj-clause-has : goal.edit-requires-in-Adj-clause-has
+edit-requires-in-Adj-clause-has c =
+    may_act (setting_of c.args.env.now c.args.tables.now c.args.pattern.now) c.args.label c.args.m.now c.count_step.new.self c.args.instr.now
+    c.count_step.ensures c.requires.pools c.requires.has
+
+pub edit-requires-in-Append-clause-has : goal.edit-requires-in-Append-clause-has
+edit-requires-in-Append-clause-has c =
+    may_act (setting_of c.args.env.now c.args.tables.now c.args.pattern.now) c.args.label c.args.m.now c.count_step.new.self c.args.instr.now
+    c.count_step.ensures c.requires.pools c.requires.has
+
+pub edit-requires-in-Trim-clause-has : goal.edit-requires-in-Trim-clause-has
+edit-requires-in-Trim-clause-has c =
+    may_act (setting_of c.args.env.now c.args.tables.now c.args.pattern.now) c.args.label c.args.m.now c.count_step.new.self c.args.instr.now
+    c.count_step.ensures c.requires.pools c.requires.has
+
+pub edit-requires-in-Chain-clause-has : goal.edit-requires-in-Chain-clause-has
+edit-requires-in-Chain-clause-has c =
+    may_act (setting_of c.args.env.now c.args.tables.now c.args.pattern.now) c.args.label c.args.m.now c.count_step.new.self c.args.instr.now
+    c.count_step.ensures c.requires.pools c.requires.has
+
 pub returns-in-Load-clause-acts : goal.returns-in-Load-clause-acts
 returns-in-Load-clause-acts c =
     acts_to (setting_of c.args.env.now c.args.tables.now c.args.pattern.now) c.args.label c.args.m.now c.count_step.new.self c.args.instr.now c.read.result
@@ -37,6 +87,41 @@ pub returns-in-Free-clause-acts : goal.returns-in-Free-clause-acts
 returns-in-Free-clause-acts c =
     acts_to (setting_of c.args.env.now c.args.tables.now c.args.pattern.now) c.args.label c.args.m.now c.count_step.new.self c.args.instr.now c.edit.result
     c.edit.new.m.state c.count_step.ensures c.requires.pools c.requires.has c.edit.ensures.acts
+
+pub returns-in-LoadX-clause-acts : goal.returns-in-LoadX-clause-acts
+returns-in-LoadX-clause-acts c =
+    acts_to (setting_of c.args.env.now c.args.tables.now c.args.pattern.now) c.args.label c.args.m.now c.count_step.new.self c.args.instr.now c.read-in-LoadX.result
+    c.read-in-LoadX.new.m.state c.count_step.ensures c.requires.pools c.requires.has c.read-in-LoadX.ensures.acts
+
+pub returns-in-StoreX-clause-acts : goal.returns-in-StoreX-clause-acts
+returns-in-StoreX-clause-acts c =
+    acts_to (setting_of c.args.env.now c.args.tables.now c.args.pattern.now) c.args.label c.args.m.now c.count_step.new.self c.args.instr.now c.write-in-StoreX.result
+    c.write-in-StoreX.new.m.state c.count_step.ensures c.requires.pools c.requires.has c.write-in-StoreX.ensures.acts
+
+pub returns-in-Prepend-clause-acts : goal.returns-in-Prepend-clause-acts
+returns-in-Prepend-clause-acts c =
+    acts_to (setting_of c.args.env.now c.args.tables.now c.args.pattern.now) c.args.label c.args.m.now c.count_step.new.self c.args.instr.now c.edit-in-Prepend.result
+    c.edit-in-Prepend.new.m.state c.count_step.ensures c.requires.pools c.requires.has c.edit-in-Prepend.ensures.acts
+
+pub returns-in-Adj-clause-acts : goal.returns-in-Adj-clause-acts
+returns-in-Adj-clause-acts c =
+    acts_to (setting_of c.args.env.now c.args.tables.now c.args.pattern.now) c.args.label c.args.m.now c.count_step.new.self c.args.instr.now c.edit-in-Adj.result
+    c.edit-in-Adj.new.m.state c.count_step.ensures c.requires.pools c.requires.has c.edit-in-Adj.ensures.acts
+
+pub returns-in-Append-clause-acts : goal.returns-in-Append-clause-acts
+returns-in-Append-clause-acts c =
+    acts_to (setting_of c.args.env.now c.args.tables.now c.args.pattern.now) c.args.label c.args.m.now c.count_step.new.self c.args.instr.now c.edit-in-Append.result
+    c.edit-in-Append.new.m.state c.count_step.ensures c.requires.pools c.requires.has c.edit-in-Append.ensures.acts
+
+pub returns-in-Trim-clause-acts : goal.returns-in-Trim-clause-acts
+returns-in-Trim-clause-acts c =
+    acts_to (setting_of c.args.env.now c.args.tables.now c.args.pattern.now) c.args.label c.args.m.now c.count_step.new.self c.args.instr.now c.edit-in-Trim.result
+    c.edit-in-Trim.new.m.state c.count_step.ensures c.requires.pools c.requires.has c.edit-in-Trim.ensures.acts
+
+pub returns-in-Chain-clause-acts : goal.returns-in-Chain-clause-acts
+returns-in-Chain-clause-acts c =
+    acts_to (setting_of c.args.env.now c.args.tables.now c.args.pattern.now) c.args.label c.args.m.now c.count_step.new.self c.args.instr.now c.edit-in-Chain.result
+    c.edit-in-Chain.new.m.state c.count_step.ensures c.requires.pools c.requires.has c.edit-in-Chain.ensures.acts
 
 pub overflow_cast-to : goal.overflow_cast-to
 overflow_cast-to c =
