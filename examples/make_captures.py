@@ -100,6 +100,7 @@ def arp(source: str, asked: str) -> Frame:
     return Frame((body + b"\0" * 6 + ipaddress.ip_address(asked).packed).ljust(46, b"\0"), kind=0x0806, to=ALL)
 
 
+LABEL = bytes.fromhex("0a0b0c0d")
 RUNT = b"\x02\0\0\0\0\x0b\x02\0\0"
 QUERY = struct.pack(">HHHHHH", 0x2026, 0x0100, 1, 0, 0, 0) + b"\7example\3com\0" + struct.pack(">HH", 1, 1)
 WEB = b"GET / HTTP/1.1\r\nHost: example.com\r\n\r\n"
@@ -186,6 +187,14 @@ def mirror(frame: object) -> list[tuple[int, object]]:
     return [(1, frame), (0, frame)]
 
 
+def multicast(frame: object) -> list[tuple[int, object]]:
+    return [(0, frame), (1, LABEL + spelled(frame))]
+
+
+def forward(frame: object) -> list[tuple[int, object]]:
+    return [(1, frame)]
+
+
 def splitter(frame: object) -> list[tuple[int, object]]:
     ip = ip_of(frame)
     if ip is None:
@@ -254,6 +263,7 @@ def flows() -> list[object]:
     return frames + [udp("10.0.0.1", "192.0.2.53", (40000, 53), QUERY, options=b"\1\1\1\0")]
 
 
+# What becomes of a frame, on all ports or port by port, the frames that come in at each port, and how many ports there are.
 EXAMPLES = {
     "vlan_pop": (vlan_pop, [tagged()], 1),
     "vlan_push": (vlan_push, [tagged()], 1),
@@ -262,6 +272,7 @@ EXAMPLES = {
     "gre": (gre, [mixed()], 1),
     "stages": (stages, [mixed()], 1),
     "mirror": (mirror, [mixed()], 2),
+    "multicast": ([multicast, forward], [mixed()[:5], mixed()[5:]], 2),
     "splitter": (splitter, [flows()], 4),
     "router": (routed, to_be_routed(), 3),
 }
@@ -282,12 +293,13 @@ def name(kind: str, port: int, ports: int) -> str:
 def make(folder: pathlib.Path) -> None:
     (folder / "none.pcap").write_bytes(capture([]))
     for example, (told, inputs, ports) in EXAMPLES.items():
+        makers = told if isinstance(told, list) else [told] * len(inputs)
         sent: list[list[tuple[int, bytes]]] = [[] for _ in range(ports)]
         longest = max(len(frames) for frames in inputs)
         # A record of each port in turn; all that are first come at the same time, and so on.
         for k in range(longest):
-            for frames in inputs:
-                for port, frame in told(frames[k]) if k < len(frames) else []:
+            for maker, frames in zip(makers, inputs):
+                for port, frame in maker(frames[k]) if k < len(frames) else []:
                     sent[port].append((k, spelled(frame)))
         for port, frames in enumerate(inputs):
             (folder / example / name("in", port, len(inputs))).write_bytes(capture([(k, spelled(f)) for k, f in enumerate(frames)]))

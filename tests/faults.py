@@ -4,10 +4,12 @@
 Usage: tests/faults.py [PROGRAM]   (the built program; by default the one that ./dpv builds and runs)
 Each case has its own fault and all those that are looked for later: words come first, then the pipeline file, its text and its nodes
 one after the other, of each the program file and its text, then the certificate's, then the check; then a node that is not there, then
-the input and the output, then the run. So the fault that is told shows the order.
+the inputs and then the outputs, in port order, then the run. So the fault that is told shows the order. Then captures that are no plain
+files of their own: an input that is also an output, an output named twice, standard input and output, a full disk.
 Prints a line for each case that went another way, and a count; exits with 1 where there is such a case.
 """
 import pathlib
+import struct
 import subprocess
 import sys
 import tempfile
@@ -48,15 +50,28 @@ def make_files(folder: pathlib.Path) -> None:
         "lost.dpv": b"exit\n",
         "long.toml": b"=" * (LONGEST + 1),
         "bytes.toml": b"# \xff\n",
+        "forward.dpv": b"tx p0,r0,d\nexit\nd: free p0\nexit\n",
+        "one.pcap": ONE,
+        "two.pcap": TWO,
+        "same.pcap": ONE,
     }
     head, *rows = cert.splitlines(keepends=True)
     files["bold.cert"] = head + rows[0][:-2] + b"1\n" + b"".join(rows[1:])
-    files.update((f"{name}.toml", text.encode()) for name, text in pipelines().items())
+    files.update((f"{name}.toml", text.encode()) for name, text in (pipelines() | run_pipelines()).items())
     for name, data in files.items():
         (folder / name).write_bytes(data)
     (folder / "folder").mkdir()
 
 
+HEADER = struct.pack("<IHHIIII", 0xA1B2C3D4, 2, 4, 0, 0, 262144, 1)
+
+
+def capture(*records: bytes) -> bytes:
+    """A capture of these records."""
+    return HEADER + b"".join(struct.pack("<IIII", 1, 2, len(record), len(record)) + record for record in records)
+
+
+ONE, TWO = capture(b"a record"), capture(b"another record", b"and one more")
 POOL = "[[pool]]\ncount = 4\ncache = 0\nroom = 2176\n"
 RING = "[[ring]]\ncount = 4\nshare = 0\nhead = 0\ntail = 0\nfirst = 0\nlast = 0\nsegs = 64\n"
 PORT = '[[port]]\npool = 0\nsegs = 1\nqueue = 4\nin = "none"\nout = "none/none"\n'
@@ -72,6 +87,34 @@ def pipeline(ports: list[str], rings: list[str] | None = None, table: str = "") 
     """A pipeline file of these nodes."""
     kinds = [PORT + node(files) for files in ports] + [RING + node(files) for files in rings or []]
     return "region = 10368\n" + POOL + table + "".join(kinds)
+
+
+def run_of(inputs: list[str], outputs: list[str], region: int = 10368) -> str:
+    """A pipeline file of ports that send back what comes in."""
+    names = [f'[[port]]\npool = 0\nsegs = 1\nqueue = 4\nnode = "forward.dpv"\nin = "{i}"\nout = "{o}"\n' for i, o in zip(inputs, outputs)]
+    return f"region = {region}\n" + POOL + "".join(names)
+
+
+def run_pipelines() -> dict[str, str]:
+    """The pipelines whose captures are at fault, in the order in which faults are looked for, and those that run."""
+    late = ["none/none", "none/none"]
+    return {
+        "no_input": run_of(["none", "none"], late, 9600),
+        "no_other_input": run_of(["short.pcap", "none"], late, 9600),
+        "no_output": run_of(["short.pcap", "short.pcap"], ["none/none", "folder"], 9600),
+        "no_other_output": run_of(["short.pcap", "short.pcap"], ["out0", "folder"], 9600),
+        "no_room": run_of(["short.pcap", "short.pcap"], ["out0", "/dev/full"], 9600),
+        "no_header": run_of(["short.pcap", "link.pcap"], ["out0", "/dev/full"], 9664),
+        "no_other_header": run_of(["one.pcap", "link.pcap"], ["out0", "/dev/full"]),
+        "no_bytes": run_of(["one.pcap", "folder"], ["out0", "/dev/full"]),
+        "full": run_of(["one.pcap", "two.pcap"], ["out0", "/dev/full"]),
+        "both_full": run_of(["one.pcap", "two.pcap"], ["/dev/full", "/dev/full"]),
+        "both": run_of(["one.pcap", "two.pcap"], ["out0", "out1"]),
+        "same": run_of(["same.pcap"], ["same.pcap"]),
+        "twice": run_of(["one.pcap", "two.pcap"], ["twice", "twice"]),
+        "long_first": run_of(["two.pcap", "one.pcap"], ["twice", "twice"]),
+        "streams": run_of(["/dev/stdin"], ["/dev/stdout"]),
+    }
 
 
 def pipelines() -> dict[str, str]:
@@ -110,9 +153,9 @@ def node_fault(text: str) -> tuple[int, str, str]:
     return 3, "", f"fault: pipeline {text}\n"
 
 
-def check_cases() -> list[Case]:
-    """Those of `dpv check`, in the order in which faults are looked for."""
-    ends = {
+def load_ends() -> dict[str, tuple[int, str, str]]:
+    """How the loading of each pipeline file ends, in the order in which faults are looked for."""
+    return {
         "none": (3, "", "fault: file none.toml\n"),
         "long": (3, "", "fault: file long.toml\n"),
         "bytes": node_fault("1 NotToml"),
@@ -133,11 +176,45 @@ def check_cases() -> list[Case]:
         "second": (1, "port 1 refused at 0 by J2\n", ""),
         "ring_file": node_fault("5 File ring 0"),
         "ring_lost": (1, "ring 1 not inferred at 0 by J10\n", ""),
-        "sound": (0, "port 0 accepted\nport 1 accepted\nring 0 accepted\n", ""),
         "unread": node_fault("5 File port 0"),
     }
-    return [Case(["check", f"{name}.toml"], *end) for name, end in ends.items()] + [
-        Case(["check", "folder"], 3, "", "fault: file folder\n")
+
+
+def check_cases() -> list[Case]:
+    """Those of `dpv check`."""
+    return [Case(["check", f"{name}.toml"], *end) for name, end in load_ends().items()] + [
+        Case(["check", "folder"], 3, "", "fault: file folder\n"),
+        Case(["check", "sound.toml"], 0, "port 0 accepted\nport 1 accepted\nring 0 accepted\n", ""),
+    ]
+
+
+def report(*ports: tuple[int, int, str], calls: int = 0) -> str:
+    """The report of a pipeline of one pool of four buffers: of each port the records received and sent, and how the input ended."""
+    lines = [f"port {k} received {got} nobuf 0 oversize 0 sent {sent} input {state}\n" for k, (got, sent, state) in enumerate(ports)]
+    return "".join(lines) + f"pool 0 free 4 of 4\ncalls {calls} refused 0\n"
+
+
+def run_cases() -> list[Case]:
+    """Those of `dpv run`: faults of loading come first, then the inputs in port order, then the outputs, then those of the run."""
+    idle = report((0, 0, "open"), (0, 0, "open"))
+    ran = report((1, 1, "whole"), (2, 2, "whole"), calls=3)
+    ends = {
+        "sound": (3, "", "fault: file none\n"),
+        "no_input": (3, "", "fault: file none\n"),
+        "no_other_input": (3, "", "fault: file none\n"),
+        "no_output": (3, "", "fault: file none/none\n"),
+        "no_other_output": (3, "", "fault: file folder\n"),
+        "no_room": (3, idle, "fault: region\n"),
+        "no_header": (3, idle, "fault: input 0 cause 6\n"),
+        "no_other_header": (3, idle, "fault: input 1 cause 3\n"),
+        "no_bytes": (3, idle, "fault: input 1 cause 8\n"),
+        "full": (3, ran, "fault: output 1\n"),
+        "both_full": (3, ran, "fault: output 0\n"),
+        "both": (0, ran, ""),
+    }
+    return [Case(["run", f"{name}.toml"], *end) for name, end in (load_ends() | ends).items()] + [
+        Case(["run", "none", "--refuse", "1"], 3, "", "fault: file none\n"),
+        Case(["run", "--refuse=1", "both.toml"], 0, report((1, 0, "whole"), (2, 2, "whole"), calls=3).replace("received 1 nobuf 0", "received 0 nobuf 1").replace("refused 0", "refused 1"), ""),
     ]
 
 
@@ -187,6 +264,7 @@ def cases() -> list[Case]:
         Case(["mem", "script"], 3, "", "fault: line 2 bad command\n"),
         *check_cases(),
         *infer_cases(),
+        *run_cases(),
     ]
 
 
@@ -197,6 +275,33 @@ def ends_so(program: str, case: Case, folder: pathlib.Path) -> bool:
     if not passed:
         print(f"dpv {' '.join(case.words)}: status {run.returncode}, printed {run.stdout!r}, told {run.stderr!r}")
     return passed
+
+
+def holds(name: str, found: bytes, wanted: bytes) -> bool:
+    """Whether a file holds what it has to."""
+    if found != wanted:
+        print(f"{name}: holds {found!r} and not {wanted!r}")
+    return found == wanted
+
+
+def stream_cases(program: str, folder: pathlib.Path) -> list[bool]:
+    """Captures that are no plain files of their own: each case, whether it went as docs/formats.md says."""
+    sent = report((1, 1, "whole"), calls=1)
+    both, other = report((1, 1, "whole"), (2, 2, "whole"), calls=3), report((2, 2, "whole"), (1, 1, "whole"), calls=3)
+    streams = subprocess.run([program, "run", "streams.toml"], cwd=folder, input=ONE, capture_output=True, timeout=60)
+    return [
+        # The input is open, and then it is made anew: nothing is left to read.
+        ends_so(program, Case(["run", "same.toml"], 3, report((0, 0, "open")), "fault: input 0 cause 6\n"), folder),
+        holds("same.pcap", (folder / "same.pcap").read_bytes(), b""),
+        # Both ports write from the file's start, the last port last.
+        ends_so(program, Case(["run", "twice.toml"], 0, both, ""), folder),
+        holds("twice", (folder / "twice").read_bytes(), TWO),
+        ends_so(program, Case(["run", "long_first.toml"], 0, other, ""), folder),
+        holds("twice", (folder / "twice").read_bytes(), ONE + TWO[len(ONE):]),
+        # A pipe is read to its end, and has the report in front of what the buffer held.
+        holds("standard output", streams.stdout, sent.encode() + ONE),
+        holds("standard error", streams.stderr, b""),
+    ]
 
 
 def shows_usage(program: str, words: list[str], status: int, folder: pathlib.Path) -> bool:
@@ -216,7 +321,7 @@ def main() -> int:
     with tempfile.TemporaryDirectory() as name:
         folder = pathlib.Path(name)
         make_files(folder)
-        asked = (["help"], ["--help"], ["one", "--help"], ["check", "--help"], ["infer", "--help"], ["--version"])
+        asked = (["help"], ["--help"], ["one", "--help"], ["check", "--help"], ["infer", "--help"], ["run", "--help"], ["--version"])
         passed = [shows_usage(program, list(words), 0, folder) for words in asked]
         wrong = ([], ["two"], ["one"], ["one", *strip[1:]], ["one", *strip, "more"], ["one", "--fast", *strip], ["mem"])
         passed += [shows_usage(program, list(words), 2, folder) for words in wrong]
@@ -224,7 +329,12 @@ def main() -> int:
         passed += [shows_usage(program, list(words), 2, folder) for words in wrong]
         nodes = ("", "port", "port10", "Port0", "ring-1", "ringx", "port0 ", "pool0", "0")
         passed += [shows_usage(program, ["infer", "none", name], 2, folder) for name in nodes]
+        wrong = (["run"], ["run", "none", "more"], ["run", "none", "--refuse"], ["run", "none", "--refuse", "1", "--refuse", "2"])
+        passed += [shows_usage(program, list(words), 2, folder) for words in wrong]
+        lists = ("", "0", ",", "1,", ",1", "1,,2", "1,1", "2,1", "1, 2", "+1", "-1", "0x1", "one", "18446744073709551616")
+        passed += [shows_usage(program, ["run", "none", f"--refuse={name}"], 2, folder) for name in lists]
         passed += [ends_so(program, case, folder) for case in cases()]
+        passed += stream_cases(program, folder)
     print(f"faults: {len(passed)} cases, {passed.count(False)} went another way")
     return 0 if all(passed) else 1
 

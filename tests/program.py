@@ -4,19 +4,23 @@
 Usage: tests/program.py [PROGRAM]   (the built program; by default the one that ./dpv builds and runs)
 Refused memory: dpv runs again and again, the first allocation is refused, then the second, and so on to the last. Each run
 has to end with `fault: memory` and status 4, or with all that a run does to which nothing is refused. One that ended early
-may have printed only the first of the lines, and has left its output empty or whole.
+may have printed only the first of the lines, and has left each of its outputs empty or whole. A run of a pipeline makes as many
+allocations for 1,000 records as for one.
 A full disk: what cannot be written ends with status 3.
 Prints a line for each, and exits with 1 where one went another way.
 """
 import os
 import pathlib
 import shutil
+import struct
 import subprocess
 import sys
 import tempfile
 
 TOP = pathlib.Path(__file__).resolve().parent.parent
 STRIP = TOP / "examples/strip"
+MULTICAST = TOP / "examples/multicast"
+OUTPUTS = ("out.pcap", "port0.pcap", "port1.pcap")
 HEAP = "region 65536\n" + "malloc 100 0\n" * 40 + "zmalloc 64 1024\nlist\nfree 1\nfree 41\nstats\n"
 
 
@@ -25,17 +29,27 @@ def one(program: str, output: str) -> list[str]:
     return [program, "one", str(STRIP / "strip.dpv"), str(STRIP / "strip.cert"), str(STRIP / "in.pcap"), output]
 
 
+def copy_multicast(folder: pathlib.Path, records: int) -> list[str]:
+    """Copies the example of two ports, port 0 with so many records, and gives the words that run it but for the program."""
+    shutil.copytree(MULTICAST, folder, dirs_exist_ok=True)
+    header, record = 24, struct.pack("<IIII", 1, 2, 60, 60) + bytes(60)
+    capture = (MULTICAST / "in0.pcap").read_bytes()[:header] + records * record
+    (folder / "in0.pcap").write_bytes(capture)
+    return ["run", "multicast.toml"]
+
+
 class Ended:
     """What a run did: its status, what it printed, told and wrote, and how many allocations it made."""
 
     def __init__(self, command: list[str], shim: pathlib.Path, refused: int) -> None:
         folder = shim.parent
-        written, count = folder / "out.pcap", folder / "count"
-        written.unlink(missing_ok=True)
+        outputs, count = [folder / name for name in OUTPUTS], folder / "count"
+        for output in outputs:
+            output.unlink(missing_ok=True)
         env = dict(os.environ, LD_PRELOAD=str(shim), REFUSE=str(refused), COUNT=str(count))
         run = subprocess.run(command, env=env, cwd=folder, capture_output=True, timeout=60)
         self.status, self.printed, self.told = run.returncode, run.stdout, run.stderr
-        self.written = written.read_bytes() if written.exists() else b""
+        self.written = [output.read_bytes() if output.exists() else b"" for output in outputs]
         self.allocations = int(count.read_text())
 
     def is_as(self, whole: "Ended") -> bool:
@@ -47,7 +61,7 @@ class Ended:
         return (
             (self.status, self.told) == (4, b"fault: memory\n")
             and whole.printed.startswith(self.printed)
-            and self.written in (b"", whole.written)
+            and all(held in (b"", complete) for held, complete in zip(self.written, whole.written))
         )
 
 
@@ -66,6 +80,13 @@ def refuse_each(name: str, command: list[str], shim: pathlib.Path) -> bool:
             print(f"{name}: allocation {number}: status {ended.status}, told {ended.told!r}, printed {ended.printed!r}")
     print(f"{name}: {whole.allocations} allocations, {refused} runs ended with fault: memory, {bad} in another way")
     return bad == 0 and refused > 0
+
+
+def takes_the_same(program: str, shim: pathlib.Path) -> bool:
+    """Whether a run of a pipeline makes as many allocations for 1,000 records as for one."""
+    counts = [Ended([program, *copy_multicast(shim.parent, records)], shim, 0).allocations for records in (1, 1_000)]
+    print(f"dpv run: {counts[0]} allocations for one record, {counts[1]} for 1,000")
+    return counts[0] == counts[1] > 0
 
 
 def shim_in(folder: pathlib.Path) -> pathlib.Path | None:
@@ -105,6 +126,8 @@ def main() -> int:
         passed = [
             shim is None or refuse_each("dpv mem", [program, "mem", str(heap)], shim),
             shim is None or refuse_each("dpv one", one(program, "out.pcap"), shim),
+            shim is None or refuse_each("dpv run", [program, *copy_multicast(folder, 3)], shim),
+            shim is None or takes_the_same(program, shim),
             is_full("dpv one to a full disk", one(program, "/dev/full"), b"fault: output 0\n"),
             is_full("dpv one, its report to a full disk", one(program, str(folder / "out.pcap")), b"", "/dev/full"),
             is_full("dpv mem to a full disk", [program, "mem", str(heap)], b"", "/dev/full"),

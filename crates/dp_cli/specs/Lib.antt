@@ -1,4 +1,5 @@
-pub mod One
 pub mod Pipe
+pub mod Report
+pub mod Run
 pub mod Told
 pub mod Words

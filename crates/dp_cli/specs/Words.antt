@@ -1,5 +1,8 @@
 -- Words of the command line.
-use Rattle.std.specs.Prelude.{ℕ, ◌+◌, List, ◌∷◌, [], ◌++◌, codes}
+use Rattle.std.specs.Prelude.{ℕ, ◌+◌, ◌^◌, List, ◌∷◌, [], ◌++◌, ◌==◌, ◌&&◌, Option, Some, None, codes, length, nat_lt, option_map, option_and_then, if◌then◌else◌}
+use Rattle.std.specs.Char.{is_ascii_digit}
+use Rattle.std.specs.List.{list_all, slice_split}
+use Rattle.std.specs.Str.Parse.{digits_value}
 use Rattle.dp_model.specs.declared.env.Entry.{Entry}
 use Rattle.dp_model.specs.declared.env.Entry.TheVariants.{Port, Ring}
 
@@ -12,3 +15,21 @@ place_of (Ring place) = place
 abbrev pub word_of : Entry → List ℕ
 word_of (Port place) = codes "port" ++ (48 + place) ∷ []
 word_of (Ring place) = codes "ring" ++ (48 + place) ∷ []
+
+-- the number that a word is: one decimal digit or more, and below 2^64
+abbrev pub number_in : List ℕ → Option ℕ
+number_in word = if list_all is_ascii_digit word && (nat_lt 0 (length word) && nat_lt (digits_value 10 word) (2 ^ 64)) then Some (digits_value 10 word) else None
+
+-- the numbers of words, each above the one before it
+abbrev pub ascending_in : ℕ → List (List ℕ) → Option (List ℕ)
+ascending_in last [] = Some []
+ascending_in last (word ∷ words) =
+    option_and_then (λ n. if nat_lt last n then option_map (λ ns. n ∷ ns) (ascending_in n words) else None) (number_in word)
+
+-- the words between commas
+abbrev pub words_in : List ℕ → List (List ℕ)
+words_in list = slice_split (λ b. b == 44) list
+
+-- the numbers of a list, from 1 on, each above the one before it
+abbrev pub numbers_in : List ℕ → Option (List ℕ)
+numbers_in list = ascending_in 0 (words_in list)

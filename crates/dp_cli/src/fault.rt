@@ -34,6 +34,8 @@ pub enum Fault<'a> {
     File(&'a str),
     /// A pipeline that is not loaded, with its cause: one of the first seven.
     Pipeline(PipeError),
+    /// A pipeline's region that is smaller than it needs.
+    Region,
     /// An input that is no capture, or whose reader failed.
     Input { port: u8, cause: u8 },
     /// An output whose writer failed.
@@ -60,6 +62,7 @@ impl fmt::Display for Fault<'_> {
             Fault::Memory => write!(f, "fault: memory"),
             Fault::File(name) => write!(f, "fault: file {name}"),
             Fault::Pipeline(error) => write!(f, "fault: pipeline {error}"),
+            Fault::Region => write!(f, "fault: region"),
             Fault::Input { port, cause } => write!(f, "fault: input {port} cause {cause}"),
             Fault::Output { port } => write!(f, "fault: output {port}"),
             Fault::Line(line) => write!(f, "fault: line {line} bad command"),

@@ -1,5 +1,6 @@
 //! Files of bounded length, read whole.
 
+use crate::fault::Fault;
 use std::alloc::{AllocError, Global};
 use std::io::Read;
 use std::rt::Files;
@@ -15,6 +16,16 @@ pub enum ReadFault {
     Memory,
     /// It cannot be opened or read, or is longer than 1,048,576 bytes.
     File,
+}
+
+impl ReadFault {
+    /// What is told of it.
+    pub fn of_file<'a>(self, name: &'a str) -> Fault<'a> {
+        match self {
+            ReadFault::Memory => Fault::Memory,
+            ReadFault::File => Fault::File(name),
+        }
+    }
 }
 
 impl From<io::Error> for ReadFault {

@@ -1,35 +1,35 @@
 //! The program `dpv`: words, files, and what is told of a run.
 #![tactic(auto)]
 
+mod captures;
 mod fault;
 mod files;
+mod guarded;
 mod mem;
 mod one;
 mod pipe;
 mod report;
+mod run;
 mod script;
 mod words;
 
-ghost use Rattle.dp_cli.specs.One.{IsForOnePort};
+ghost use Rattle.std.specs.Prelude.{IfOk};
+ghost use Rattle.dp_engine.specs.Engines.{IsAscending};
 
+use captures::{create_outputs, flush_outputs, open_inputs};
 use clap::ArgMatches;
 use clap::error::ErrorKind;
-use dp_check::Checked;
-use dp_lang::assemble;
-use dp_model::Entry;
-use dp_pcap::{OfBufReader, OfBufWriter};
-use dp_pipe::{How, PipeError, Pipeline};
-use fault::{DONE, FAULT, Fault, USAGE, tell, tell_fault, tell_unloaded};
-use files::ReadFault;
+use dp_pipe::{How, Pipeline};
+use fault::{DONE, FAULT, Fault, USAGE, tell, tell_fault};
 use mem::mem_line;
-use one::{asm_error, one_load, one_run};
+use one::{Naming, ONE_PORT, OneFiles};
 use pipe::{HostFiles, check_line, infer_line, load_line};
+use run::run_line;
 use std::alloc::Global;
-use std::io::{BufReader, BufWriter, Write};
+use std::io;
 use std::process::ExitCode;
 use std::rt::Files;
-use std::{fs, io};
-use words::node_named;
+use words::{node_named, numbers_in};
 
 /// Tells of an error of the command line, or shows the help that was asked for, and answers the status.
 fn wrong_words<R: Print + Eprint, E: io::Write>(rt: &R, error: &clap::Error, err: &mut E) -> u8 {
@@ -43,14 +43,6 @@ fn wrong_words<R: Print + Eprint, E: io::Write>(rt: &R, error: &clap::Error, err
     }
 }
 
-/// Why a pipeline file or a script was not read.
-fn file_fault<'a>(fault: ReadFault, file: &'a str) -> Fault<'a> {
-    match fault {
-        ReadFault::Memory => Fault::Memory,
-        ReadFault::File => Fault::File(file),
-    }
-}
-
 /// Runs a heap script from a file.
 fn run_script<R: Files + Print, E: io::Write>(
     rt: &R,
@@ -60,8 +52,21 @@ fn run_script<R: Files + Print, E: io::Write>(
 ) -> u8 {
     match files::read(rt, alloc, file) {
         Ok(script) => mem_line(alloc, script.as_slice(), &mut io::writer(rt), err),
-        Err(fault) => tell_fault(err, file_fault(fault, file)),
+        Err(fault) => tell_fault(err, fault.of_file(file)),
     }
+}
+
+/// The pipeline of a text, whose names stand for these files; or the status, once the first fault is told.
+fn load_text<R: Files + Print, E: io::Write>(
+    rt: &R,
+    alloc: Global,
+    text: &[u8],
+    naming: Naming<'_>,
+    how: How,
+    err: &mut E,
+) -> Result<Pipeline, u8> {
+    let mut files = HostFiles { rt, naming };
+    load_line(alloc, text, &mut files, how, &mut io::writer(rt), err)
 }
 
 /// The pipeline of a file; or the status, once the first fault is told.
@@ -72,19 +77,10 @@ fn load_file<R: Files + Print, E: io::Write>(
     how: How,
     err: &mut E,
 ) -> Result<Pipeline, u8> {
-    let text = match files::read(rt, alloc, file) {
-        Ok(text) => text,
-        Err(fault) => return Err(tell_fault(err, file_fault(fault, file))),
-    };
-    let mut files = HostFiles(rt);
-    load_line(
-        alloc,
-        text.as_slice(),
-        &mut files,
-        how,
-        &mut io::writer(rt),
-        err,
-    )
+    match files::read(rt, alloc, file) {
+        Ok(text) => load_text(rt, alloc, text.as_slice(), Naming::AsTheyStand, how, err),
+        Err(fault) => Err(tell_fault(err, fault.of_file(file))),
+    }
 }
 
 /// Checks the programs of a pipeline file.
@@ -121,85 +117,78 @@ fn infer_file<R: Files + Print, E: io::Write>(
     }
 }
 
-/// The texts of a program and its certificate; or the status, once the first fault is told. Where the certificate cannot be
-/// read, a fault of the program's text comes first.
-fn texts<R: Files + Print, E: io::Write>(
-    rt: &R,
-    alloc: Global,
-    node: &str,
-    cert: &str,
-    err: &mut E,
-) -> Result<(Vec<u8>, Vec<u8>), u8> {
-    let program = match files::read(rt, alloc, node) {
-        Ok(program) => program,
-        Err(fault) => return Err(tell_unloaded(node_error(fault), &mut io::writer(rt), err)),
-    };
-    match files::read(rt, alloc, cert) {
-        Ok(cert) => Ok((program, cert)),
-        Err(fault) => {
-            let error = match assemble(alloc, program.as_slice()) {
-                Ok(_) => node_error(fault),
-                Err(error) => asm_error(error),
-            };
-            Err(tell_unloaded(error, &mut io::writer(rt), err))
-        }
-    }
-}
-
-/// Why a program or certificate file was not read.
-fn node_error(fault: ReadFault) -> PipeError {
-    match fault {
-        ReadFault::Memory => PipeError::Memory,
-        ReadFault::File => PipeError::File(Entry::Port(0)),
-    }
-}
-
-/// How many bytes a file's buffer has.
-const BUFFER: usize = 65_536;
-
-/// Runs a checked program from a file to a file.
-fn run_files<R: Files + Print, E: io::Write>(
-    rt: &R,
-    alloc: Global,
-    checked: Checked,
-    input: &str,
-    output: &str,
-    err: &mut E,
-) -> u8
-    requires { IsForOnePort checked }
-{
-    let Ok(source) = fs::open(rt, input) else {
-        return tell_fault(err, Fault::File(input));
-    };
-    let Ok(target) = fs::create(rt, output) else {
-        return tell_fault(err, Fault::File(output));
-    };
-    let Ok(reader) = BufReader::with_capacity(alloc, BUFFER, source) else {
-        return tell_fault(err, Fault::Memory);
-    };
-    let Ok(writer) = BufWriter::with_capacity(alloc, BUFFER, target) else {
-        return tell_fault(err, Fault::Memory);
-    };
-    let mut feed = OfBufReader::new(reader);
-    let mut sink = OfBufWriter::new(writer);
-    let status = one_run(
-        alloc,
-        checked,
-        &mut feed,
-        &mut sink,
-        &mut io::writer(rt),
-        err,
-    );
-    let mut writer = sink.into_inner();
-    match writer.flush() {
-        Err(_) if status == DONE => tell_fault(err, Fault::Output { port: 0 }),
-        _ => status,
-    }
-}
-
 /// An operand of a command, which asks for it.
 fn word<'a>(words: &ArgMatches<'a>, name: &str) -> &'a str {
     words.get_str(name).unwrap_or("")
+}
+
+/// The allocation calls to be refused: those of the list, if there is one; or the status, once the fault is told.
+fn refused_in<E: io::Write>(alloc: Global, list: Option<&str>, err: &mut E) -> Result<Vec<u64>, u8>
+    ensures { IfOk result (λ pattern. IsAscending 0 pattern.items) }
+{
+    let Some(list) = list else {
+        return Ok(Vec::new(alloc));
+    };
+    match numbers_in(alloc, list) {
+        Ok(Some(pattern)) => Ok(pattern),
+        Ok(None) => Err(tell(
+            err,
+            format_args!(
+                "error: '{list}' is no list: numbers from 1 on, each above the one before it, joined by commas"
+            ),
+            USAGE,
+        )),
+        Err(_) => Err(tell_fault(err, Fault::Memory)),
+    }
+}
+
+/// Runs a pipeline: opens the captures that it reads, makes those that it writes, and writes out at the end what their buffers
+/// hold.
+fn run_pipeline<R: Files + Print, E: io::Write>(
+    rt: &R,
+    alloc: Global,
+    pipeline: Pipeline,
+    naming: Naming<'_>,
+    pattern: Vec<u64>,
+    err: &mut E,
+) -> u8
+    requires { IsAscending 0 pattern.items }
+{
+    let mut inputs = match open_inputs(rt, alloc, &pipeline, naming) {
+        Ok(inputs) => inputs,
+        Err(fault) => return tell_fault(err, fault),
+    };
+    let mut outputs = match create_outputs(rt, alloc, &pipeline, naming) {
+        Ok(outputs) => outputs,
+        Err(fault) => return tell_fault(err, fault),
+    };
+    let status = run_line(
+        alloc,
+        pipeline,
+        inputs.as_mut_slice(),
+        outputs.as_mut_slice(),
+        pattern,
+        &mut io::writer(rt),
+        err,
+    );
+    flush_outputs(outputs, status, err)
+}
+
+/// Runs the pipeline of a file.
+fn run_file<R: Files + Print, E: io::Write>(
+    rt: &R,
+    alloc: Global,
+    words: &ArgMatches<'_>,
+    err: &mut E,
+) -> u8 {
+    let pattern = match refused_in(alloc, words.get_str("refuse"), err) {
+        Ok(pattern) => pattern,
+        Err(status) => return status,
+    };
+    match load_file(rt, alloc, word(words, "FILE"), How::Given, err) {
+        Ok(pipeline) => run_pipeline(rt, alloc, pipeline, Naming::AsTheyStand, pattern, err),
+        Err(status) => status,
+    }
 }
 
 /// Runs one node program on one port, from a file to a file.
@@ -209,32 +198,20 @@ fn run_one_port<R: Files + Print, E: io::Write>(
     words: &ArgMatches<'_>,
     err: &mut E,
 ) -> u8 {
-    let (node, cert) = (word(words, "NODE"), word(words, "CERT"));
-    let (program, cert) = match texts(rt, alloc, node, cert, err) {
-        Ok(texts) => texts,
-        Err(status) => return status,
-    };
-    match one_load(
-        alloc,
-        program.as_slice(),
-        cert.as_slice(),
-        &mut io::writer(rt),
-        err,
-    ) {
-        Ok(checked) => run_files(
-            rt,
-            alloc,
-            checked,
-            word(words, "IN"),
-            word(words, "OUT"),
-            err,
-        ),
+    let naming = Naming::One(OneFiles {
+        node: word(words, "NODE"),
+        cert: word(words, "CERT"),
+        input: word(words, "IN"),
+        output: word(words, "OUT"),
+    });
+    match load_text(rt, alloc, ONE_PORT.as_bytes(), naming, How::Given, err) {
+        Ok(pipeline) => run_pipeline(rt, alloc, pipeline, naming, Vec::new(alloc), err),
         Err(status) => status,
     }
 }
 
 /// Runs the command that was asked for.
-fn run<R: Files + Print, E: io::Write>(
+fn run_command<R: Files + Print, E: io::Write>(
     rt: &R,
     alloc: Global,
     matches: &ArgMatches<'_>,
@@ -244,6 +221,7 @@ fn run<R: Files + Print, E: io::Write>(
         Some(("one", words)) => run_one_port(rt, alloc, words, err),
         Some(("check", words)) => check_file(rt, alloc, words, err),
         Some(("infer", words)) => infer_file(rt, alloc, words, err),
+        Some(("run", words)) => run_file(rt, alloc, words, err),
         Some(("mem", words)) => run_script(rt, alloc, word(words, "FILE"), err),
         _ => USAGE,
     }
@@ -263,7 +241,7 @@ fn main(rt: HostRuntime) -> ExitCode {
         return ExitCode::from(tell_fault(&mut err, Fault::Memory));
     };
     let status = match command.try_get_matches_from(words.as_slice()) {
-        Ok(matches) => run(&rt, alloc, &matches, &mut err),
+        Ok(matches) => run_command(&rt, alloc, &matches, &mut err),
         Err(error) => wrong_words(&rt, &error, &mut err),
     };
     ExitCode::from(status)
@@ -271,5 +249,9 @@ fn main(rt: HostRuntime) -> ExitCode {
 
 #[cfg(test)]
 mod pipe_tests;
+#[cfg(test)]
+mod run_tests;
+#[cfg(test)]
+mod testing;
 #[cfg(test)]
 mod tests;

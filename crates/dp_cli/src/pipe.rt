@@ -12,6 +12,7 @@ use crate::fault::{
     DONE, Fault, USAGE, status_of_write, tell, tell_fault, tell_if_memory, tell_unloaded,
 };
 use crate::files::{self, ReadFault};
+use crate::one::Naming;
 use dp_cert::encode;
 use dp_check::Checked;
 use dp_model::Entry;
@@ -20,9 +21,14 @@ use std::alloc::Global;
 use std::io::Write;
 use std::rt;
 
-/// The files of the host, by their names as they stand.
+/// The files of the host.
 #[derive(Drop)]
-pub struct HostFiles<'a, R>(pub &'a R);
+pub struct HostFiles<'a, R> {
+    /// Where they are.
+    pub rt: &'a R,
+    /// By which names.
+    pub naming: Naming<'a>,
+}
 
 impl<R: rt::Files> Files for HostFiles<'_, R> {
     ghost use Rattle.std.specs.Prelude.{None};
@@ -31,7 +37,7 @@ impl<R: rt::Files> Files for HostFiles<'_, R> {
     ghost known = { λ _. None };
 
     fn fetch(&mut self, alloc: Global, name: &str) -> Result<Vec<u8>, FetchFault> {
-        match files::read(self.0, alloc, name) {
+        match files::read(self.rt, alloc, self.naming.file(name)) {
             Ok(bytes) => Ok(bytes),
             Err(ReadFault::Memory) => Err(FetchFault::Memory),
             Err(ReadFault::File) => Err(FetchFault::Missing),

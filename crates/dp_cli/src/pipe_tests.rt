@@ -1,6 +1,7 @@
 //! Printed texts and statuses of `dpv check` and `dpv infer`.
 
 use crate::pipe::{check_line, infer_line, load_line};
+use crate::testing::{Ended, file};
 use crate::words::node_named;
 use dp_model::Entry;
 use dp_pipe::{How, Listed, NamedBytes};
@@ -8,24 +9,24 @@ use std::alloc::{AllocError, Global};
 use std::test::Fail;
 
 /// The pipeline of two ports, one of which sends copies to the other.
-const TWO_PORTS: &str = "region = 10368\n\
+pub const TWO_PORTS: &str = "region = 10368\n\
     [[pool]]\ncount = 4\ncache = 0\nroom = 2176\n\
     [[pool]]\ncount = 4\ncache = 0\nroom = 0\n\
     [[port]]\npool = 0\nsegs = 1\nqueue = 4\nnode = \"multicast.dpv\"\nin = \"a.pcap\"\nout = \"a.out\"\n\
     [[port]]\npool = 0\nsegs = 1\nqueue = 4\nnode = \"forward.dpv\"\nin = \"b.pcap\"\nout = \"b.out\"\n";
 
 /// A ring of any packets, whose node puts each packet back.
-const RING: &str =
+pub const RING: &str =
     "[[ring]]\ncount = 2\nshare = 0\nhead = 0\ntail = 0\nfirst = 0\nlast = 0\nsegs = 64\nnode = \"loop.dpv\"\n";
 
-const MULTICAST: &str =
+pub const MULTICAST: &str =
     "alloc p1,0,a\nappend p1,4\nset r1,0x0a0b0c0d\nstore p1,0,4,r1\nclone p2,p0,1,b\n\
     clone p3,p0,1,c\nfree p0\nchain p1,p2\nset r2,1\ntx p1,r2,d\ntx p3,r0,e\nexit\nd: free p1\ne: free p3\nexit\n\
     c: free p2\nb: free p1\na: free p0\nexit\n";
 
-const FORWARD: &str = "tx p0,r0,d\nexit\nd: free p0\nexit\n";
+pub const FORWARD: &str = "tx p0,r0,d\nexit\nd: free p0\nexit\n";
 
-const LOOP: &str = "enq p0,0,d\nexit\nd: free p0\nexit\n";
+pub const LOOP: &str = "enq p0,0,d\nexit\nd: free p0\nexit\n";
 
 /// The rows of the certificate of forward on port 1: the digits before its first bound, and those from there on, behind both of
 /// which zeros follow. There the packet is sole, with a headroom of 128 and one segment, and r0 is at most 1.
@@ -62,41 +63,16 @@ fn push_digits(text: &mut Vec<u8>, digits: &str, count: usize) -> Result<(), All
     Ok(())
 }
 
-/// A file in memory.
-fn file<'a>(name: &'a str, text: &'a str) -> NamedBytes<'a> {
-    NamedBytes {
-        name,
-        bytes: text.as_bytes(),
-    }
-}
-
 /// The files that the pipelines name.
 fn files() -> [NamedBytes<'static>; 6] {
     [
-        file("multicast.dpv", MULTICAST),
-        file("forward.dpv", FORWARD),
-        file("loop.dpv", LOOP),
-        file("lost.dpv", "exit\n"),
-        file("bad.dpv", "exit\nadj p0,65536\n"),
-        file("bad.cert", "dpv-cert 1\n0\n"),
+        file("multicast.dpv", MULTICAST.as_bytes()),
+        file("forward.dpv", FORWARD.as_bytes()),
+        file("loop.dpv", LOOP.as_bytes()),
+        file("lost.dpv", b"exit\n"),
+        file("bad.dpv", b"exit\nadj p0,65536\n"),
+        file("bad.cert", b"dpv-cert 1\n0\n"),
     ]
-}
-
-/// What a command ended with: its status, and what it printed on both writers.
-#[derive(Drop)]
-struct Ended {
-    status: u8,
-    printed: Vec<u8>,
-    told: Vec<u8>,
-}
-
-impl Ended {
-    /// Whether it ended so.
-    fn is(&self, status: u8, printed: &str, told: &str) -> bool {
-        self.status == status
-            && self.printed.as_slice() == printed.as_bytes()
-            && self.told.as_slice() == told.as_bytes()
-    }
 }
 
 /// What `dpv check` makes of a pipeline file.
@@ -154,7 +130,7 @@ fn infer(alloc: Global, text: &str, which: Entry) -> Ended {
 }
 
 /// The pipeline of two ports with a text changed where it first stands.
-fn changed(alloc: Global, old: &str, new: &str) -> Result<String, AllocError> {
+pub fn changed(alloc: Global, old: &str, new: &str) -> Result<String, AllocError> {
     match TWO_PORTS.split_once(old) {
         Some((before, after)) => format!(in alloc; "{before}{new}{after}"),
         None => String::from_str(alloc, TWO_PORTS),

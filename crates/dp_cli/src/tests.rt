@@ -1,13 +1,13 @@
 //! Printed texts and statuses.
 
 use crate::mem::mem_line;
-use crate::one::{one_env, one_load, one_run};
-use dp_cert::encode;
-use dp_infer::infer;
-use dp_lang::assemble;
+use crate::one::ONE_PORT;
+use crate::pipe::{infer_line, load_line};
+use crate::testing::{Devices, Ended, HEADER, NONE, Ran, WHOLE, file, front, run_on};
 use dp_model::Entry;
-use dp_pcap::{FailingFeed, FailingSink, OfRead, OfWrite};
+use dp_pipe::{How, Listed};
 use std::alloc::{AllocError, Global};
+use std::test::Fail;
 
 /// The program that takes 14 bytes off, as it is printed.
 const STRIP: &str = "iflen p0,14,L4\nadj p0,14\ntx p0,r0,L4\nexit\nL4:\nfree p0\nexit\n";
@@ -35,14 +35,9 @@ fn cert_text(alloc: Global, rows: &[&str]) -> Result<Vec<u8>, AllocError> {
     Ok(text)
 }
 
-/// The header of a capture in microseconds, lowest byte first.
-const HEADER: [u8; 24] = [
-    0xd4, 0xc3, 0xb2, 0xa1, 2, 0, 4, 0, 0, 0, 0, 0, 0, 0, 0, 0, 0, 0, 4, 0, 1, 0, 0, 0,
-];
-
 /// A capture with a record of the bytes from `first` to 59 at second 1 and microsecond 2.
 fn one_record(alloc: Global, first: u8) -> Result<Vec<u8>, AllocError> {
-    let mut capture = Vec::from_slice(alloc, HEADER.as_slice())?;
+    let mut capture = Vec::from_slice(alloc, HEADER)?;
     let len = 60u8.saturating_sub(first);
     let head = [1, 0, 0, 0, 2, 0, 0, 0, len, 0, 0, 0, len, 0, 0, 0];
     capture.extend_from_slice(head.as_slice())?;
@@ -54,7 +49,7 @@ fn one_record(alloc: Global, first: u8) -> Result<Vec<u8>, AllocError> {
 
 /// A capture with a record of 13 bytes and one of none.
 fn short_records(alloc: Global) -> Result<Vec<u8>, AllocError> {
-    let mut capture = Vec::from_slice(alloc, HEADER.as_slice())?;
+    let mut capture = Vec::from_slice(alloc, HEADER)?;
     let head = [1, 0, 0, 0, 2, 0, 0, 0, 13, 0, 0, 0, 13, 0, 0, 0];
     capture.extend_from_slice(head.as_slice())?;
     capture.extend_from_slice(b"thirteen byte")?;
@@ -63,31 +58,39 @@ fn short_records(alloc: Global) -> Result<Vec<u8>, AllocError> {
     Ok(capture)
 }
 
-/// The first n bytes, or all where there are fewer.
-fn front(bytes: &[u8], n: usize) -> &[u8] {
-    if n <= bytes.len() { &bytes[..n] } else { bytes }
-}
-
-/// What `dpv one` makes of texts and a capture: its status, what it prints on both writers, and the capture that it
-/// writes.
-fn run(alloc: Global, node: &str, cert: &[u8], input: &[u8]) -> (u8, Vec<u8>, Vec<u8>, Vec<u8>) {
-    let mut out = Vec::new(alloc);
-    let mut err = Vec::new(alloc);
-    let mut sink = OfWrite::new(Vec::new(alloc));
-    let mut feed = OfRead::new(input);
-    let status = match one_load(alloc, node.as_bytes(), cert, &mut out, &mut err) {
-        Ok(checked) => one_run(alloc, checked, &mut feed, &mut sink, &mut out, &mut err),
-        Err(status) => status,
+/// Runs `dpv one` on texts and a capture, where the reader fails behind some bytes and the writer, which takes 8 bytes a call,
+/// behind others.
+fn run_failing(
+    alloc: Global,
+    node: &str,
+    cert: &[u8],
+    input: (&[u8], usize),
+    taken: usize,
+) -> Result<Ran, AllocError> {
+    let files = [file("node", node.as_bytes()), file("cert", cert)];
+    let devices = Devices {
+        inputs: &[input],
+        most: 8,
+        outputs: &[taken],
     };
-    (status, out, err, sink.into_inner())
+    run_on(alloc, ONE_PORT, &files, NONE, devices)
 }
 
-/// What a heap script prints to its two writers, and its status.
-fn played(alloc: Global, script: &[u8]) -> (u8, Vec<u8>, Vec<u8>) {
-    let mut out = Vec::new(alloc);
-    let mut err = Vec::new(alloc);
-    let status = mem_line(alloc, script, &mut out, &mut err);
-    (status, out, err)
+/// Runs `dpv one` on texts and a capture.
+fn run(alloc: Global, node: &str, cert: &[u8], input: &[u8]) -> Result<Ran, AllocError> {
+    run_failing(alloc, node, cert, (input, WHOLE), WHOLE)
+}
+
+/// What a heap script ends with.
+fn played(alloc: Global, script: &str) -> Ended {
+    let mut printed = Vec::new(alloc);
+    let mut told = Vec::new(alloc);
+    let status = mem_line(alloc, script.as_bytes(), &mut printed, &mut told);
+    Ended {
+        status,
+        printed,
+        told,
+    }
 }
 
 /// Scripts, and what they print.
@@ -193,17 +196,11 @@ static BAD_SCRIPTS: [(&str, &str, &str); 16] = [
     ),
 ];
 
-/// Whether a heap script ends with the status and prints these.
-fn plays(alloc: Global, script: &str, status: u8, printed: &str, told: &str) -> bool {
-    let (ended, out, err) = played(alloc, script.as_bytes());
-    ended == status && out.as_slice() == printed.as_bytes() && err.as_slice() == told.as_bytes()
-}
-
 #[test]
 fn heap_scripts_print_as_the_rules_say(rt: HostRuntime) {
     let alloc = rt.alloc();
     for (script, printed) in SCRIPTS.iter() {
-        assert!(&rt; plays(alloc, script, 0, printed, ""), "{script}");
+        assert!(&rt; played(alloc, script).is(0, printed, ""), "{script}");
     }
 }
 
@@ -211,36 +208,40 @@ fn heap_scripts_print_as_the_rules_say(rt: HostRuntime) {
 fn bad_commands_are_located_behind_what_was_printed(rt: HostRuntime) {
     let alloc = rt.alloc();
     for (script, printed, told) in BAD_SCRIPTS.iter() {
-        assert!(&rt; plays(alloc, script, 3, printed, told), "{script}");
+        assert!(&rt; played(alloc, script).is(3, printed, told), "{script}");
     }
 }
 
+/// The report of a run that received and sent so many records.
+const SENT_ONE: &str =
+    "port 0 received 1 nobuf 0 oversize 0 sent 1 input whole\npool 0 free 64 of 64\ncalls 1 refused 0\n";
+
 #[test]
-fn a_header_is_taken_off_a_record(rt: HostRuntime) {
+fn a_header_is_taken_off_a_record(rt: HostRuntime) -> Result<(), Fail> {
     let alloc = rt.alloc();
-    let cert = cert_text(alloc, STRIP_ROWS.as_slice()).expect(&rt, "memory");
-    let input = one_record(alloc, 0).expect(&rt, "memory");
-    let (status, out, err, written) = run(alloc, STRIP, cert.as_slice(), input.as_slice());
-    let report =
-        "port 0 received 1 nobuf 0 oversize 0 sent 1 input whole\npool 0 free 64 of 64\ncalls 1 refused 0\n";
-    assert_eq!(&rt;
-        (status, out.as_slice(), err.as_slice()),
-        (0, report.as_bytes(), b"".as_slice())
-    );
-    let stripped = one_record(alloc, 14).expect(&rt, "memory");
-    assert_eq!(&rt; written.len(), 86);
-    assert_eq!(&rt; written.as_slice(), stripped.as_slice());
+    let cert = cert_text(alloc, STRIP_ROWS.as_slice())?;
+    let input = one_record(alloc, 0)?;
+    let ran = run(alloc, STRIP, cert.as_slice(), input.as_slice())?;
+    assert!(&rt; ran.ended.is(0, SENT_ONE, ""));
+    let stripped = one_record(alloc, 14)?;
+    assert_eq!(&rt; stripped.len(), 86);
+    assert!(&rt; ran.holds(0, stripped.as_slice()));
+    Ok(())
 }
 
 /// The certificate that is inferred for a program of the one port.
-fn certified(alloc: Global, node: &str) -> Result<Vec<u8>, AllocError> {
-    let Ok(program) = assemble(alloc, node.as_bytes()) else {
-        return Ok(Vec::new(alloc));
+fn certified(alloc: Global, node: &str) -> Vec<u8> {
+    let held = [file("node", node.as_bytes())];
+    let mut files = Listed {
+        files: held.as_slice(),
     };
-    match infer(alloc, &program, &one_env(), Entry::Port(0)) {
-        Ok(cert) => encode(alloc, &cert),
-        Err(_) => Ok(Vec::new(alloc)),
+    let text = ONE_PORT.as_bytes();
+    let mut cert = Vec::new(alloc);
+    let mut err = Vec::new(alloc);
+    if let Ok(pipeline) = load_line(alloc, text, &mut files, How::Inferred, &mut cert, &mut err) {
+        let _status = infer_line(alloc, &pipeline, Entry::Port(0), &mut cert, &mut err);
     }
+    cert
 }
 
 /// Clones a packet, frees the clone and stores 7 to the packet, which is sole again.
@@ -248,21 +249,17 @@ const RESOLE: &str =
     "clone p1,p0,0,d\nfree p1\niflen p0,1,d\nset r1,7\nstore p0,0,1,r1\ntx p0,r0,d\nexit\nd: free p0\nexit\n";
 
 #[test]
-fn a_packet_is_sole_again_behind_its_clone(rt: HostRuntime) {
+fn a_packet_is_sole_again_behind_its_clone(rt: HostRuntime) -> Result<(), Fail> {
     let alloc = rt.alloc();
-    let cert = certified(alloc, RESOLE).expect(&rt, "memory");
-    let mut wanted = one_record(alloc, 0).expect(&rt, "memory");
-    let (status, out, err, written) = run(alloc, RESOLE, cert.as_slice(), wanted.as_slice());
+    let cert = certified(alloc, RESOLE);
+    let mut wanted = one_record(alloc, 0)?;
+    let ran = run(alloc, RESOLE, cert.as_slice(), wanted.as_slice())?;
     let report =
         "port 0 received 1 nobuf 0 oversize 0 sent 1 input whole\npool 0 free 64 of 64\ncalls 2 refused 0\n";
-    assert_eq!(&rt;
-        (status, out.as_slice(), err.as_slice()),
-        (0, report.as_bytes(), b"".as_slice())
-    );
-    if let Some(first) = wanted.get_mut(40) {
-        *first = 7;
-    }
-    assert_eq!(&rt; written.as_slice(), wanted.as_slice());
+    assert!(&rt; ran.ended.is(0, report, ""));
+    set(&mut wanted, 40, 7);
+    assert!(&rt; ran.holds(0, wanted.as_slice()));
+    Ok(())
 }
 
 /// The version of its certificate and the last digits of the shares of p0 and p1 in the row of label 1, and what is told
@@ -299,25 +296,18 @@ fn set(bytes: &mut Vec<u8>, place: usize, value: u8) {
     }
 }
 
-/// What `dpv one` makes of its certificate with another version and other shares: its status, and what it prints on both
-/// writers.
-fn regrouped(alloc: Global, digits: [u8; 3]) -> Result<(u8, Vec<u8>, Vec<u8>), AllocError> {
-    let mut cert = certified(alloc, RESOLE)?;
-    set(&mut cert, 9, digits[0]);
-    set(&mut cert, 323, digits[1]);
-    set(&mut cert, 345, digits[2]);
-    let (status, out, err, _written) = run(alloc, RESOLE, cert.as_slice(), b"".as_slice());
-    Ok((status, out, err))
-}
-
 #[test]
-fn a_packet_and_its_clone_are_a_group(rt: HostRuntime) {
-    for (digits, wanted, printed, told) in OTHER_SHARES.iter() {
-        let (status, out, err) = regrouped(rt.alloc(), *digits).expect(&rt, "memory");
-        assert_eq!(&rt; status, *wanted, "{told}");
-        assert_eq!(&rt; out.as_slice(), printed.as_bytes(), "{told}");
-        assert_eq!(&rt; err.as_slice(), told.as_bytes(), "{told}");
+fn a_packet_and_its_clone_are_a_group(rt: HostRuntime) -> Result<(), Fail> {
+    let alloc = rt.alloc();
+    for (digits, status, printed, told) in OTHER_SHARES.iter() {
+        let mut cert = certified(alloc, RESOLE);
+        set(&mut cert, 9, digits[0]);
+        set(&mut cert, 323, digits[1]);
+        set(&mut cert, 345, digits[2]);
+        let ran = run(alloc, RESOLE, cert.as_slice(), b"")?;
+        assert!(&rt; ran.ended.is(*status, printed, told), "{printed}{told}");
     }
+    Ok(())
 }
 
 /// A program that comes back to labels, how many packets it sends, and what is printed behind that.
@@ -358,37 +348,37 @@ static LOOPS: [(&str, usize, &str); 6] = [
 ];
 
 #[test]
-fn node_runs_take_256_backward_jumps(rt: HostRuntime) {
+fn node_runs_take_256_backward_jumps(rt: HostRuntime) -> Result<(), Fail> {
     let alloc = rt.alloc();
-    let input = one_record(alloc, 0).expect(&rt, "memory");
+    let input = one_record(alloc, 0)?;
+    let (_, record) = input.as_slice().split_at(HEADER.len());
     for (node, sent, counts) in LOOPS.iter() {
-        let cert = certified(alloc, node).expect(&rt, "memory");
-        let (status, out, err, written) = run(alloc, node, cert.as_slice(), input.as_slice());
+        let cert = certified(alloc, node);
+        let ran = run(alloc, node, cert.as_slice(), input.as_slice())?;
         let printed = format!(in alloc;
             "port 0 received 1 nobuf 0 oversize 0 sent {sent} input whole\n{counts}"
-        ).expect(&rt, "memory");
-        assert_eq!(&rt;
-            (status, out.as_slice(), err.as_slice()),
-            (0, printed.as_str().as_bytes(), b"".as_slice()),
-            "{node}"
-        );
-        assert_eq!(&rt; written.len(), 24 + *sent * 76, "{node}");
+        )?;
+        assert!(&rt; ran.ended.is(0, printed.as_str(), ""), "{node}");
+        let mut wanted = Vec::from_slice(alloc, HEADER)?;
+        for _ in 0..*sent {
+            wanted.extend_from_slice(record)?;
+        }
+        assert!(&rt; ran.holds(0, wanted.as_slice()), "{node}");
     }
+    Ok(())
 }
 
 #[test]
-fn short_records_are_dropped(rt: HostRuntime) {
+fn short_records_are_dropped(rt: HostRuntime) -> Result<(), Fail> {
     let alloc = rt.alloc();
-    let cert = cert_text(alloc, STRIP_ROWS.as_slice()).expect(&rt, "memory");
-    let input = short_records(alloc).expect(&rt, "memory");
-    let (status, out, err, written) = run(alloc, STRIP, cert.as_slice(), input.as_slice());
+    let cert = cert_text(alloc, STRIP_ROWS.as_slice())?;
+    let input = short_records(alloc)?;
+    let ran = run(alloc, STRIP, cert.as_slice(), input.as_slice())?;
     let report =
         "port 0 received 2 nobuf 0 oversize 0 sent 0 input whole\npool 0 free 64 of 64\ncalls 2 refused 0\n";
-    assert_eq!(&rt;
-        (status, out.as_slice(), err.as_slice()),
-        (0, report.as_bytes(), b"".as_slice())
-    );
-    assert_eq!(&rt; written.as_slice(), HEADER.as_slice());
+    assert!(&rt; ran.ended.is(0, report, ""));
+    assert!(&rt; ran.holds(0, HEADER));
+    Ok(())
 }
 
 /// A run of `dpv one` that ends at a fault, or early: the program, how much of strip's certificate and of the capture with one
@@ -468,75 +458,71 @@ static CASES: [Case; 7] = [
     },
 ];
 
-/// Whether a run ends as the case says.
-fn ends(alloc: Global, case: &Case, cert: &[u8], input: &[u8]) -> bool {
-    let (status, out, err, _written) = run(
-        alloc,
-        case.node,
-        front(cert, case.cert),
-        front(input, case.input),
-    );
-    status == case.status
-        && out.as_slice() == case.printed.as_bytes()
-        && err.as_slice() == case.told.as_bytes()
-}
-
 #[test]
-fn faults_are_told_in_their_order(rt: HostRuntime) {
+fn faults_are_told_in_their_order(rt: HostRuntime) -> Result<(), Fail> {
     let alloc = rt.alloc();
-    let cert = cert_text(alloc, STRIP_ROWS.as_slice()).expect(&rt, "memory");
-    let input = one_record(alloc, 0).expect(&rt, "memory");
-    for case in CASES.iter() {
-        assert!(&rt;
-            ends(alloc, case, cert.as_slice(), input.as_slice()),
-            "{}",
-            case.told
-        );
-    }
-}
-
-#[test]
-fn a_certificate_that_says_too_much_is_refused(rt: HostRuntime) {
-    let alloc = rt.alloc();
-    let mut cert = cert_text(alloc, STRIP_ROWS.as_slice()).expect(&rt, "memory");
-    if let Some(last) = cert.get_mut(11 + 305) {
-        *last = b'1';
-    }
-    let input = one_record(alloc, 0).expect(&rt, "memory");
-    let (status, out, err, written) = run(alloc, STRIP, cert.as_slice(), input.as_slice());
-    assert_eq!(&rt; status, 1);
-    assert_eq!(&rt; out.as_slice(), b"port 0 refused at 0 by J11\n".as_slice());
-    assert!(&rt; err.is_empty() && written.is_empty());
-}
-
-#[test]
-fn a_program_that_runs_off_its_end_is_refused(rt: HostRuntime) {
-    let alloc = rt.alloc();
-    let cert = cert_text(alloc, &STRIP_ROWS[..1]).expect(&rt, "memory");
-    let (status, out, err, written) = run(alloc, "free p0\n", cert.as_slice(), b"".as_slice());
-    assert_eq!(&rt; status, 1);
-    assert_eq!(&rt; out.as_slice(), b"port 0 refused at 0 by J3\n".as_slice());
-    assert!(&rt; err.is_empty() && written.is_empty());
-}
-
-/// What `dpv one` makes with strip of a capture with one record, where the reader fails behind some bytes and the writer, which
-/// takes 8 bytes a call, behind others: its status, what it prints on both writers, and what is written.
-fn run_failing(
-    alloc: Global,
-    given: usize,
-    taken: usize,
-) -> Result<(u8, Vec<u8>, Vec<u8>, Vec<u8>), AllocError> {
     let cert = cert_text(alloc, STRIP_ROWS.as_slice())?;
     let input = one_record(alloc, 0)?;
-    let mut out = Vec::new(alloc);
-    let mut err = Vec::new(alloc);
-    let mut feed = FailingFeed::new(OfRead::new(input.as_slice()), given);
-    let mut sink = FailingSink::new(OfWrite::new(Vec::new(alloc)), 8, taken);
-    let status = match one_load(alloc, STRIP.as_bytes(), &cert, &mut out, &mut err) {
-        Ok(checked) => one_run(alloc, checked, &mut feed, &mut sink, &mut out, &mut err),
-        Err(status) => status,
-    };
-    Ok((status, out, err, sink.into_inner().into_inner()))
+    for case in CASES.iter() {
+        let cert = front(cert.as_slice(), case.cert);
+        let ran = run(alloc, case.node, cert, front(input.as_slice(), case.input))?;
+        let is_so = ran.ended.is(case.status, case.printed, case.told);
+        assert!(&rt; is_so, "{}", case.told);
+    }
+    Ok(())
+}
+
+/// Captures at fault, why, and how many bytes are written all the same.
+static CAPTURES: [(&[u8], &str, usize); 4] = [
+    (b"", "fault: input 0 cause 6\n", 0),
+    (
+        b"\xd4\xc3\xb2\xa1\x02\0\x04\0\0\0\0\0\0\0\0\0\0\0\x04\0\x01\0\0",
+        "fault: input 0 cause 6\n",
+        0,
+    ),
+    (
+        b"\xd4\xc3\xb2\xa1\x02\0\x04\0\0\0\0\0\0\0\0\0\0\0\x04\0\x65\0\0\0",
+        "fault: input 0 cause 3\n",
+        0,
+    ),
+    (
+        b"\xd4\xc3\xb2\xa1\x02\0\x04\0\0\0\0\0\0\0\0\0\0\0\x04\0\x01\0\0\0\0\0\0\0\x40\x42\x0f\0\0\0\0\0\0\0\0\0",
+        "fault: input 0 cause 4\n",
+        24,
+    ),
+];
+
+#[test]
+fn a_capture_at_fault_is_told_behind_the_report(rt: HostRuntime) -> Result<(), Fail> {
+    let alloc = rt.alloc();
+    let cert = cert_text(alloc, STRIP_ROWS.as_slice())?;
+    for (input, told, held) in CAPTURES.iter() {
+        let ran = run(alloc, STRIP, cert.as_slice(), input)?;
+        assert!(&rt; ran.ended.is(3, NOTHING, told), "{told}");
+        assert!(&rt; ran.holds(0, front(HEADER, *held)), "{told}");
+    }
+    Ok(())
+}
+
+#[test]
+fn a_certificate_that_says_too_much_is_refused(rt: HostRuntime) -> Result<(), Fail> {
+    let alloc = rt.alloc();
+    let mut cert = cert_text(alloc, STRIP_ROWS.as_slice())?;
+    set(&mut cert, 11 + 305, b'1');
+    let input = one_record(alloc, 0)?;
+    let ran = run(alloc, STRIP, cert.as_slice(), input.as_slice())?;
+    assert!(&rt; ran.ended.is(1, "port 0 refused at 0 by J11\n", ""));
+    assert!(&rt; ran.holds(0, b""));
+    Ok(())
+}
+
+#[test]
+fn a_program_that_runs_off_its_end_is_refused(rt: HostRuntime) -> Result<(), Fail> {
+    let alloc = rt.alloc();
+    let cert = cert_text(alloc, &STRIP_ROWS[..1])?;
+    let ran = run(alloc, "free p0\n", cert.as_slice(), b"")?;
+    assert!(&rt; ran.ended.is(1, "port 0 refused at 0 by J3\n", ""));
+    Ok(())
 }
 
 /// A report of a run whose input is open, with so many records received and sent.
@@ -557,14 +543,19 @@ static FAILURES: [(usize, usize, &str, &str, usize); 6] = [
 ];
 
 #[test]
-fn a_device_that_fails_is_told_of_behind_the_report(rt: HostRuntime) {
+fn a_device_that_fails_is_told_of_behind_the_report(rt: HostRuntime) -> Result<(), Fail> {
     let alloc = rt.alloc();
-    let whole = one_record(alloc, 14).expect(&rt, "memory");
+    let cert = cert_text(alloc, STRIP_ROWS.as_slice())?;
+    let input = one_record(alloc, 0)?;
+    let whole = one_record(alloc, 14)?;
     for (given, taken, printed, told, held) in FAILURES.iter() {
-        let (status, out, err, written) = run_failing(alloc, *given, *taken).expect(&rt, "memory");
-        assert_eq!(&rt; status, 3, "{given} {taken}");
-        assert_eq!(&rt; out.as_slice(), printed.as_bytes(), "{given} {taken}");
-        assert_eq!(&rt; err.as_slice(), told.as_bytes(), "{given} {taken}");
-        assert_eq!(&rt; written.as_slice(), front(&whole, *held), "{given} {taken}");
+        let input = (input.as_slice(), *given);
+        let ran = run_failing(alloc, STRIP, cert.as_slice(), input, *taken)?;
+        assert!(&rt; ran.ended.is(3, printed, told), "{given} {taken}");
+        assert!(&rt;
+            ran.holds(0, front(whole.as_slice(), *held)),
+            "{given} {taken}"
+        );
     }
+    Ok(())
 }

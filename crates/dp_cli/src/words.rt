@@ -1,7 +1,11 @@
 //! The command line, from words to values.
 
-ghost use Rattle.std.specs.Prelude.{◌≡◌, ◌<◌, Some, IfSome};
+ghost use Rattle.std.specs.Prelude.{◌≡◌, ◌<◌, map, Some, IfSome, IfOk, option_map};
+ghost use Rattle.std.specs.Char.{is_ascii_digit};
+ghost use Rattle.std.specs.List.{list_all};
+ghost use Rattle.dp_engine.specs.Engines.{IsAscending};
 ghost use Rattle.dp_model.specs.declared.env.Entry.{Entry};
+ghost use Rattle.dp_cli.specs.Words as spec;
 ghost use Rattle.dp_cli.specs.Words.{place_of, word_of};
 
 use clap::{Arg, Command};
@@ -50,6 +54,18 @@ fn infer<'a>(alloc: Global) -> Result<Command<'a>, AllocError> {
         .arg(which)
 }
 
+/// `dpv run FILE [--refuse LIST]`.
+fn run<'a>(alloc: Global) -> Result<Command<'a>, AllocError> {
+    let refuse = Arg::new(alloc, "refuse")
+        .long("refuse")
+        .value_name("LIST")
+        .help("the allocation calls that are refused, as 3 or 1,5,9");
+    Command::new(alloc, "run")
+        .about("Runs a pipeline, from its captures to its captures")
+        .arg(file(alloc, "the pipeline file"))?
+        .arg(refuse)
+}
+
 /// `dpv mem FILE`.
 fn mem<'a>(alloc: Global) -> Result<Command<'a>, AllocError> {
     Command::new(alloc, "mem")
@@ -67,6 +83,7 @@ pub fn command<'a>(alloc: Global) -> Result<Command<'a>, AllocError> {
         .subcommand(one(alloc)?)?
         .subcommand(check(alloc)?)?
         .subcommand(infer(alloc)?)?
+        .subcommand(run(alloc)?)?
         .subcommand(mem(alloc)?)
 }
 
@@ -80,4 +97,49 @@ pub fn node_named(word: &str) -> Option<Entry>
         [b'r', b'i', b'n', b'g', digit @ b'0'..=b'9'] => Some(Entry::Ring(digit - b'0')),
         _ => None,
     }
+}
+
+/// Whether a word has decimal digits alone.
+fn are_digits(word: &str) -> bool
+    ensures { result ≡ list_all is_ascii_digit word.now }
+{
+    word.as_bytes().iter().all(|b| b.is_ascii_digit())
+}
+
+/// The number that a word is: decimal digits, at most 18,446,744,073,709,551,615.
+fn number_in(word: &str) -> Option<u64>
+    ensures { result ≡ spec.number_in word.now }
+{
+    if are_digits(word) {
+        word.parse().ok()
+    } else {
+        None
+    }
+}
+
+/// The words between commas.
+fn words_in<'a>(alloc: Global, list: &'a str) -> Result<Vec<&'a str>, AllocError>
+    ensures { IfOk result (λ words. map (λ word. word.now) words.items ≡ spec.words_in list.now) }
+{
+    list.split(',').collect(alloc)
+}
+
+/// The numbers of a list: one or more, from 1 on, each above the one before it, joined by commas.
+pub fn numbers_in(alloc: Global, list: &str) -> Result<Option<Vec<u64>>, AllocError>
+    ensures numbers { IfOk result (λ numbers. option_map (λ given. given.items) numbers ≡ spec.numbers_in list.now) }
+    ensures ascending { IfOk result (λ numbers. IfSome numbers (λ given. IsAscending 0 given.items)) }
+{
+    let words = words_in(alloc, list)?;
+    let mut numbers = Vec::new(alloc);
+    let mut last = 0;
+    for word in words.as_slice() {
+        match number_in(word) {
+            Some(number) if number > last => {
+                numbers.push(number)?;
+                last = number;
+            }
+            _ => return Ok(None),
+        }
+    }
+    Ok(Some(numbers))
 }

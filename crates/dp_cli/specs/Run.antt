@@ -1,0 +1,31 @@
+-- What `dpv run` tells of a run.
+use Rattle.std.specs.Prelude.{◌≡◌, ℕ, ◌⊎◌, List, Option, Result, Ok, Err, IfOk, IfErr}
+use Rattle.std.specs.Io.KnownBytes.{Appends}
+use Rattle.dp_engine.specs.declared.report.Report.{Report}
+use Rattle.dp_pipe.specs.declared.forwarding.RunCause.{RunCause}
+use Rattle.dp_pipe.specs.declared.forwarding.RunCause.TheVariants.{Memory, NoRoom}
+use Rattle.dp_pipe.specs.declared.running.RunFault.{RunFault}
+use Rattle.dp_pipe.specs.Pipelines.{Plan}
+use Rattle.dp_pipe.specs.Running.{RunAnswers, AllFree}
+use Rattle.dp_cli.specs.Report.{report_text}
+use Rattle.dp_cli.specs.Told.{IsTold}
+
+-- that of a run that stopped: 4 for want of memory, and else 3
+abbrev pub status_of_cause : RunCause → ℕ
+status_of_cause Memory = 4
+status_of_cause _ = 3
+
+-- that of a run: 0 where it came to its end
+abbrev pub status_of_run : Result Report RunFault → ℕ
+status_of_run (Ok report) = 0
+status_of_run (Err fault) = status_of_cause fault.cause
+
+-- A run of a pipeline with these calls refused, what it read and wrote, and what was told of it: the status, and the report where
+-- that is 0.
+pub record IsRunTold (p : Plan) (pattern : List ℕ) (olds news held holds : List (Option (List ℕ))) (old new : Option (List ℕ)) (status : ℕ) : Type 0 where
+  pub answer : Result Report RunFault
+  pub answers : RunAnswers p pattern olds news held holds answer
+  pub free : AllFree p.env answer
+  pub untouched : IfErr answer (λ fault. (fault.cause ≡ Memory) ⊎ (fault.cause ≡ NoRoom) → (news ≡ olds) × (holds ≡ held))
+  pub told : IsTold (status_of_run answer) status
+  pub printed : status ≡ 0 → IfOk answer (λ report. Appends old new (report_text report))

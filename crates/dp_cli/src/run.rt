@@ -1,0 +1,78 @@
+//! `dpv run`: a pipeline, from captures to captures.
+
+ghost use Rattle.std.specs.Prelude.{◌≡◌, ◌≢◌, length, map, OnOk};
+ghost use Rattle.std.specs.Io.KnownBytes.{Appends};
+ghost use Rattle.dp_engine.specs.Engines.{IsAscending};
+ghost use Rattle.dp_cli.specs.Report.{report_text};
+ghost use Rattle.dp_cli.specs.Run.{IsRunTold, status_of_cause};
+ghost use Rattle.dp_cli.specs.Told.{IsTold, status_of_fault};
+
+use crate::fault::{DONE, Fault, status_of_write, tell_fault, tell_if_memory};
+use crate::report::print_report;
+use dp_engine::Report;
+use dp_pcap::{Feed, Sink};
+use dp_pipe::{Pipeline, RunCause, RunFault, run};
+use std::alloc::Global;
+use std::io::Write;
+
+/// What is told of a run that stopped.
+fn fault_of(cause: RunCause) -> Fault<'static>
+    ensures { status_of_fault result ≡ status_of_cause cause }
+{
+    match cause {
+        RunCause::Memory => Fault::Memory,
+        RunCause::NoRoom => Fault::Region,
+        RunCause::In(port, error) => Fault::Input {
+            port,
+            cause: error.number(),
+        },
+        RunCause::Out(port) => Fault::Output { port },
+    }
+}
+
+/// Prints the report of a run, and answers the status.
+fn tell_report<O: Write, E: Write>(report: &Report, out: &mut O, err: &mut E) -> u8
+    ensures status { IsTold DONE result }
+    ensures printed { result ≡ DONE → Appends (O.contents out.old) (O.contents out.new) (report_text report.now) }
+    ensures silent { result ≡ DONE → err.new ≡ err.old }
+{
+    let status = status_of_write(print_report(report, out), DONE);
+    tell_if_memory(err, status)
+}
+
+/// Tells of a run that stopped, and answers the status: its report on `out`, but for want of memory, and then the fault on `err`.
+fn tell_stopped<O: Write, E: Write>(fault: RunFault, out: &mut O, err: &mut E) -> u8
+    ensures { IsTold (status_of_cause fault.cause) result }
+{
+    let RunFault { cause, report } = fault;
+    if cause != RunCause::Memory {
+        let status = tell_report(&report, out, err);
+        if status != DONE {
+            return status;
+        }
+    }
+    tell_fault(err, fault_of(cause))
+}
+
+/// Runs a pipeline from captures to captures, one reader and one writer for each port, with these allocation calls refused.
+/// Prints the report, also of a run that stopped, and then tells why it did; answers the status.
+pub fn run_line<R: Feed, W: Sink, O: Write, E: Write>(
+    alloc: Global,
+    pipeline: Pipeline,
+    ins: &mut [R],
+    outs: &mut [W],
+    pattern: Vec<u64>,
+    out: &mut O,
+    err: &mut E,
+) -> u8
+    requires readers { length ins.old ≡ length pipeline.env.ports }
+    requires writers { length outs.old ≡ length pipeline.env.ports }
+    requires pattern { IsAscending 0 pattern.items }
+    ensures told { IsRunTold pipeline pattern.items (map R.remaining ins.old) (map R.remaining ins.new) (map W.contents outs.old) (map W.contents outs.new) (O.contents out.old) (O.contents out.new) result }
+    ensures silent { result ≡ DONE → err.new ≡ err.old }
+{
+    match run(alloc, pipeline, ins, outs, pattern) {
+        Ok(report) => tell_report(&report, out, err),
+        Err(fault) => tell_stopped(fault, out, err),
+    }
+}
