@@ -7,7 +7,7 @@ from model.machine import BIGGEST, Env, Instr, Number
 WIDTHS = (1, 2, 4, 8)
 LENGTHS = (0, 1, 2, 3, 4, 7, 8, 13, 14, 15, 16, 20, 34, 60, 63, 64, 65, 127, 128, 129, 130, 256, 2047, 2048, 2049, 65_535)
 CONSTANTS = (*LENGTHS, 255, 0x0A0B0C0D, 2**32 - 1, 2**32, 2**63, BIGGEST - 1, BIGGEST)
-USUAL = {"alloc": 6, "clone": 12, "free": 3, "chain": 5, "resize": 16, "test": 12, "bytes": 14, "number": 12, "branch": 8}
+USUAL = {"alloc": 6, "clone": 12, "free": 3, "chain": 9, "resize": 16, "test": 12, "bytes": 22, "number": 12, "branch": 8}
 MOVES = {**USUAL, "lookup": 2, "tx": 6, "enq": 6, "place": 8, "head": 3, "fork": 4, "weaken": 2}
 
 
@@ -103,7 +103,9 @@ class Writer:
         self.emit(self.rng.choice(("ifhead", "iftail", "iflen", "iflen", "iflast")), p, self.rng.choice(LENGTHS[:-1]))
 
     def move_bytes(self, p: int) -> None:
-        """A load or a store."""
+        """A load or a store, often behind a test of the length."""
+        if self.row.facts[p].first < 8 and self.rng.random() < 0.8:
+            self.emit("iflen", p, self.rng.choice((1, 8, 14, 34, 60)))
         r, s, width, first = self.rng.randrange(8), self.rng.randrange(8), self.rng.choice(WIDTHS), self.row.facts[p].first
         off = self.length(max(first - width, 0))
         forms = {"load": (r, p, off, width), "store": (p, off, width, r)}
@@ -210,7 +212,8 @@ class Writer:
         while True:
             while self.held():
                 if self.rng.random() < 0.6 and len(self.waiting) < 6 and len(self.code) < 40:
-                    self.move_tx(self.rng.choice(self.held()))
+                    move = self.rng.choice((self.move_tx, self.move_tx, self.move_enq))
+                    move(self.rng.choice(self.held()))
                 else:
                     self.emit("free", self.rng.choice(self.held()))
             self.emit("exit")
