@@ -3,7 +3,7 @@
 use crate::mem::mem_line;
 use crate::one::ONE_PORT;
 use crate::pipe::{infer_line, load_line};
-use crate::testing::{Devices, Ended, HEADER, NONE, Ran, WHOLE, file, front, run_on};
+use crate::testing::{Devices, Ended, HEADER, NONE, Ran, WHOLE, file, front, joined, run_on};
 use dp_model::Entry;
 use dp_pipe::{How, Listed};
 use std::alloc::{AllocError, Global};
@@ -35,16 +35,21 @@ fn cert_text(alloc: Global, rows: &[&str]) -> Result<Vec<u8>, AllocError> {
     Ok(text)
 }
 
-/// A capture with a record of the bytes from `first` to 59 at second 1 and microsecond 2.
-fn one_record(alloc: Global, first: u8) -> Result<Vec<u8>, AllocError> {
-    let mut capture = Vec::from_slice(alloc, HEADER)?;
+/// A record of the bytes from `first` to 59 at second 1 and microsecond 2.
+fn record(alloc: Global, first: u8) -> Result<Vec<u8>, AllocError> {
     let len = 60u8.saturating_sub(first);
     let head = [1, 0, 0, 0, 2, 0, 0, 0, len, 0, 0, 0, len, 0, 0, 0];
-    capture.extend_from_slice(head.as_slice())?;
+    let mut record = Vec::from_slice(alloc, head.as_slice())?;
     for byte in first..60 {
-        capture.push(byte)?;
+        record.push(byte)?;
     }
-    Ok(capture)
+    Ok(record)
+}
+
+/// A capture with that record.
+fn one_record(alloc: Global, first: u8) -> Result<Vec<u8>, AllocError> {
+    let record = record(alloc, first)?;
+    joined(alloc, &[HEADER, record.as_slice()])
 }
 
 /// A capture with a record of 13 bytes and one of none.
@@ -355,7 +360,7 @@ static LOOPS: [(&str, usize, &str); 6] = [
 fn node_runs_take_256_backward_jumps(rt: HostRuntime) -> Result<(), Fail> {
     let alloc = rt.alloc();
     let input = one_record(alloc, 0)?;
-    let (_, record) = input.as_slice().split_at(HEADER.len());
+    let record = record(alloc, 0)?;
     for (node, sent, counts) in LOOPS.iter() {
         let cert = certified(alloc, node);
         let ran = run(alloc, node, cert.as_slice(), input.as_slice())?;
@@ -365,7 +370,7 @@ fn node_runs_take_256_backward_jumps(rt: HostRuntime) -> Result<(), Fail> {
         assert!(&rt; ran.ended.is(0, printed.as_str(), ""), "{node}");
         let mut wanted = Vec::from_slice(alloc, HEADER)?;
         for _ in 0..*sent {
-            wanted.extend_from_slice(record)?;
+            wanted.extend_from_slice(record.as_slice())?;
         }
         assert!(&rt; ran.holds(0, wanted.as_slice()), "{node}");
     }
