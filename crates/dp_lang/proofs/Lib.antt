@@ -1,4 +1,3 @@
-pub mod Again
 pub mod Assembled
 pub mod Built
 pub mod Bytes
@@ -12,8 +11,9 @@ pub mod LineTexts
 pub mod Loops
 pub mod Numerals
 pub mod Operands
-pub mod Placing
+pub mod PrintedLabels
 pub mod Ranges
+pub mod ReadBack
 pub mod Resolving
 pub mod SourceLines
 pub mod Spellings

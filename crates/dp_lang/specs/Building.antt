@@ -49,41 +49,6 @@ operand_in a = operand.Constant (number_in a)
 
 -- ---- the instruction of a form
 
-abbrev pub jump : Form → Given → Instr
-jump Jmp o = instr.Jmp o.label
-jump Jeq o = instr.Jeq (register_in o.first) (operand_in o.second) o.label
-jump Jlt o = instr.Jlt (register_in o.first) (number_in o.second) o.label
-jump Lookup o = instr.Lookup (register_in o.first) (byte_in o.second) (register_in o.third) o.label
-jump Tx o = instr.Tx (packet_in o.first) (register_in o.second) o.label
-jump Enq o = instr.Enq (packet_in o.first) (byte_in o.second) o.label
-jump _ o = instr.Exit
-
-abbrev pub number : Form → Given → Instr
-number Set o = instr.Set (register_in o.first) (number_in o.second)
-number Mov o = instr.Mov (register_in o.first) (register_in o.second)
-number Add o = instr.Add (register_in o.first) (operand_in o.second)
-number Sub o = instr.Sub (register_in o.first) (operand_in o.second)
-number And o = instr.And (register_in o.first) (operand_in o.second)
-number Or o = instr.Or (register_in o.first) (operand_in o.second)
-number Xor o = instr.Xor (register_in o.first) (operand_in o.second)
-number Shl o = instr.Shl (register_in o.first) (byte_in o.second)
-number Shr o = instr.Shr (register_in o.first) (byte_in o.second)
-number form o = jump form o
-
-abbrev pub bytes : Form → Given → Instr
-bytes Load o = instr.Load (register_in o.first) (packet_in o.second) (count_in o.third) (width_in o.fourth)
-bytes Store o = instr.Store (packet_in o.first) (count_in o.second) (width_in o.third) (register_in o.fourth)
-bytes LoadX o = instr.LoadX (register_in o.first) (packet_in o.second) (register_in o.third) (count_in o.fourth) (width_in o.fifth)
-bytes StoreX o = instr.StoreX (packet_in o.first) (register_in o.second) (count_in o.third) (width_in o.fourth) (register_in o.fifth)
-bytes form o = number form o
-
-abbrev pub test : Form → Given → Instr
-test IfHead o = instr.IfHead (packet_in o.first) (count_in o.second) o.label
-test IfTail o = instr.IfTail (packet_in o.first) (count_in o.second) o.label
-test IfLen o = instr.IfLen (packet_in o.first) (count_in o.second) o.label
-test IfLast o = instr.IfLast (packet_in o.first) (count_in o.second) o.label
-test form o = bytes form o
-
 abbrev pub built : Form → Given → Instr
 built Alloc o = instr.Alloc (packet_in o.first) (byte_in o.second) o.label
 built Free o = instr.Free (packet_in o.first)
@@ -93,7 +58,30 @@ built Adj o = instr.Adj (packet_in o.first) (count_in o.second)
 built Append o = instr.Append (packet_in o.first) (count_in o.second)
 built Trim o = instr.Trim (packet_in o.first) (count_in o.second)
 built Chain o = instr.Chain (packet_in o.first) (packet_in o.second)
-built form o = test form o
+built IfHead o = instr.IfHead (packet_in o.first) (count_in o.second) o.label
+built IfTail o = instr.IfTail (packet_in o.first) (count_in o.second) o.label
+built IfLen o = instr.IfLen (packet_in o.first) (count_in o.second) o.label
+built IfLast o = instr.IfLast (packet_in o.first) (count_in o.second) o.label
+built Load o = instr.Load (register_in o.first) (packet_in o.second) (count_in o.third) (width_in o.fourth)
+built Store o = instr.Store (packet_in o.first) (count_in o.second) (width_in o.third) (register_in o.fourth)
+built LoadX o = instr.LoadX (register_in o.first) (packet_in o.second) (register_in o.third) (count_in o.fourth) (width_in o.fifth)
+built StoreX o = instr.StoreX (packet_in o.first) (register_in o.second) (count_in o.third) (width_in o.fourth) (register_in o.fifth)
+built Set o = instr.Set (register_in o.first) (number_in o.second)
+built Mov o = instr.Mov (register_in o.first) (register_in o.second)
+built Add o = instr.Add (register_in o.first) (operand_in o.second)
+built Sub o = instr.Sub (register_in o.first) (operand_in o.second)
+built And o = instr.And (register_in o.first) (operand_in o.second)
+built Or o = instr.Or (register_in o.first) (operand_in o.second)
+built Xor o = instr.Xor (register_in o.first) (operand_in o.second)
+built Shl o = instr.Shl (register_in o.first) (byte_in o.second)
+built Shr o = instr.Shr (register_in o.first) (byte_in o.second)
+built Jmp o = instr.Jmp o.label
+built Jeq o = instr.Jeq (register_in o.first) (operand_in o.second) o.label
+built Jlt o = instr.Jlt (register_in o.first) (number_in o.second) o.label
+built Lookup o = instr.Lookup (register_in o.first) (byte_in o.second) (register_in o.third) o.label
+built Tx o = instr.Tx (packet_in o.first) (register_in o.second) o.label
+built Enq o = instr.Enq (packet_in o.first) (byte_in o.second) o.label
+built Exit o = instr.Exit
 
 -- ---- the operands of a statement
 

@@ -1,4 +1,4 @@
-// From a text to its program.
+//! `assemble`: from a text to its program.
 
 ghost use Rattle.std.specs.Prelude.{map, IfErr, IfOk};
 ghost use Rattle.dp_lang.specs.Reading.{Fails, Reads, lines_of, nothing};

@@ -1,4 +1,4 @@
-//! The instruction of a form and its operands: the other half of what the printer does.
+//! The instruction of a form and its operands: the way back of `spelling.rt`.
 
 ghost use Rattle.std.specs.Prelude.{◌≡◌};
 ghost use Rattle.dp_lang.specs.Building as spec;
@@ -79,179 +79,42 @@ fn operand_in(given: Named) -> Operand
     }
 }
 
-/// What jumps, or sends a packet, or ends.
-fn jump(form: Form, o: &Given) -> Instr
-    ensures { result ≡ spec.jump form o.now }
-{
-    match form {
-        Form::Jmp => Instr::Jmp { to: o.label },
-        Form::Jeq => Instr::Jeq {
-            left: register_in(o.first),
-            right: operand_in(o.second),
-            equal: o.label,
-        },
-        Form::Jlt => Instr::Jlt {
-            left: register_in(o.first),
-            right: number_in(o.second),
-            below: o.label,
-        },
-        Form::Lookup => Instr::Lookup {
-            into: register_in(o.first),
-            table: byte_in(o.second),
-            address: register_in(o.third),
-            missed: o.label,
-        },
-        Form::Tx => Instr::Tx {
-            packet: packet_in(o.first),
-            port: register_in(o.second),
-            full: o.label,
-        },
-        Form::Enq => Instr::Enq {
-            packet: packet_in(o.first),
-            ring: byte_in(o.second),
-            full: o.label,
-        },
-        _ => Instr::Exit,
-    }
+/// The instruction of a form: rows of the forms that have the same fields, and what these are.
+macro_rules! build {
+    ($form:expr; $($($name:ident)|+ => $fields:tt;)+) => {
+        match $form {
+            $($(Form::$name => Instr::$name $fields,)+)+
+        }
+    };
 }
 
-/// What changes a number register, or one of those above.
-fn number(form: Form, o: &Given) -> Instr
-    ensures { result ≡ spec.number form o.now }
-{
-    let into = register_in(o.first);
-    match form {
-        Form::Set => Instr::Set {
-            into,
-            value: number_in(o.second),
-        },
-        Form::Mov => Instr::Mov {
-            into,
-            from: register_in(o.second),
-        },
-        Form::Add => Instr::Add {
-            into,
-            by: operand_in(o.second),
-        },
-        Form::Sub => Instr::Sub {
-            into,
-            by: operand_in(o.second),
-        },
-        Form::And => Instr::And {
-            into,
-            by: operand_in(o.second),
-        },
-        Form::Or => Instr::Or {
-            into,
-            by: operand_in(o.second),
-        },
-        Form::Xor => Instr::Xor {
-            into,
-            by: operand_in(o.second),
-        },
-        Form::Shl => Instr::Shl {
-            into,
-            by: byte_in(o.second),
-        },
-        Form::Shr => Instr::Shr {
-            into,
-            by: byte_in(o.second),
-        },
-        _ => jump(form, o),
-    }
-}
-
-/// What reads or writes a packet's bytes, or one of those above.
-fn bytes(form: Form, o: &Given) -> Instr
-    ensures { result ≡ spec.bytes form o.now }
-{
-    match form {
-        Form::Load => Instr::Load {
-            into: register_in(o.first),
-            packet: packet_in(o.second),
-            offset: count_in(o.third),
-            width: width_in(o.fourth),
-        },
-        Form::Store => Instr::Store {
-            packet: packet_in(o.first),
-            offset: count_in(o.second),
-            width: width_in(o.third),
-            from: register_in(o.fourth),
-        },
-        Form::LoadX => Instr::LoadX {
-            into: register_in(o.first),
-            packet: packet_in(o.second),
-            index: register_in(o.third),
-            offset: count_in(o.fourth),
-            width: width_in(o.fifth),
-        },
-        Form::StoreX => Instr::StoreX {
-            packet: packet_in(o.first),
-            index: register_in(o.second),
-            offset: count_in(o.third),
-            width: width_in(o.fourth),
-            from: register_in(o.fifth),
-        },
-        _ => number(form, o),
-    }
-}
-
-/// What asks for a packet's room or length, or one of those above.
-fn test(form: Form, o: &Given) -> Instr
-    ensures { result ≡ spec.test form o.now }
-{
-    let (packet, least, less) = (packet_in(o.first), count_in(o.second), o.label);
-    match form {
-        Form::IfHead => Instr::IfHead {
-            packet,
-            least,
-            less,
-        },
-        Form::IfTail => Instr::IfTail {
-            packet,
-            least,
-            less,
-        },
-        Form::IfLen => Instr::IfLen {
-            packet,
-            least,
-            less,
-        },
-        Form::IfLast => Instr::IfLast {
-            packet,
-            least,
-            less,
-        },
-        _ => bytes(form, o),
-    }
-}
-
-/// The instruction of a form: what takes, gives back or changes a packet, or one of those above.
+/// The instruction of a form and its operands.
 pub fn built(form: Form, o: &Given) -> Instr
     ensures { result ≡ spec.built form o.now }
 {
-    let (packet, count) = (packet_in(o.first), count_in(o.second));
-    match form {
-        Form::Alloc => Instr::Alloc {
-            into: packet,
-            pool: byte_in(o.second),
-            refused: o.label,
-        },
-        Form::Free => Instr::Free { packet },
-        Form::Clone => Instr::Clone {
-            into: packet,
-            from: packet_in(o.second),
-            pool: byte_in(o.third),
-            refused: o.label,
-        },
-        Form::Prepend => Instr::Prepend { packet, count },
-        Form::Adj => Instr::Adj { packet, count },
-        Form::Append => Instr::Append { packet, count },
-        Form::Trim => Instr::Trim { packet, count },
-        Form::Chain => Instr::Chain {
-            front: packet,
-            back: packet_in(o.second),
-        },
-        _ => test(form, o),
+    build! { form;
+        Alloc => { into: packet_in(o.first), pool: byte_in(o.second), refused: o.label };
+        Free => { packet: packet_in(o.first) };
+        Clone => { into: packet_in(o.first), from: packet_in(o.second), pool: byte_in(o.third), refused: o.label };
+        Prepend | Adj | Append | Trim => { packet: packet_in(o.first), count: count_in(o.second) };
+        Chain => { front: packet_in(o.first), back: packet_in(o.second) };
+        IfHead | IfTail | IfLen | IfLast => { packet: packet_in(o.first), least: count_in(o.second), less: o.label };
+        Load => { into: register_in(o.first), packet: packet_in(o.second), offset: count_in(o.third), width: width_in(o.fourth) };
+        Store => { packet: packet_in(o.first), offset: count_in(o.second), width: width_in(o.third), from: register_in(o.fourth) };
+        LoadX => { into: register_in(o.first), packet: packet_in(o.second), index: register_in(o.third),
+            offset: count_in(o.fourth), width: width_in(o.fifth) };
+        StoreX => { packet: packet_in(o.first), index: register_in(o.second), offset: count_in(o.third),
+            width: width_in(o.fourth), from: register_in(o.fifth) };
+        Set => { into: register_in(o.first), value: number_in(o.second) };
+        Mov => { into: register_in(o.first), from: register_in(o.second) };
+        Add | Sub | And | Or | Xor => { into: register_in(o.first), by: operand_in(o.second) };
+        Shl | Shr => { into: register_in(o.first), by: byte_in(o.second) };
+        Jmp => { to: o.label };
+        Jeq => { left: register_in(o.first), right: operand_in(o.second), equal: o.label };
+        Jlt => { left: register_in(o.first), right: number_in(o.second), below: o.label };
+        Lookup => { into: register_in(o.first), table: byte_in(o.second), address: register_in(o.third), missed: o.label };
+        Tx => { packet: packet_in(o.first), port: register_in(o.second), full: o.label };
+        Enq => { packet: packet_in(o.first), ring: byte_in(o.second), full: o.label };
+        Exit => {};
     }
 }

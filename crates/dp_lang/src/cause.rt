@@ -1,4 +1,4 @@
-// Why a text is no program.
+//! Why a text is no program: causes, faults and errors.
 
 ghost use Rattle.std.specs.Prelude.{◌≡◌};
 ghost use Rattle.dp_lang.specs.Causes.{number_of, least};

@@ -1,4 +1,4 @@
-// Cutting lines into parts.
+//! Cutting lines into labels, words and operands.
 
 ghost use Rattle.std.specs.Prelude.{◌≡◌, ◌==◌, map, position, IfOk, ◌<◌, length};
 ghost use Rattle.std.specs.List.{slice_split, before_first, after_first, list_all};

@@ -1,10 +1,10 @@
-// The forms of instructions.
+//! The table of forms: the word of each instruction, and the kinds of its operands.
 
 ghost use Rattle.std.specs.Prelude.{◌≡◌};
 ghost use Rattle.dp_lang.specs.Forms.{word_of, kinds_of, form_of};
 
 /// What an operand has to be.
-#[derive(Clone, Copy, Debug, PartialEq, Eq)]
+#[derive(Clone, Copy)]
 pub enum Kind {
     Packet,
     Register,
@@ -44,7 +44,7 @@ const POSITIVE: Kind = Kind::Number {
 };
 
 /// Which form an instruction has.
-#[derive(Clone, Copy, Debug, PartialEq, Eq)]
+#[derive(Clone, Copy)]
 pub enum Form {
     Alloc,
     Free,
@@ -164,15 +164,11 @@ impl Form {
             Form::Alloc => &[Kind::Packet, POOL, Kind::Label],
             Form::Free => &[Kind::Packet],
             Form::Clone => &[Kind::Packet, Kind::Packet, POOL, Kind::Label],
-            Form::Prepend => &[Kind::Packet, COUNT],
-            Form::Adj => &[Kind::Packet, COUNT],
-            Form::Append => &[Kind::Packet, COUNT],
-            Form::Trim => &[Kind::Packet, COUNT],
+            Form::Prepend | Form::Adj | Form::Append | Form::Trim => &[Kind::Packet, COUNT],
             Form::Chain => &[Kind::Packet, Kind::Packet],
-            Form::IfHead => &[Kind::Packet, COUNT, Kind::Label],
-            Form::IfTail => &[Kind::Packet, COUNT, Kind::Label],
-            Form::IfLen => &[Kind::Packet, COUNT, Kind::Label],
-            Form::IfLast => &[Kind::Packet, COUNT, Kind::Label],
+            Form::IfHead | Form::IfTail | Form::IfLen | Form::IfLast => {
+                &[Kind::Packet, COUNT, Kind::Label]
+            }
             Form::Load => &[Kind::Register, Kind::Packet, COUNT, Kind::Width],
             Form::Store => &[Kind::Packet, COUNT, Kind::Width, Kind::Register],
             Form::LoadX => &[
@@ -191,13 +187,10 @@ impl Form {
             ],
             Form::Set => &[Kind::Register, CONSTANT],
             Form::Mov => &[Kind::Register, Kind::Register],
-            Form::Add => &[Kind::Register, Kind::RegisterOrConstant],
-            Form::Sub => &[Kind::Register, Kind::RegisterOrConstant],
-            Form::And => &[Kind::Register, Kind::RegisterOrConstant],
-            Form::Or => &[Kind::Register, Kind::RegisterOrConstant],
-            Form::Xor => &[Kind::Register, Kind::RegisterOrConstant],
-            Form::Shl => &[Kind::Register, SHIFT],
-            Form::Shr => &[Kind::Register, SHIFT],
+            Form::Add | Form::Sub | Form::And | Form::Or | Form::Xor => {
+                &[Kind::Register, Kind::RegisterOrConstant]
+            }
+            Form::Shl | Form::Shr => &[Kind::Register, SHIFT],
             Form::Jmp => &[Kind::Label],
             Form::Jeq => &[Kind::Register, Kind::RegisterOrConstant, Kind::Label],
             Form::Jlt => &[Kind::Register, POSITIVE, Kind::Label],

@@ -1,4 +1,4 @@
-// The labels of a text.
+//! The labels of a text, each with the number of its instruction.
 
 ghost use Rattle.std.specs.Prelude.{◌≡◌, OnOk, option_map};
 ghost use Rattle.std.specs.FinMap as map;

@@ -1,4 +1,4 @@
-// What is proved of texts and programs, as the contract of a function that does nothing.
+//! What is proved of texts and programs, as the contract of a function that does nothing.
 
 ghost use Rattle.std.specs.Prelude.{◌≡◌, ℕ, List};
 ghost use Rattle.dp_model.specs.declared.instr.Instr.{Instr};

@@ -1,4 +1,4 @@
-// Node programs: their instructions, and their text.
+//! Node programs: their instructions as forms with operands, and their text.
 #![tactic(auto)]
 
 mod argument;
@@ -16,11 +16,14 @@ mod program;
 mod reader;
 mod resolve;
 mod source;
+mod spelling;
 mod statement;
 
+pub use argument::{Arguments, Numbered};
 pub use assembler::assemble;
 pub use cause::{AsmError, Cause, Fault};
 pub use laws::printed_texts_read_back;
 pub use line_numbers::source_lines;
 pub use printer::print;
 pub use program::Program;
+pub use spelling::arguments_of;

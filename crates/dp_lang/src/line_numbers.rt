@@ -22,7 +22,7 @@ fn lines_of(alloc: Global, statements: &[Statement<'_>]) -> Result<Vec<usize>, A
 ///
 /// # Errors
 ///
-/// `AsmError::Fault` where a line by itself has a fault, as `assemble` tells it; labels are not looked up. `AsmError::Memory`
+/// `AsmError::Fault` where a line by itself has a fault, as `assemble` answers it; labels are not looked up. `AsmError::Memory`
 /// where a growth was refused.
 pub fn source_lines(alloc: Global, text: &[u8]) -> Result<Vec<usize>, AsmError>
     ensures { Gives (λ lines. lines.items) result (spec.source_lines text.now) }

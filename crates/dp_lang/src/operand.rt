@@ -1,4 +1,4 @@
-// What an operand of a kind is.
+//! Reading one operand of a kind.
 
 ghost use Rattle.std.specs.Prelude.{◌≡◌, ◌<◌, ℕ, IfSome, Some, MatchOption};
 ghost use Rattle.std.specs.List.{list_all};

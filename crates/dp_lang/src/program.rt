@@ -1,4 +1,4 @@
-// Programs of nodes.
+//! `Program`: the instructions of a node, all in their ranges.
 
 ghost use Rattle.std.specs.Prelude.{◌≡◌, ◌≤◌, length};
 ghost use Rattle.dp_lang.specs.Programs.{IsProgram};
@@ -35,7 +35,7 @@ impl Program {
         Program { instrs }
     }
 
-    /// The instructions. A label is the place of one of them, from 0.
+    /// The instructions. A label is the index of one of them, from 0.
     pub fn instrs(&self) -> &[Instr]
         ensures same { result.now ≡ self.now }
         ensures some { 1 ≤ length result.now }

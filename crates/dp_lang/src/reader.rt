@@ -1,4 +1,4 @@
-// Reading lines.
+//! Reading one line: its labels, and its statement.
 
 ghost use Rattle.std.specs.Prelude.{◌≡◌, ◌<◌, ℕ, true, List, map, length, vec_len, Option, Result, Ok, IfOk, IfSome};
 ghost use Rattle.dp_lang.specs.Causes as causes;

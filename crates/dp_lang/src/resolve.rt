@@ -1,4 +1,4 @@
-// Statements become instructions once all labels are known.
+//! From statements to instructions, once all labels are known.
 
 ghost use Rattle.std.specs.Prelude.{◌≡◌, map, IfSome, option_map, slice_index_or};
 ghost use Rattle.dp_lang.specs.Building.{label_in, none};

@@ -1,4 +1,4 @@
-// What the lines of a text give.
+//! `Source`: what the lines of a text give.
 
 ghost use Rattle.std.specs.Prelude.{◌≤◌, vec_len};
 

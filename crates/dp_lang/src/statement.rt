@@ -1,4 +1,4 @@
-// Statements: instructions as their text gives them.
+//! `Statement`: an instruction as its text gives it.
 
 ghost use Rattle.std.specs.Prelude.{◌≡◌, true, map};
 ghost use Rattle.dp_lang.specs.Forms.{all_of, kinds_of};

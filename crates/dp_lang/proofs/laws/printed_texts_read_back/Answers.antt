@@ -1,5 +1,5 @@
 -- The law is two lemmas.
-use Rattle.dp_lang.proofs.Again.{reads_back}
+use Rattle.dp_lang.proofs.ReadBack.{reads_back}
 use Rattle.dp_lang.proofs.Spellings.{one_program}
 use Rattle.dp_lang.proofs.laws.printed_texts_read_back.Goals as goal
 
