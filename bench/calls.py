@@ -26,14 +26,17 @@ RULES = 60_000
 # how many operations a round is, and what the first run is, if not the same with 1,000 rounds.
 OPERATIONS = {
     "heap: malloc and free, 100 blocks out": ("block", "block", 10_000, 1, None),
+    "heap: the same, 10,000 blocks out": ("blocks", "blocks", 10_000, 1, None),
     "ring: one in and out": ("ring", "ring", 10_000, 1, None),
     "ring: 32 in and out, for each": ("bulk", "bulk", 10_000, 32, None),
     "pool: get and put, cache for 256": ("cached", "cached", 10_000, 1, None),
+    "pool: 32 got and put in bulk, for each": ("pools", "pools", 10_000, 32, None),
     "pool: get and put, no cache": ("uncached", "uncached", 10_000, 1, None),
     "the same beside a pool for one lcore": ("uncached", "single", 10_000, 1, None),
     "mbuf: alloc and free, cache for 256": ("alloc", "alloc", 10_000, 1, None),
     "mbuf: clone and free": ("clone", "clone", 10_000, 1, None),
     "mbuf: prepend and adj of 16 bytes": ("front", "front", 10_000, 1, None),
+    "mbuf: receive of 60 bytes and free": ("receive", "receive", 10_000, 1, None),
     "lpm: look-up among 60,000 rules": ("lookup", "lookup", 100_000, 1, ("add", RULES)),
     "lpm: add, of 60,000 rules": ("add", "add", RULES, 1, ("add", 0)),
     "lpm: delete, of 60,000 rules": ("delete", "delete", RULES, 1, ("add", RULES)),

@@ -4,8 +4,8 @@
 Usage: bench/engine.py [PROGRAM WORD ..]   (a program that runs a pipeline file; by default ./dpv run at the top of the repository)
 A pipeline's count is the difference of two runs, of which one has twice as many records of 60 bytes, as perf or valgrind count
 them. Prints two tables. The first has a line per pipeline: instructions per record, and how many instructions of its program a
-record runs. The second has what follows: a hop through a ring, and an instruction of a program that loads, adds, compares and
-stores, both beside a pipeline that only sends.
+record runs. The second has what follows: a hop through a ring, and an instruction of two programs that load, add, compare and
+store, all beside a pipeline that only sends; and how a record of two ports compares with one of strip.
 """
 import pathlib
 import struct
@@ -56,6 +56,8 @@ d: free p0
 exit
 """
 
+TTL = (TOP / "examples" / "ttl" / "ttl.dpv").read_text()
+
 # Per pipeline: its ports' programs, its ring's, the cache of its pool, and how many instructions a record runs.
 PIPELINES = {
     "sent": ([SEND], None, 0, 2),
@@ -64,6 +66,7 @@ PIPELINES = {
     "through a ring": ([WAIT], SEND, 0, 4),
     "two ports that send to each other": ([CROSS, CROSS], None, 0, 4),
     "a router's 24 instructions": ([ROUTE], None, 0, 24),
+    "examples/ttl": ([TTL], None, 0, 25),
 }
 
 
@@ -110,8 +113,12 @@ def main() -> None:
             print(f"{title:<36} {each[title]:>9.1f} {steps:>15}", flush=True)
     hop = each["through a ring"] - each["sent"]
     step = (each["a router's 24 instructions"] - each["sent"]) / 22
+    other = (each["examples/ttl"] - each["sent"]) / 23
+    ports = each["two ports that send to each other"] / each["strip"]
     print(f"\n{'one hop through a ring more':<36} {hop:>9.1f}")
-    print(f"{'an instruction of a program':<36} {step:>9.1f}")
+    print(f"{'an instruction of a router':<36} {step:>9.1f}")
+    print(f"{'an instruction of examples/ttl':<36} {other:>9.1f}")
+    print(f"{'two ports, in times of strip':<36} {ports:>9.2f}")
 
 
 if __name__ == "__main__":

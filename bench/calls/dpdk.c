@@ -11,12 +11,13 @@
 #include <rte_mempool.h>
 #include <rte_ring.h>
 
-#define OTHERS 100
+#define OTHERS 10000
 #define PLACES 1024
 #define BULK 32
 #define OBJECTS 8191
 #define MBUFS 400
 #define FRONT 16
+#define RECEIVED 60
 #define MAX_RULES 65536
 #define GROUPS 256
 #define RULES 60000
@@ -27,9 +28,9 @@ static inline uint32_t next(uint64_t *state) {
     return *state >> 32;
 }
 
-static uint32_t blocks(uint32_t rounds) {
-    void *others[OTHERS];
-    for (int k = 0; k < OTHERS; k++) others[k] = rte_malloc(NULL, 64, 0);
+static uint32_t blocks(int count, uint32_t rounds) {
+    static void *others[OTHERS];
+    for (int k = 0; k < count; k++) others[k] = rte_malloc(NULL, 64, 0);
     uint32_t served = 0;
     for (uint32_t k = 0; k < rounds; k++) {
         void *block = rte_malloc(NULL, 64, 0);
@@ -38,7 +39,7 @@ static uint32_t blocks(uint32_t rounds) {
             served++;
         }
     }
-    for (int k = 0; k < OTHERS; k++) rte_free(others[k]);
+    for (int k = 0; k < count; k++) rte_free(others[k]);
     return served;
 }
 
@@ -56,6 +57,12 @@ __attribute__((noinline)) static int pair(struct rte_mempool *pool) {
     void *object;
     if (rte_mempool_get(pool, &object) != 0) return 0;
     rte_mempool_put(pool, object);
+    return 1;
+}
+
+__attribute__((noinline)) static int pair_of_bulks(struct rte_mempool *pool, void *objects[BULK]) {
+    if (rte_mempool_get_bulk(pool, objects, BULK) != 0) return 0;
+    rte_mempool_put_bulk(pool, objects, BULK);
     return 1;
 }
 
@@ -96,6 +103,16 @@ static uint32_t pairs(unsigned cache, unsigned flags, uint32_t rounds) {
     return served;
 }
 
+static uint32_t pool_bulks(uint32_t rounds) {
+    struct rte_mempool *pool = rte_mempool_create("pool", OBJECTS, 64, 256, 0, NULL, NULL, NULL, NULL, SOCKET_ID_ANY, 0);
+    if (!pool) return 0;
+    void *objects[BULK];
+    uint32_t served = 0;
+    for (uint32_t k = 0; k < rounds; k++) served += pair_of_bulks(pool, objects);
+    rte_mempool_free(pool);
+    return served;
+}
+
 __attribute__((noinline)) static int taken(struct rte_mempool *pool) {
     struct rte_mbuf *packet = rte_pktmbuf_alloc(pool);
     if (!packet) return 0;
@@ -114,13 +131,25 @@ __attribute__((noinline)) static int fronted(struct rte_mbuf *packet) {
     return rte_pktmbuf_prepend(packet, FRONT) && rte_pktmbuf_adj(packet, FRONT);
 }
 
-// What is done in a round goes by the name's first letter: alloc, clone or front.
+// A receive, as a driver over captures does it: the bytes are copied into a new packet.
+__attribute__((noinline)) static int received(struct rte_mempool *pool, const char *bytes) {
+    struct rte_mbuf *packet = rte_pktmbuf_alloc(pool);
+    if (!packet) return 0;
+    char *room = rte_pktmbuf_append(packet, RECEIVED);
+    if (room) memcpy(room, bytes, RECEIVED);
+    rte_pktmbuf_free(packet);
+    return room != NULL;
+}
+
+// What is done in a round goes by the name's first letter: alloc, clone, front or receive.
 static uint32_t mbufs(char deed, uint32_t rounds) {
     struct rte_mempool *pool = rte_pktmbuf_pool_create("mbufs", MBUFS, 256, 0, RTE_MBUF_DEFAULT_BUF_SIZE, SOCKET_ID_ANY);
     struct rte_mbuf *packet = pool ? rte_pktmbuf_alloc(pool) : NULL;
     if (!packet) return 0;
+    char bytes[RECEIVED];
+    memset(bytes, 7, RECEIVED);
     uint32_t served = 0;
-    for (uint32_t k = 0; k < rounds; k++) served += deed == 'a' ? taken(pool) : deed == 'c' ? cloned(pool, packet) : fronted(packet);
+    for (uint32_t k = 0; k < rounds; k++) served += deed == 'a' ? taken(pool) : deed == 'c' ? cloned(pool, packet) : deed == 'r' ? received(pool, bytes) : fronted(packet);
     rte_pktmbuf_free(packet);
     rte_mempool_free(pool);
     return served;
@@ -161,13 +190,15 @@ int main(int argc, char **argv) {
     const char *name = argv[1];
     uint32_t rounds = strtoul(argv[2], NULL, 10);
     uint64_t answer;
-    if (!strcmp(name, "block")) answer = blocks(rounds);
+    if (!strcmp(name, "block")) answer = blocks(100, rounds);
+    else if (!strcmp(name, "blocks")) answer = blocks(OTHERS, rounds);
     else if (!strcmp(name, "ring")) answer = one_by_one(rounds);
     else if (!strcmp(name, "bulk")) answer = in_bulk(rounds);
     else if (!strcmp(name, "cached")) answer = pairs(256, 0, rounds);
     else if (!strcmp(name, "uncached")) answer = pairs(0, 0, rounds);
     else if (!strcmp(name, "single")) answer = pairs(0, RTE_MEMPOOL_F_SP_PUT | RTE_MEMPOOL_F_SC_GET, rounds);
-    else if (!strcmp(name, "alloc") || !strcmp(name, "clone") || !strcmp(name, "front")) answer = mbufs(name[0], rounds);
+    else if (!strcmp(name, "pools")) answer = pool_bulks(rounds);
+    else if (!strcmp(name, "alloc") || !strcmp(name, "clone") || !strcmp(name, "front") || !strcmp(name, "receive")) answer = mbufs(name[0], rounds);
     else if (!strcmp(name, "add")) answer = routes(rounds, 0, 0);
     else if (!strcmp(name, "lookup")) answer = routes(RULES, rounds, 0);
     else if (!strcmp(name, "delete")) answer = routes(RULES, 0, rounds);

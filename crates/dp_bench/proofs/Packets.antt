@@ -1,17 +1,18 @@
 -- Packets that come and go, and rounds that leave all as it was.
-use Rattle.std.proofs.Common.{◌≡◌, ℕ, zero, suc, ◌+◌, ◌-◌, ◌*◌, ◌<◌, ◌≤◌, false, List, [], ◌∷◌, length, Option, Some, None, refl, sym, ◌∙◌, ap, ap₂, subst, arith, get_or}
-use Rattle.std.specs.Prelude.{replicate, slice_get, slice_set, slice_index_or}
+use Rattle.std.proofs.Common.{◌≡◌, ℕ, zero, suc, ◌+◌, ◌-◌, ◌*◌, ◌/◌, ◌<◌, ◌≤◌, false, List, [], ◌∷◌, length, Option, Some, None, refl, sym, ◌∙◌, ap, ap₂, subst, arith, get_or}
+use Rattle.std.specs.Prelude.{max, replicate, slice_get, slice_set, slice_index_or}
 use Rattle.std.specs.List.{AllByRecursion}
 use Rattle.std.proofs.lemmas.Option.{none-some, same_Some}
 use Rattle.dp_model.specs.Buffers.{Number, Buffers, ChangesOnly}
-use Rattle.dp_model.specs.Packets.{Segment, Packet, headroom, first_len, at_front, more_before, less_before, zeroed_before, refs, IsHeadSole, allocated, cloned}
+use Rattle.dp_model.specs.Packets.{Segment, Packet, headroom, first_len, at_front, more_before, less_before, zeroed_before, refs, IsHeadSole, allocated, cloned, needed, received, Filled}
+use Rattle.dp_model.specs.Environments.{room_at}
 use Rattle.dp_model.specs.Machine.{segments_held}
-use Rattle.dp_model.specs.Stores.{Store, Has, HasSome, IsLive, Becomes, unwritten, with_slot, Gives, Allocates, Clones}
+use Rattle.dp_model.specs.Stores.{Store, Has, HasSome, IsLive, Becomes, unwritten, with_slot, Gives, Allocates, Clones, ReceivesInto}
 use Rattle.dp_region.specs.Ownership.{Home}
 use Rattle.dp_pool.specs.Pools.{PoolView, PoolZones}
 use Rattle.dp_mbuf.specs.Objects.{present, PoolsFirst, pool_in, zones_of}
 use Rattle.dp_mbuf.specs.Mbufs.{MbufsView, AreReady, IsNew, HasNone}
-use Rattle.dp_bench.specs.Mbufs.{HasFront, IsReadyPool, IsOnePool}
+use Rattle.dp_bench.specs.Mbufs.{HasFront, HasRoom, IsReadyPool, IsOnePool}
 
 -- ---- a place that is filled and emptied
 
@@ -55,6 +56,20 @@ module _ (s s' : Store) (q pool : ℕ) (live : IsLive s q) where
 
   pub clone_none : Clones s q pool s' None → s' ≡ s
   clone_none c = (c live.0 live.1).1
+
+module _ (s s' : Store) (pool h : ℕ) (bytes : List ℕ) (g : ReceivesInto s pool bytes s' (Some h)) where
+  abbrev packet : List Number → Packet
+  packet ns = received (room_at s.pools pool) ns (length bytes)
+
+  pub receive_live : IsLive s' h
+  receive_live = given_live s s' pool (needed s.pools pool (length bytes)) h packet (λ ns old new. Filled ns (packet ns) bytes old new) g
+
+  pub receive_back : (s'' : Store) → s'' ≡ with_slot h None s' → (s''.slots ≡ s.slots) × (s''.pools ≡ s.pools)
+  receive_back = given_back s s' pool (needed s.pools pool (length bytes)) h packet (λ ns old new. Filled ns (packet ns) bytes old new) g
+
+-- a packet of 60 bytes needs one buffer
+pub needs_one : (s : Store) → HasRoom s → needed s.pools 0 60 ≡ 1
+needs_one s room = ap (λ r. max 1 ((60 + (r - 128 - 1)) / (r - 128))) room
 
 -- ---- bytes in front
 
@@ -102,6 +117,9 @@ live_kept s s' h e live = (live.0, ap (λ l. slice_get l h) e ∙ live.1, tt)
 pub front_kept : (s s' : Store) (h n : ℕ) → s'.slots ≡ s.slots → HasFront s h n → HasFront s' h n
 front_kept s s' h n e f = (f.0, ap (λ l. slice_get l h) e ∙ f.1, (f.2.0, subst (λ l. IsHeadSole (segments_held l) f.0) (sym e) f.2.1))
 
+pub room_kept : (s s' : Store) → s'.pools ≡ s.pools → HasRoom s → HasRoom s'
+room_kept s s' e room = ap (λ ps. room_at ps 0) e ∙ room
+
 pub some_kept : (s s' : Store) → s'.pools ≡ s.pools → 0 < length s.pools → 0 < length s'.pools
 some_kept s s' e some = let l = ap length e in omega (arith, l, some)
 
@@ -135,6 +153,9 @@ ready_one home p r = record {
 
 pub new_some : (p : PoolView) (v : MbufsView) → IsNew (one_of p) v → 0 < length v.store.pools
 new_some p v new = let l = ap length new.pools_are in omega (arith, l)
+
+pub new_room : (p : PoolView) (v : MbufsView) → IsNew (one_of p) v → p.size ≡ 2304 → HasRoom v.store
+new_room p v new size = ap (λ ps. room_at ps 0) new.pools_are ∙ ap (λ n. n - 128) size
 
 pub new_none : (p : PoolView) (v v' : MbufsView) → IsNew (one_of p) v → v'.store.slots ≡ v.store.slots → HasNone v'.store
 new_none p v v' new e h = ap (λ l. slice_index_or l h None) (e ∙ new.empty) ∙ no_slot (65536 * length v.store.pools) h

@@ -1,5 +1,6 @@
 -- What the rounds over mbufs keep.
 use Rattle.std.specs.Prelude.{◌≡◌, ℕ, ◌≤◌, false, length, List, [], ◌∷◌, Option, Some, None, replicate}
+use Rattle.dp_model.specs.Environments.{room_at}
 use Rattle.dp_model.specs.Packets.{headroom, IsHeadSole}
 use Rattle.dp_model.specs.Stores.{Store, HasSome, segments_of}
 use Rattle.dp_region.specs.Ownership.{Home}
@@ -13,6 +14,10 @@ AreAsBefore old new = (new.store.slots ≡ old.store.slots) × (new.store.pools 
 -- there is room for so many bytes in front of the packet, and its first buffer has one reference
 abbrev pub HasFront : Store → ℕ → ℕ → Type 0
 HasFront s h n = HasSome s h (λ k. (n ≤ headroom k) × IsHeadSole (segments_of s) k)
+
+-- the first pool has this room in each buffer
+abbrev pub HasRoom : Store → Type 0
+HasRoom s = room_at s.pools 0 ≡ 2176
 
 -- a pool of mbufs with all in, in zones of the region
 pub record IsReadyPool (region : Home) (p : PoolView) : Type 0 where

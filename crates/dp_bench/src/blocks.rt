@@ -5,10 +5,8 @@ use crate::heaps::heap;
 use dp_heap::Heap;
 use std::alloc::Global;
 
-// How many bytes a block has, and how many others are out.
+// How many bytes a block has.
 const SIZE: u32 = 64;
-
-const OTHERS: u32 = 100;
 
 // Takes a block and frees it, so many times, and answers how often there was one.
 fn pairs(heap: &mut Heap, rounds: u32) -> u32
@@ -44,13 +42,13 @@ fn pairs_beside(heap: &mut Heap, others: u32, rounds: u32) -> u32
 }
 
 /// The same in a heap of its own.
-pub fn served(alloc: Global, rounds: u32) -> u32
+pub fn served(alloc: Global, others: u32, rounds: u32) -> u32
     ensures { result ≤ rounds }
 {
     let Some(mut heap) = heap(alloc) else {
         return 0;
     };
-    let served = pairs_beside(&mut heap, OTHERS, rounds);
+    let served = pairs_beside(&mut heap, others, rounds);
     heap.close().close();
     served
 }

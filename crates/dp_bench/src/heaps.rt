@@ -8,7 +8,7 @@ use dp_region::Region;
 use std::alloc::Global;
 
 // How many bytes it has.
-const SIZE: u32 = 1_048_576;
+const SIZE: u32 = 2_097_152;
 
 // A heap of so many bytes, if there is memory for it.
 fn heap_of(alloc: Global, size: u32) -> Option<Heap>

@@ -15,12 +15,12 @@ ghost use Rattle.std.specs.Prelude.{◌≡◌, ◌+◌, ◌≤◌, ◌⊎◌};
 
 use std::alloc::Global;
 
-/// A block of 64 bytes is taken and freed, with 100 others out.
+/// A block of 64 bytes is taken and freed, with so many others out.
 #[unsafe(no_mangle)]
-pub extern "C" fn dpv_blocks(alloc: Global, rounds: u32) -> u32
+pub extern "C" fn dpv_blocks(alloc: Global, others: u32, rounds: u32) -> u32
     ensures { result ≤ rounds }
 {
-    blocks::served(alloc, rounds)
+    blocks::served(alloc, others, rounds)
 }
 
 /// A number goes into an empty ring of 1,024 places and comes out.
@@ -47,8 +47,17 @@ pub extern "C" fn dpv_pool(alloc: Global, cached: bool, rounds: u32) -> u32
     pools::served(alloc, cached, rounds)
 }
 
-/// A packet of one segment without bytes is taken from a pool with a cache for 256 and given up; the numbers 1 and 2
-/// stand for a clone of such a packet, and for 16 bytes that come in front of it and are cut off.
+/// 32 objects of a pool of 8,191 come out and go back, each in one call, with a cache for 256.
+#[unsafe(no_mangle)]
+pub extern "C" fn dpv_pool_bulk(alloc: Global, rounds: u32) -> u32
+    ensures { result ≤ rounds }
+{
+    pools::bulks(alloc, rounds)
+}
+
+/// A packet of one segment without bytes is taken from a pool with a cache for 256 and given up; the numbers 1 to 3 stand
+/// for a clone of such a packet, for 16 bytes that come in front of it and are cut off, and for a packet of 60 bytes that
+/// is received and given up.
 #[unsafe(no_mangle)]
 pub extern "C" fn dpv_mbufs(alloc: Global, deed: u32, rounds: u32) -> u32
     ensures { result ≤ rounds }
@@ -56,7 +65,8 @@ pub extern "C" fn dpv_mbufs(alloc: Global, deed: u32, rounds: u32) -> u32
     let deed = match deed {
         0 => mbufs::Deed::Alloc,
         1 => mbufs::Deed::Clone,
-        _ => mbufs::Deed::Front,
+        2 => mbufs::Deed::Front,
+        _ => mbufs::Deed::Receive,
     };
     mbufs::served(alloc, deed, rounds)
 }

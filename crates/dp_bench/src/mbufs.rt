@@ -2,7 +2,7 @@
 ghost use Rattle.std.specs.Prelude.{◌≡◌, ◌+◌, ◌<◌, ◌≤◌, length, true, IfSome, MatchOption};
 ghost use Rattle.dp_heap.specs.Elements.{count_of, is_busy};
 ghost use Rattle.dp_model.specs.Stores.{IsLive};
-ghost use Rattle.dp_bench.specs.Mbufs.{AreAsBefore, HasFront, IsReadyPool, IsIn, IsOnePool, zones_in};
+ghost use Rattle.dp_bench.specs.Mbufs.{AreAsBefore, HasFront, HasRoom, IsReadyPool, IsIn, IsOnePool, zones_in};
 
 use crate::heaps::heap;
 use dp_heap::Heap;
@@ -31,6 +31,8 @@ pub enum Deed {
     Clone,
     /// 16 bytes come in front of a packet and are cut off.
     Front,
+    /// 60 bytes are received into a packet, which is given up.
+    Receive,
 }
 
 // Takes a packet and gives it up, and says whether there was one.
@@ -58,6 +60,22 @@ fn cloned(m: &mut Mbufs, packet: &Packet) -> bool
     match m.clone_of(packet, 0) {
         Some(clone) => {
             m.free(clone);
+            true
+        }
+        None => false,
+    }
+}
+
+// Receives bytes into a packet and gives it up, and says whether there was one.
+#[inline(never)]
+fn received(m: &mut Mbufs, bytes: &[u8; 60]) -> bool
+    requires pools { 0 < length m.old.store.pools }
+    requires room { HasRoom m.old.store }
+    ensures { AreAsBefore m.old m.new }
+{
+    match m.receive(0, bytes) {
+        Some(packet) => {
+            m.free(packet);
             true
         }
         None => false,
@@ -104,6 +122,22 @@ fn all_cloned(m: &mut Mbufs, packet: &Packet, rounds: u32) -> u32
     served
 }
 
+fn all_received(m: &mut Mbufs, rounds: u32) -> u32
+    requires pools { 0 < length m.old.store.pools }
+    requires room { HasRoom m.old.store }
+    ensures served { result ≤ rounds }
+    ensures same { AreAsBefore m.old m.new }
+{
+    let bytes = [7; 60];
+    let mut served = 0;
+    for _ in 0..rounds {
+        if received(m, &bytes) {
+            served += 1;
+        }
+    }
+    served
+}
+
 fn all_fronted(m: &mut Mbufs, packet: &Packet, rounds: u32) -> u32
     requires { HasFront m.old.store packet.now 16 }
     ensures served { result ≤ rounds }
@@ -136,6 +170,7 @@ fn has_front(m: &Mbufs, packet: &Packet) -> bool
 // So many rounds beside a packet.
 fn served_beside(m: &mut Mbufs, packet: &Packet, deed: Deed, rounds: u32) -> u32
     requires pools { 0 < length m.old.store.pools }
+    requires room { HasRoom m.old.store }
     requires live { IsLive m.old.store packet.now }
     ensures served { result ≤ rounds }
     ensures same { AreAsBefore m.old m.new }
@@ -150,12 +185,14 @@ fn served_beside(m: &mut Mbufs, packet: &Packet, deed: Deed, rounds: u32) -> u32
                 0
             }
         }
+        Deed::Receive => all_received(m, rounds),
     }
 }
 
 // The same beside a new packet, which then goes.
 fn served_by(m: &mut Mbufs, deed: Deed, rounds: u32) -> u32
-    requires { 0 < length m.old.store.pools }
+    requires pools { 0 < length m.old.store.pools }
+    requires room { HasRoom m.old.store }
     ensures served { result ≤ rounds }
     ensures same { AreAsBefore m.old m.new }
 {

@@ -1,5 +1,5 @@
 //! Pools of objects.
-ghost use Rattle.std.specs.Prelude.{◌≡◌, ◌<◌, ◌⊎◌, true};
+ghost use Rattle.std.specs.Prelude.{◌≡◌, ◌<◌, ◌≤◌, ◌⊎◌, true};
 ghost use Rattle.dp_heap.specs.Elements.{count_of, is_busy};
 ghost use Rattle.dp_pool.specs.Queues.{in_count};
 
@@ -46,6 +46,33 @@ fn pairs(pool: &mut Pool, rounds: u32) -> u32
     served
 }
 
+// Takes 32 objects in one call and puts them back in another, and says whether there were so many.
+#[inline(never)]
+fn bulk(pool: &mut Pool, indexes: &mut [u32; 32]) -> bool
+    ensures { pool.new.zones ≡ pool.old.zones }
+{
+    if !pool.get_bulk(indexes) {
+        return false;
+    }
+    pool.put_bulk(indexes);
+    true
+}
+
+// The same so many times, and answers how often there were so many.
+fn in_bulk(pool: &mut Pool, rounds: u32) -> u32
+    ensures most { result ≤ rounds }
+    ensures zones { pool.new.zones ≡ pool.old.zones }
+{
+    let mut indexes = [0; 32];
+    let mut served = 0;
+    for _ in 0..rounds {
+        if bulk(pool, &mut indexes) {
+            served += 1;
+        }
+    }
+    served
+}
+
 // The same with a pool in a heap.
 fn served_in(heap: &mut Heap, cache: u32, rounds: u32) -> u32
     ensures served { (result ≡ rounds) ⊎ (result ≡ 0) }
@@ -69,6 +96,32 @@ pub fn served(alloc: Global, cached: bool, rounds: u32) -> u32
     };
     let cache = if cached { 256 } else { 0 };
     let served = served_in(&mut heap, cache, rounds);
+    heap.close().close();
+    served
+}
+
+// Bulks of a pool in a heap, with a cache for 256 indexes.
+fn bulks_in(heap: &mut Heap, rounds: u32) -> u32
+    ensures most { result ≤ rounds }
+    ensures counted { count_of is_busy heap.new.elements ≡ count_of is_busy heap.old.elements }
+{
+    let mut zones = Zones::new();
+    let Ok(mut pool) = Pool::make(heap, &mut zones, "pool", OBJECTS, SIZE, 256) else {
+        return 0;
+    };
+    let served = in_bulk(&mut pool, rounds);
+    pool.unmake(heap, &mut zones);
+    served
+}
+
+/// So many bulks in a heap of its own, and how many were whole.
+pub fn bulks(alloc: Global, rounds: u32) -> u32
+    ensures { result ≤ rounds }
+{
+    let Some(mut heap) = heap(alloc) else {
+        return 0;
+    };
+    let served = bulks_in(&mut heap, rounds);
     heap.close().close();
     served
 }

@@ -9,6 +9,7 @@ use crate::header::{Header, Place};
 use crate::objects::Objects;
 
 /// Makes a packet's first header none, and gives what it was.
+#[inline(always)]
 pub(crate) fn unhook(objects: &mut Objects, n: Place) -> Header
     requires { HasObject objects.old n }
     ensures was { result ≡ header_at objects.old n }
@@ -41,6 +42,7 @@ pub(crate) fn unhook_all(objects: &mut Objects)
 }
 
 /// Makes a packet's first header of an mbuf: how many segments the packet has, and which is the last.
+#[inline(always)]
 pub(crate) fn hook(objects: &mut Objects, n: Place, segs: u16, last: Place)
     requires { HasObject objects.old n }
     ensures { HeaderSet objects.old n (record (header_at objects.old n) { segs = segs; last = last }) objects.new }
@@ -50,6 +52,7 @@ pub(crate) fn hook(objects: &mut Objects, n: Place, segs: u16, last: Place)
 }
 
 /// Sets the mbuf that comes next.
+#[inline(always)]
 pub(crate) fn relink(objects: &mut Objects, n: Place, next: Place)
     requires { HasObject objects.old n }
     ensures { HeaderSet objects.old n (record (header_at objects.old n) { next = next }) objects.new }
@@ -58,6 +61,7 @@ pub(crate) fn relink(objects: &mut Objects, n: Place, next: Place)
 }
 
 // Puts an mbuf back, where it is not its own buffer.
+#[inline(always)]
 fn put_mbuf(objects: &mut Objects, n: Place, b: Place)
     requires are { ArePools objects.old }
     requires out { is_out objects.old n ≡ true }
@@ -69,6 +73,7 @@ fn put_mbuf(objects: &mut Objects, n: Place, b: Place)
 }
 
 // Gives up one reference of a buffer.
+#[inline(always)]
 fn drop_reference(objects: &mut Objects, b: Place)
     requires are { ArePools objects.old }
     requires object { HasObject objects.old b }
@@ -85,6 +90,7 @@ fn drop_reference(objects: &mut Objects, b: Place)
 }
 
 /// Gives up one segment, and gives the number of the next one.
+#[inline(always)]
 pub(crate) fn release(objects: &mut Objects, n: Place) -> Place
     requires { CanRelease objects.old n (header_at objects.old n).buffer }
     ensures gone { Released objects.old n (header_at objects.old n).buffer objects.new }
@@ -97,6 +103,7 @@ pub(crate) fn release(objects: &mut Objects, n: Place) -> Place
 }
 
 /// The header of a new mbuf that is its own buffer, of no packet yet.
+#[inline(always)]
 pub(crate) fn fresh_header(n: Place, offset: u16, len: u16) -> Header
     ensures { result ≡ record { segs = 0; refs = 1; offset = offset; len = len; next = n; last = n; buffer = n } }
 {
@@ -112,6 +119,7 @@ pub(crate) fn fresh_header(n: Place, offset: u16, len: u16) -> Header
 }
 
 /// Hands out an object of a pool that has one in.
+#[inline(always)]
 pub(crate) fn take_one(objects: &mut Objects, pool: u16) -> Place
     requires there { pool < length objects.old }
     requires some { 1 ≤ count_in objects.old pool }
@@ -126,6 +134,7 @@ pub(crate) fn take_one(objects: &mut Objects, pool: u16) -> Place
 
 /// Takes an mbuf of a pool for the segment of another mbuf: the same part of the same buffer, also where that is an
 /// indirect one.
+#[inline(always)]
 pub(crate) fn clone_segment(objects: &mut Objects, from: Place, pool: u16) -> Place
     requires { CanClone objects.old from pool }
     ensures pool { result.pool ≡ pool }
@@ -149,6 +158,7 @@ pub(crate) fn clone_segment(objects: &mut Objects, from: Place, pool: u16) -> Pl
 }
 
 /// What is left of bytes behind so many of them.
+#[inline(always)]
 pub(crate) fn behind(bytes: &[u8], n: usize) -> &[u8]
     ensures { result.now ≡ drop n bytes.now }
 {
@@ -160,6 +170,7 @@ pub(crate) fn behind(bytes: &[u8], n: usize) -> &[u8]
 }
 
 /// Takes an mbuf of a pool and fills its buffer with the first of the bytes, at most `full` of them.
+#[inline(always)]
 pub(crate) fn fill_segment(objects: &mut Objects, pool: u16, full: u16, bytes: &[u8]) -> Place
     requires are { ArePools objects.old }
     requires there { pool < length objects.old }

@@ -66,6 +66,7 @@ pub(crate) struct Header {
 }
 
 // The number that two bytes spell, the lower one first.
+#[inline(always)]
 fn read_word(bytes: &[u8], at: usize) -> u16
     requires { at + 2 ≤ length bytes.now }
     ensures { result ≡ word bytes.now at }
@@ -74,6 +75,7 @@ fn read_word(bytes: &[u8], at: usize) -> u16
 }
 
 /// The header of an object.
+#[inline(always)]
 pub(crate) fn read_header(object: &[u8]) -> Header
     requires { 128 ≤ length object.now }
     ensures { result ≡ header_of object.now }
@@ -89,12 +91,14 @@ pub(crate) fn read_header(object: &[u8]) -> Header
     }
 }
 
+#[inline(always)]
 fn low(x: u16) -> u8
     ensures { result ≡ x % 256 }
 {
     x.to_le_bytes()[0]
 }
 
+#[inline(always)]
 fn high(x: u16) -> u8
     ensures { result ≡ x / 256 }
 {
@@ -102,6 +106,7 @@ fn high(x: u16) -> u8
 }
 
 /// The bytes of a number, the lower one first.
+#[inline(always)]
 pub(crate) fn bytes_of_word(x: u16) -> [u8; 2]
     ensures bytes { result ≡ then_word x [] }
     ensures many { length result ≡ 2 }
@@ -110,6 +115,7 @@ pub(crate) fn bytes_of_word(x: u16) -> [u8; 2]
 }
 
 /// The bytes of two numbers, one behind the other.
+#[inline(always)]
 pub(crate) fn bytes_of_words(x: u16, y: u16) -> [u8; 4]
     ensures bytes { result ≡ then_word x (then_word y []) }
     ensures many { length result ≡ 4 }
@@ -118,6 +124,7 @@ pub(crate) fn bytes_of_words(x: u16, y: u16) -> [u8; 4]
 }
 
 /// The bytes of a header.
+#[inline(always)]
 pub(crate) fn bytes_of_header(h: Header) -> [u8; 22]
     ensures bytes { result ≡ header_bytes h }
     ensures many { length result ≡ 22 }

@@ -35,6 +35,7 @@ impl Model for Mbufs {
 }
 
 // The number of a packet's first mbuf.
+#[inline(always)]
 fn place_of(packet: &Packet) -> Place
     ensures { result ≡ numbered packet.now }
 {
@@ -43,6 +44,7 @@ fn place_of(packet: &Packet) -> Place
 }
 
 // The packet whose first mbuf this is.
+#[inline(always)]
 fn packet_of(place: Place) -> Packet
     ensures { result ≡ handle place }
 {
@@ -50,6 +52,7 @@ fn packet_of(place: Place) -> Packet
 }
 
 // The header of a packet's first mbuf.
+#[inline(always)]
 fn first_header(objects: &Objects, packet: &Packet) -> Header
     requires { HasObject objects.now (numbered packet.now) }
     ensures { result ≡ header_at objects.now (numbered packet.now) }
@@ -58,6 +61,7 @@ fn first_header(objects: &Objects, packet: &Packet) -> Header
 }
 
 // The header of a packet's last mbuf.
+#[inline(always)]
 fn last_header(objects: &Objects, packet: &Packet) -> Header
     requires first { HasObject objects.now (numbered packet.now) }
     requires last { HasObject objects.now (header_at objects.now (numbered packet.now)).last }
@@ -87,6 +91,7 @@ fn place_at(objects: &Objects, first: Place, k: u32) -> Place
 }
 
 // The bytes of the segment that a header tells of.
+#[inline(always)]
 fn bytes_in_segment(objects: &Objects, header: Header) -> &[u8]
     requires object { HasObject objects.now header.buffer }
     requires fits { header.offset + header.len ≤ room_at (specs_of objects.now) header.buffer.pool }
@@ -152,6 +157,7 @@ impl Mbufs {
     }
 
     /// The room before the first segment's bytes.
+    #[inline(always)]
     pub fn headroom(&self, packet: &Packet) -> u16
         requires { IsLive self.now.store packet.now }
         ensures { Of self.now.store packet.now (λ k. result ≡ headroom k) }
@@ -160,6 +166,7 @@ impl Mbufs {
     }
 
     /// The length of the first segment.
+    #[inline(always)]
     pub fn first_len(&self, packet: &Packet) -> u16
         requires { IsLive self.now.store packet.now }
         ensures { Of self.now.store packet.now (λ k. result ≡ first_len k) }
@@ -168,6 +175,7 @@ impl Mbufs {
     }
 
     /// How many segments there are.
+    #[inline(always)]
     pub fn segments(&self, packet: &Packet) -> u32
         requires { IsLive self.now.store packet.now }
         ensures { Of self.now.store packet.now (λ k. result ≡ length k) }
@@ -176,6 +184,7 @@ impl Mbufs {
     }
 
     /// The length of the last segment.
+    #[inline(always)]
     pub fn last_len(&self, packet: &Packet) -> u16
         requires { IsLive self.now.store packet.now }
         ensures { Of self.now.store packet.now (λ k. result ≡ last_len k) }
@@ -184,6 +193,7 @@ impl Mbufs {
     }
 
     /// The room behind the last segment's bytes.
+    #[inline(always)]
     pub fn tailroom(&self, packet: &Packet) -> u16
         requires { IsLive self.now.store packet.now }
         ensures { Of self.now.store packet.now (λ k. result ≡ tailroom self.now.store.pools k) }
@@ -193,6 +203,7 @@ impl Mbufs {
     }
 
     /// Makes the first segment `n` bytes shorter at its front.
+    #[inline(always)]
     pub fn adj(&mut self, packet: &Packet, n: u16)
         requires { HasSome self.old.store packet.now (λ k. n ≤ first_len k) }
         ensures packets { Becomes self.old.store self.new.store packet.now (at_front (less_before n)) unwritten }
@@ -204,6 +215,7 @@ impl Mbufs {
     }
 
     /// Makes the last segment `n` bytes shorter.
+    #[inline(always)]
     pub fn trim(&mut self, packet: &Packet, n: u16)
         requires { HasSome self.old.store packet.now (λ k. n ≤ last_len k) }
         ensures packets { Becomes self.old.store self.new.store packet.now (at_end (less_behind n)) unwritten }
@@ -216,6 +228,7 @@ impl Mbufs {
 
     /// Gives a packet up: one reference of each segment's buffer. An mbuf is back in its pool when no live segment has
     /// it as its mbuf or as its buffer.
+    #[inline(always)]
     pub fn free(&mut self, packet: Packet)
         requires { IsLive self.old.store packet }
         ensures packets { self.new.store ≡ with_slot packet None self.old.store }
@@ -229,6 +242,7 @@ impl Mbufs {
     }
 
     /// How many buffers of a pool are free.
+    #[inline(always)]
     pub fn available(&self, pool: u32) -> u32
         requires { pool < length self.now.store.pools }
         ensures { result ≡ available self.now.store.pools (segments_of self.now.store) pool }
@@ -237,6 +251,7 @@ impl Mbufs {
     }
 
     /// A packet of one segment without bytes; `None` exactly where no buffer of the pool is free.
+    #[inline(always)]
     pub fn alloc(&mut self, pool: u32) -> Option<Packet>
         requires { pool < length self.old.store.pools }
         ensures packets { Allocates self.old.store pool self.new.store result }
@@ -250,6 +265,7 @@ impl Mbufs {
     }
 
     /// The number in `width` bytes at a place of the first segment, the highest byte first.
+    #[inline(always)]
     pub fn load(&self, packet: &Packet, place: u64, width: Width) -> u64
         requires { HasSome self.now.store packet.now (λ k. place + bytes_in width ≤ first_len k) }
         ensures { Of self.now.store packet.now (λ k. result ≡ loaded place (bytes_in width) k self.now.store.buffers) }
@@ -260,6 +276,7 @@ impl Mbufs {
     }
 
     /// Writes the low bytes of a number at a place of the first segment, the highest byte first.
+    #[inline(always)]
     pub fn store(&mut self, packet: &Packet, place: u64, width: Width, n: u64)
         requires { HasSome self.old.store packet.now (λ k. (place + bytes_in width ≤ first_len k) × IsHeadSole (segments_of self.old.store) k) }
         ensures packets { Becomes self.old.store self.new.store packet.now (λ k. k) (stored place (bytes_in width) n) }
@@ -273,6 +290,7 @@ impl Mbufs {
     }
 
     /// Makes the first segment `n` bytes longer at its front; the new bytes are 0.
+    #[inline(always)]
     pub fn prepend(&mut self, packet: &Packet, n: u16)
         requires { HasSome self.old.store packet.now (λ k. (n ≤ headroom k) × IsHeadSole (segments_of self.old.store) k) }
         ensures packets { Becomes self.old.store self.new.store packet.now (at_front (more_before n)) (zeroed_before n) }
@@ -286,6 +304,7 @@ impl Mbufs {
     }
 
     /// Makes the last segment `n` bytes longer; the new bytes are 0.
+    #[inline(always)]
     pub fn append(&mut self, packet: &Packet, n: u16)
         requires { HasSome self.old.store packet.now (λ k. (n ≤ tailroom self.old.store.pools k) × IsTailSole (segments_of self.old.store) k) }
         ensures packets { Becomes self.old.store self.new.store packet.now (at_end (more_behind n)) (zeroed_behind n) }

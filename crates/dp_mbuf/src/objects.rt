@@ -29,6 +29,7 @@ impl Model for Objects {
 }
 
 // The pool of this number.
+#[inline(always)]
 fn pool_at(pools: &[Option<Pool>; 8], k: u16) -> &Pool
     requires first { PoolsFirst pools.now }
     requires there { k < length (present pools.now) }
@@ -42,6 +43,7 @@ fn pool_at(pools: &[Option<Pool>; 8], k: u16) -> &Pool
 }
 
 // Writes into an object of a place's pool.
+#[inline(always)]
 fn write_in(slot: &mut Option<Pool>, index: u16, at: u32, bytes: &[u8])
     requires { SlotFits slot.old index (at + length bytes.now) }
     ensures becomes { SlotBecomes (λ p. with_written p index at bytes.now) slot.old slot.new }
@@ -53,6 +55,7 @@ fn write_in(slot: &mut Option<Pool>, index: u16, at: u32, bytes: &[u8])
 }
 
 // Writes zeros into an object of a place's pool.
+#[inline(always)]
 fn zero_in(slot: &mut Option<Pool>, index: u16, at: u32, len: u32)
     requires { SlotFits slot.old index (at + len) }
     ensures { SlotBecomes (λ p. with_written p index at (replicate len 0)) slot.old slot.new }
@@ -63,6 +66,7 @@ fn zero_in(slot: &mut Option<Pool>, index: u16, at: u32, len: u32)
 }
 
 // Puts an object of a place's pool back.
+#[inline(always)]
 fn put_in(slot: &mut Option<Pool>, index: u16)
     requires { SlotIsOut slot.old index }
     ensures { SlotBecomes (λ p. put_back p index) slot.old slot.new }
@@ -100,6 +104,7 @@ fn are_whole(pools: &[Option<Pool>]) -> bool
 }
 
 // Hands out an object of a place's pool.
+#[inline(always)]
 fn get_in(slot: &mut Option<Pool>) -> Option<u16>
     requires { SlotHas slot.old }
     ensures { SlotGives slot.old result slot.new }
@@ -152,6 +157,7 @@ impl Objects {
     }
 
     /// The header of an object.
+    #[inline(always)]
     pub fn header(&self, n: Place) -> Header
         requires { HasObject self.now n }
         ensures { result ≡ header_at self.now n }
@@ -172,6 +178,7 @@ impl Objects {
     }
 
     /// The data room of a pool's objects.
+    #[inline(always)]
     pub fn room(&self, pool: u16) -> u16
         requires { pool < length self.now }
         ensures { result ≡ room_at (specs_of self.now) pool }
@@ -180,6 +187,7 @@ impl Objects {
     }
 
     /// The bytes behind a header.
+    #[inline(always)]
     pub fn bytes(&self, n: Place) -> &[u8]
         requires { HasObject self.now n }
         ensures value { result.now ≡ bytes_of (buffers_of self.now) n }
@@ -189,6 +197,7 @@ impl Objects {
     }
 
     /// How many objects of a pool are in.
+    #[inline(always)]
     pub fn available(&self, pool: u16) -> u32
         requires { pool < length self.now }
         ensures { result ≡ count_in self.now pool }
@@ -204,6 +213,7 @@ impl Objects {
     }
 
     // Writes bytes over some of an object's first ones.
+    #[inline(always)]
     fn write_front(&mut self, n: Place, at: u32, bytes: &[u8])
         requires object { HasObject self.old n }
         requires front { at + length bytes.now ≤ 128 }
@@ -214,6 +224,7 @@ impl Objects {
     }
 
     /// Writes a header.
+    #[inline(always)]
     pub fn set_header(&mut self, n: Place, h: Header)
         requires { HasObject self.old n }
         ensures { HeaderSet self.old n h self.new }
@@ -222,6 +233,7 @@ impl Objects {
     }
 
     /// Sets how many segments the packet has.
+    #[inline(always)]
     pub fn set_segs(&mut self, n: Place, segs: u16)
         requires { HasObject self.old n }
         ensures { HeaderSet self.old n (record (header_at self.old n) { segs = segs }) self.new }
@@ -230,6 +242,7 @@ impl Objects {
     }
 
     /// Sets how many references a buffer has.
+    #[inline(always)]
     pub fn set_refs(&mut self, n: Place, refs: u32)
         requires { HasObject self.old n }
         ensures { HeaderSet self.old n (record (header_at self.old n) { refs = refs }) self.new }
@@ -239,6 +252,7 @@ impl Objects {
     }
 
     /// Sets which part of its buffer an mbuf has.
+    #[inline(always)]
     pub fn set_bounds(&mut self, n: Place, offset: u16, len: u16)
         requires { HasObject self.old n }
         ensures { HeaderSet self.old n (record (header_at self.old n) { offset = offset; len = len }) self.new }
@@ -247,6 +261,7 @@ impl Objects {
     }
 
     /// Sets the mbuf that comes next.
+    #[inline(always)]
     pub fn set_next(&mut self, n: Place, next: Place)
         requires { HasObject self.old n }
         ensures { HeaderSet self.old n (record (header_at self.old n) { next = next }) self.new }
@@ -255,6 +270,7 @@ impl Objects {
     }
 
     /// Sets the packet's last mbuf.
+    #[inline(always)]
     pub fn set_last(&mut self, n: Place, last: Place)
         requires { HasObject self.old n }
         ensures { HeaderSet self.old n (record (header_at self.old n) { last = last }) self.new }
@@ -263,6 +279,7 @@ impl Objects {
     }
 
     /// Writes bytes behind a header from a place on.
+    #[inline(always)]
     pub fn write(&mut self, n: Place, at: u32, bytes: &[u8])
         requires object { HasObject self.old n }
         requires fits { at + length bytes.now ≤ room_at (specs_of self.old) n.pool }
@@ -277,6 +294,7 @@ impl Objects {
     }
 
     /// Writes zeros behind a header from a place on.
+    #[inline(always)]
     pub fn zero(&mut self, n: Place, at: u32, len: u32)
         requires object { HasObject self.old n }
         requires fits { at + len ≤ room_at (specs_of self.old) n.pool }
@@ -286,6 +304,7 @@ impl Objects {
     }
 
     /// Hands out an object of a pool; `None` where none is in.
+    #[inline(always)]
     pub fn take(&mut self, pool: u16) -> Option<Place>
         requires { pool < length self.old }
         ensures { MatchOption result ((count_in self.old pool ≡ 0) × (self.new ≡ self.old)) (λ n. (n.pool ≡ pool) × Taken self.old n self.new) }
@@ -295,6 +314,7 @@ impl Objects {
     }
 
     /// Puts an object back.
+    #[inline(always)]
     pub fn give(&mut self, n: Place)
         requires { is_out self.old n ≡ true }
         ensures { Given self.old n self.new }

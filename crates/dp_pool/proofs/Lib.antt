@@ -1,4 +1,5 @@
 pub mod Bulk
+pub mod Cached
 pub mod Effects
 pub mod Lent
 pub mod Moving

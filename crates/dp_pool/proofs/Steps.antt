@@ -22,7 +22,7 @@ pub record Gone (n : ℕ) (old new : List ℕ) (k : ℕ) : Type 0 where
   pub was_in : slice_get (absent n old) k ≡ Some false
   pub out : absent n new ≡ taken k (absent n old)
 
-gone : (n k : ℕ) (old new : List ℕ) → ((i : ℕ) → occurs i old ≡ hit k i + occurs i new) → AreOnce n old → Gone n old new k
+pub gone : (n k : ℕ) (old new : List ℕ) → ((i : ℕ) → occurs i old ≡ hit k i + occurs i new) → AreOnce n old → Gone n old new k
 gone n k old new more are =
     let known = present n k old new more are in
     record { once = taken_once n k old new more are; was_in = known.1; out = absent_taken n k old new known.0 more are }

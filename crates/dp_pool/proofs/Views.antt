@@ -33,7 +33,7 @@ put_back k cached v = record v { out = back k v.out; cached = cached }
 
 -- ---- how many are cached after a put
 
-eqb-no : (a : ℕ) → 0 < a → eqb a 0 ≡ false
+pub eqb-no : (a : ℕ) → 0 < a → eqb a 0 ≡ false
 eqb-no a some = elim (eqb_tells a 0) [ inl e ↦ absurd (let none = e.1 in omega (arith, none, some)) | inr e ↦ e.0 ]
 
 leb-yes : (a b : ℕ) → a ≤ b → leb a b ≡ true

@@ -69,6 +69,11 @@ abbrev pub AreGot : PoolView → List ℕ → PoolView → Type 0
 AreGot old [] new = new ≡ old
 AreGot old (i ∷ is) new = (slice_get old.out i ≡ Some false) × AreGot (got old i) is new
 
+-- indexes that were out come back, one after another
+abbrev pub all_back : PoolView → List ℕ → PoolView
+all_back p [] = p
+all_back p (i ∷ is) = all_back (put_back p i) is
+
 -- true of every pool
 pub record IsPool (p : PoolView) : Type 0 where
   pub some : 1 ≤ length p.objects

@@ -1,5 +1,5 @@
 -- The indexes of a pool: which are in, and how many of them stand in the cache.
-use Rattle.std.specs.Prelude.{refl, ℕ, ◌+◌, ◌-◌, ◌*◌, ◌/◌, Bool, true, false, not, ◌==◌, nat_le, if◌then◌else◌, min, List, slice_set, count_by}
+use Rattle.std.specs.Prelude.{◌≡◌, refl, ℕ, ◌+◌, ◌-◌, ◌*◌, ◌/◌, Bool, true, false, not, ◌==◌, nat_le, if◌then◌else◌, min, List, [], ◌∷◌, Some, slice_get, slice_set, count_by}
 use Rattle.std.specs.Coded.{Coded, code_by, coded×, coded_list, coded_ℕ, coded_bool}
 use Rattle.dp_region.specs.Ownership.{Home, home_code}
 
@@ -41,3 +41,27 @@ cached_after_get cache cached available =
 abbrev pub cached_after_put : ℕ → ℕ → ℕ
 cached_after_put cache cached =
     if cache == 0 then 0 else (if nat_le (3 * cache / 2) (cached + 1) then cache else cached + 1)
+
+-- ---- several indexes, one after another
+
+-- once an index that was in is handed out, and once one that was out comes back
+abbrev pub handed : IndexView → ℕ → IndexView
+handed v i = record v { out = taken i v.out; cached = cached_after_get v.cache v.cached (in_count v.out) }
+
+abbrev pub returned : IndexView → ℕ → IndexView
+returned v i = record v { out = back i v.out; cached = cached_after_put v.cache v.cached }
+
+-- indexes that were in are handed out
+abbrev pub AreHanded : IndexView → List ℕ → IndexView → Type 0
+AreHanded old [] new = new ≡ old
+AreHanded old (i ∷ is) new = (slice_get old.out i ≡ Some false) × AreHanded (handed old i) is new
+
+-- the indexes are out, and none of them stands twice in the list
+abbrev pub AreOut : List Bool → List ℕ → Type 0
+AreOut out [] = Unit {0}
+AreOut out (i ∷ is) = (slice_get out i ≡ Some true) × AreOut (back i out) is
+
+-- they come back
+abbrev pub all_returned : IndexView → List ℕ → IndexView
+all_returned v [] = v
+all_returned v (i ∷ is) = all_returned (returned v i) is

@@ -5,7 +5,7 @@ ghost use Rattle.std.specs.List.{list_any};
 ghost use Rattle.dp_pool.specs.Once.{upto};
 ghost use Rattle.dp_pool.specs.Pools.{is_out_in};
 ghost use Rattle.dp_ring.specs.Rings.{room_in, with_more, without_first};
-ghost use Rattle.dp_pool.specs.Queues.{in_count, taken, back, cached_after_get, cached_after_put};
+ghost use Rattle.dp_pool.specs.Queues.{in_count, taken, back, cached_after_get, cached_after_put, AreHanded, AreOut, all_returned};
 
 use arrayvec::ArrayVec;
 use dp_ring::Ring;
@@ -36,6 +36,7 @@ impl Model for Indexes {
 }
 
 // Moves the first indexes of the queue to the end of the cache.
+#[inline(never)]
 fn move_in(queue: &mut Ring, cached: &mut ArrayVec<u32, 768>, number: u32)
     requires there { number ≤ length queue.old.entries }
     requires room { length cached.old.items + number ≤ 768 }
@@ -50,6 +51,7 @@ fn move_in(queue: &mut Ring, cached: &mut ArrayVec<u32, 768>, number: u32)
 }
 
 // Moves all that the cache holds beyond a number to the end of the queue.
+#[inline(never)]
 fn move_out(queue: &mut Ring, cached: &mut ArrayVec<u32, 768>, keep: usize)
     requires some { keep ≤ length cached.old.items }
     requires room { length cached.old.items ≤ keep + room_in queue.old }
@@ -58,6 +60,15 @@ fn move_out(queue: &mut Ring, cached: &mut ArrayVec<u32, 768>, keep: usize)
 {
     queue.enqueue_burst(&cached.as_slice()[keep..]);
     cached.truncate(keep);
+}
+
+// Puts indexes at the end of the cache.
+#[inline(always)]
+fn extend(cached: &mut ArrayVec<u32, 768>, indexes: &[u32])
+    requires { length cached.old.items + length indexes.now ≤ 768 }
+    ensures { cached.new.items ≡ cached.old.items ++ indexes.now }
+{
+    let _ = cached.try_extend_from_slice(indexes);
 }
 
 // Puts all indexes below a number into an empty queue, in order.
@@ -148,6 +159,7 @@ impl Indexes {
     }
 
     // Hands out the last index of the cache.
+    #[inline(always)]
     fn next_cached(&mut self) -> u32
         requires { 0 < self.old.cached }
         ensures was_in { slice_get self.old.out result ≡ Some false }
@@ -168,8 +180,9 @@ impl Indexes {
         move_in(&mut self.queue, &mut self.cached, number);
     }
 
-    /// Hands out an index that is in; `None` where none is.
-    pub(crate) fn get(&mut self) -> Option<u32>
+    // Hands out an index where the cache holds none, which is filled first if it is for some.
+    fn get_refilled(&mut self) -> Option<u32>
+        requires { self.old.cached ≡ 0 }
         ensures { MatchOption result ((in_count self.old.out ≡ 0) × (self.new ≡ self.old)) (λ i. (slice_get self.old.out i ≡ Some false) × (self.new ≡ record self.old { out = taken i self.old.out; cached = cached_after_get self.old.cache self.old.cached (in_count self.old.out) })) }
     {
         if self.available() == 0 {
@@ -178,10 +191,40 @@ impl Indexes {
         if self.cache == 0 {
             return Some(self.next_queued());
         }
-        if self.cached.is_empty() {
-            self.refill();
-        }
+        self.refill();
         Some(self.next_cached())
+    }
+
+    // Whether the cache holds an index; then it is for some.
+    #[inline(always)]
+    fn has_cached(&self) -> bool
+        ensures some { result ≡ true → (0 < self.now.cached) × (0 < self.now.cache) }
+        ensures none { result ≡ false → self.now.cached ≡ 0 }
+    {
+        !self.cached.is_empty()
+    }
+
+    /// Hands out an index that is in; `None` where none is.
+    #[inline(always)]
+    pub(crate) fn get(&mut self) -> Option<u32>
+        ensures { MatchOption result ((in_count self.old.out ≡ 0) × (self.new ≡ self.old)) (λ i. (slice_get self.old.out i ≡ Some false) × (self.new ≡ record self.old { out = taken i self.old.out; cached = cached_after_get self.old.cache self.old.cached (in_count self.old.out) })) }
+    {
+        if self.has_cached() {
+            return Some(self.next_cached());
+        }
+        self.get_refilled()
+    }
+
+    /// Hands out the last indexes of the cache, in order.
+    #[inline(always)]
+    pub(crate) fn take_cached(&mut self, indexes: &mut [u32])
+        requires { length indexes.old ≤ self.old.cached }
+        ensures handed { AreHanded self.old indexes.new self.new }
+        ensures len { length indexes.new ≡ length indexes.old }
+    {
+        let left = self.cached.len() - indexes.len();
+        indexes.copy_from_slice(&self.cached.as_slice()[left..]);
+        self.cached.truncate(left);
     }
 
     // Takes an index back at the end of the queue.
@@ -193,6 +236,7 @@ impl Indexes {
     }
 
     // Takes an index back at the end of the cache, which keeps as many as it is for where it is half as full again.
+    #[inline(always)]
     fn put_cached(&mut self, index: u32)
         requires out { slice_get self.old.out index ≡ Some true }
         requires cache { 0 < self.old.cache }
@@ -205,6 +249,7 @@ impl Indexes {
     }
 
     /// Takes an index back that is out.
+    #[inline(always)]
     pub(crate) fn put(&mut self, index: u32)
         requires { slice_get self.old.out index ≡ Some true }
         ensures { self.new ≡ record self.old { out = back index self.old.out; cached = cached_after_put self.old.cache self.old.cached } }
@@ -213,6 +258,48 @@ impl Indexes {
             self.put_queued(index);
         } else {
             self.put_cached(index);
+        }
+    }
+    // Whether so many indexes may join the cache without any going to the queue.
+    #[inline(always)]
+    fn has_room(&self, number: usize) -> bool
+        ensures { result ≡ true → (0 < self.now.cache) × (self.now.cached + number < 3 * self.now.cache / 2) }
+    {
+        let least = 3 * self.cache as usize / 2;
+        number < least && self.cached.len() < least - number
+    }
+
+    // Takes indexes back at the end of the cache, all of which it keeps.
+    #[inline(always)]
+    fn put_all_cached(&mut self, indexes: &[u32])
+        requires out { AreOut self.old.out indexes.now }
+        requires cache { 0 < self.old.cache }
+        requires room { self.old.cached + length indexes.now < 3 * self.old.cache / 2 }
+        ensures { self.new ≡ all_returned self.old indexes.now }
+    {
+        extend(&mut self.cached, indexes);
+    }
+
+    // Takes indexes back, one after another.
+    fn put_each(&mut self, indexes: &[u32])
+        requires { AreOut self.old.out indexes.now }
+        ensures { self.new ≡ all_returned self.old indexes.now }
+    {
+        for index in indexes {
+            self.put(*index);
+        }
+    }
+
+    /// Takes indexes back that are out, as so many puts.
+    #[inline(always)]
+    pub(crate) fn put_all(&mut self, indexes: &[u32])
+        requires { AreOut self.old.out indexes.now }
+        ensures { self.new ≡ all_returned self.old indexes.now }
+    {
+        if self.has_room(indexes.len()) {
+            self.put_all_cached(indexes);
+        } else {
+            self.put_each(indexes);
         }
     }
 }

@@ -5,8 +5,8 @@ ghost use Rattle.std.specs.Prelude.{◌≡◌, ℕ, ◌+◌, ◌*◌, ◌<◌, �
 ghost use Rattle.dp_heap.specs.Elements.{merged, count_of, is_busy};
 ghost use Rattle.dp_zone.specs.Zones.{without_name};
 ghost use Rattle.dp_pool.specs.Making.{IsPoolCount, IsObjectSize, IsCacheSize, IsPoolRefused, IsMade};
-ghost use Rattle.dp_pool.specs.Queues.{in_count};
-ghost use Rattle.dp_pool.specs.Pools.{IsPool, AreGot, object_place, stride_of, object_in, with_object, with_written, with_left, is_out_in, got, put_back};
+ghost use Rattle.dp_pool.specs.Queues.{in_count, AreOut};
+ghost use Rattle.dp_pool.specs.Pools.{IsPool, AreGot, object_place, stride_of, object_in, with_object, with_written, with_left, is_out_in, got, put_back, all_back};
 ghost use Rattle.dp_pool.specs.contracts.pool.Pool.{the_row};
 
 use crate::error::PoolError;
@@ -60,6 +60,7 @@ impl Model for Pool {
 }
 
 // Where an object begins in the zone of so many, each of which takes so many bytes.
+#[inline(always)]
 #[tactic(auto, using(crate::proofs::Pools::place_is, crate::proofs::Pools::place_ends))]
 fn place_of(index: u32, count: u32, size: u32, stride: u32) -> u32
     requires there { index < count }
@@ -168,6 +169,7 @@ impl Pool {
     }
 
     /// How many bytes an object has.
+    #[inline(always)]
     pub fn size(&self) -> u32
         ensures { result ≡ self.now.size }
     {
@@ -175,6 +177,7 @@ impl Pool {
     }
 
     /// How many objects are in.
+    #[inline(always)]
     pub fn available(&self) -> u32
         ensures { result ≡ in_count self.now.out }
     {
@@ -197,6 +200,7 @@ impl Pool {
     }
 
     /// Hands out an object that is in, by its index; `None` where none is.
+    #[inline(always)]
     pub fn get(&mut self) -> Option<u32>
         ensures { MatchOption result ((in_count self.old.out ≡ 0) × (self.new ≡ self.old)) (λ i. (slice_get self.old.out i ≡ Some false) × (self.new ≡ got self.old i)) }
     {
@@ -217,15 +221,32 @@ impl Pool {
         }
     }
 
-    /// Hands out an object for each place of the list, as so many gets, or none and answers false where fewer are in.
-    #[tactic(auto, using(crate::proofs::Bulk::got_keeps))]
+    // Hands out the objects whose indexes stand last in the cache.
+    #[inline(always)]
+    fn take_cached(&mut self, indexes: &mut [u32])
+        requires { length indexes.old ≤ self.old.cached }
+        ensures got { AreGot self.old indexes.new self.new }
+        ensures len { length indexes.new ≡ length indexes.old }
+    {
+        self.indexes.take_cached(indexes);
+    }
+
+    /// Hands out an object for each place of the list, as so many gets, or none and answers false where fewer are in. Each
+    /// is out then, and stands once in the list (`out`).
+    #[inline(always)]
+    #[tactic(auto, using(crate::proofs::Bulk::got_keeps, crate::proofs::Bulk::got_out))]
     pub fn get_bulk(&mut self, indexes: &mut [u32]) -> bool
         ensures taken { result ≡ nat_le (length indexes.old) (in_count self.old.out) }
         ensures got { result ≡ true → AreGot self.old indexes.new self.new }
+        ensures out { result ≡ true → AreOut self.new.out indexes.new }
         ensures kept { result ≡ false → (self.new ≡ self.old) × (indexes.new ≡ indexes.old) }
         ensures same { (self.new.zones ≡ self.old.zones) × (self.new.objects ≡ self.old.objects) × (self.new.size ≡ self.old.size) × (self.new.cache ≡ self.old.cache) }
         ensures len { length indexes.new ≡ length indexes.old }
     {
+        if indexes.len() <= self.cached() as usize {
+            self.take_cached(indexes);
+            return true;
+        }
         if indexes.len() > self.available() as usize {
             return false;
         }
@@ -234,6 +255,7 @@ impl Pool {
     }
 
     /// Takes back an object that is out.
+    #[inline(always)]
     pub fn put(&mut self, index: u32)
         requires { slice_get self.old.out index ≡ Some true }
         ensures { self.new ≡ put_back self.old index }
@@ -241,7 +263,18 @@ impl Pool {
         self.indexes.put(index);
     }
 
+    /// Takes back objects that are out, as so many puts. None may stand twice in the list.
+    #[inline(always)]
+    pub fn put_bulk(&mut self, indexes: &[u32])
+        requires { AreOut self.old.out indexes.now }
+        ensures back { self.new ≡ all_back self.old indexes.now }
+        ensures same { (self.new.zones ≡ self.old.zones) × (self.new.objects ≡ self.old.objects) × (self.new.size ≡ self.old.size) × (self.new.cache ≡ self.old.cache) }
+    {
+        self.indexes.put_all(indexes);
+    }
+
     /// The bytes of an object.
+    #[inline(always)]
     pub fn object(&self, index: u32) -> &[u8]
         requires { index < length self.now.objects }
         ensures value { result.now ≡ object_in self.now index }
@@ -253,6 +286,7 @@ impl Pool {
 
     /// The bytes of an object, to be written. Whoever leaves as many bytes there as an object has, which is all that Rust
     /// lets happen, has changed that object alone (`whole`).
+    #[inline(always)]
     pub fn object_mut(&mut self, index: u32) -> &mut [u8]
         requires { index < length self.old.objects }
         ensures* writes_back { sem 𝓛 (Lends the_row (Array byte 0) self.entry result (with_left index self.old)) }
@@ -265,6 +299,7 @@ impl Pool {
     }
 
     /// Writes bytes into an object from a place on.
+    #[inline(always)]
     pub fn write(&mut self, index: u32, at: u32, bytes: &[u8])
         requires object { index < length self.old.objects }
         requires fits { at + length bytes.now ≤ self.old.size }
@@ -275,6 +310,7 @@ impl Pool {
     }
 
     /// Writes zeros into an object from a place on.
+    #[inline(always)]
     pub fn clear(&mut self, index: u32, at: u32, len: u32)
         requires object { index < length self.old.objects }
         requires fits { at + len ≤ self.old.size }

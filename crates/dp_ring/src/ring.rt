@@ -34,6 +34,7 @@ impl Model for Ring {
 }
 
 // The place that is so far behind one.
+#[inline(always)]
 fn place_behind(count: u32, first: u32, n: u32) -> u32
     requires { (first < count) × (n < count) × (count ≤ 65536) }
     ensures value { result ≡ place_behind count first n }
@@ -48,6 +49,7 @@ fn place_behind(count: u32, first: u32, n: u32) -> u32
 }
 
 // The place behind one.
+#[inline(always)]
 fn next_place(count: u32, place: u32) -> u32
     requires { (place < count) × (count ≤ 65536) }
     ensures value { result ≡ next_place count place }
@@ -84,6 +86,7 @@ impl Ring {
 
     /// How many entries there are.
     #[tactic(auto, using(crate::proofs::Entries::counted))]
+    #[inline(always)]
     pub fn count(&self) -> u32
         ensures value { result ≡ length self.now.entries }
         ensures bound { result < self.now.count }
@@ -93,6 +96,7 @@ impl Ring {
 
     /// How many more entries it can take.
     #[tactic(auto, using(crate::proofs::Entries::counted))]
+    #[inline(always)]
     pub fn free_count(&self) -> u32
         ensures { result ≡ room_in self.now }
     {
@@ -128,6 +132,7 @@ impl Ring {
 
     // Puts an entry behind the others.
     #[tactic(auto, using(crate::proofs::Entries::counted, crate::proofs::Entries::entries_pushed))]
+    #[inline(always)]
     fn push(&mut self, value: u32)
         requires { 0 < room_in self.old }
         ensures { self.new ≡ with_more self.old (value ∷ []) }
@@ -138,6 +143,7 @@ impl Ring {
     }
 
     // Takes the first entry out.
+    #[inline(always)]
     fn pop(&mut self) -> u32
         requires { 0 < length self.old.entries }
         ensures first { self.old.entries ≡ result ∷ self.new.entries }
@@ -150,6 +156,7 @@ impl Ring {
     }
 
     /// Puts an entry behind the others, or answers false where the ring is full.
+    #[inline(always)]
     pub fn enqueue(&mut self, value: u32) -> bool
         ensures taken { result ≡ nat_lt 0 (room_in self.old) }
         ensures entries { self.new ≡ (if nat_lt 0 (room_in self.old) then with_more self.old (value ∷ []) else self.old) }
@@ -162,6 +169,7 @@ impl Ring {
     }
 
     /// Takes the first entry out, if there is one.
+    #[inline(always)]
     pub fn dequeue(&mut self) -> Option<u32>
         ensures first { result ≡ slice_get self.old.entries 0 }
         ensures rest { self.new ≡ without_first self.old 1 }

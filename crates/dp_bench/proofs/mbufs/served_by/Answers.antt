@@ -1,12 +1,15 @@
 use Rattle.std.proofs.Common.{◌∙◌}
-use Rattle.dp_bench.proofs.Packets.{alloc_live, alloc_pools, live_kept, some_kept, returned}
+use Rattle.dp_bench.proofs.Packets.{alloc_live, alloc_pools, live_kept, some_kept, room_kept, returned}
 use Rattle.dp_bench.proofs.mbufs.served_by.Goals as goal
 
 pub served_beside-served-requires-clause-live : goal.served_beside-served-requires-clause-live
 served_beside-served-requires-clause-live c = alloc_live c.args.m.now.store c.alloc.new.self.store 0 c.in-Some.packet c.in-Some.ensures.packets
 
 pub served_beside-served-requires-clause-pools : goal.served_beside-served-requires-clause-pools
-served_beside-served-requires-clause-pools c = some_kept c.args.m.now.store c.alloc.new.self.store (alloc_pools c.args.m.now.store c.alloc.new.self.store 0 c.in-Some.packet c.in-Some.ensures.packets) c.requires
+served_beside-served-requires-clause-pools c = some_kept c.args.m.now.store c.alloc.new.self.store (alloc_pools c.args.m.now.store c.alloc.new.self.store 0 c.in-Some.packet c.in-Some.ensures.packets) c.requires.pools
+
+pub served_beside-served-requires-clause-room : goal.served_beside-served-requires-clause-room
+served_beside-served-requires-clause-room c = room_kept c.args.m.now.store c.alloc.new.self.store (alloc_pools c.args.m.now.store c.alloc.new.self.store 0 c.in-Some.packet c.in-Some.ensures.packets) c.requires.room
 
 pub free-requires : goal.free-requires
 free-requires c =

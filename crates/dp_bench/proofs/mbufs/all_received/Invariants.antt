@@ -1,0 +1,6 @@
+use Rattle.std.proofs.Common.{◌≤◌}
+use Rattle.dp_bench.specs.Mbufs.{AreAsBefore}
+use Rattle.dp_bench.proofs.mbufs.all_received.Given as goal
+
+abbrev pub invariant-loop : goal.invariant-loop
+invariant-loop l = (l.served ≤ l.counter) × AreAsBefore l.initial.m l.m

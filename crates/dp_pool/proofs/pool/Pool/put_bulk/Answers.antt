@@ -1,0 +1,36 @@
+-- What comes back to the indexes comes back.
+use Rattle.std.proofs.Common.{◌≡◌, ◌∙◌, ◌≤◌, ◌*◌, length, ap, subst, sym}
+use Rattle.dp_pool.specs.Queues.{AreOut, all_returned}
+use Rattle.dp_pool.specs.Pools.{all_back}
+use Rattle.dp_pool.proofs.Pools.{pool_of}
+use Rattle.dp_pool.proofs.Bulk.{back_keeps, returned_back, returned_keeps}
+use Rattle.dp_pool.proofs.pool.Pool.put_bulk.Goals as goal
+
+pub put_all-requires : goal.put_all-requires
+put_all-requires c = subst (λ p. AreOut p.out c.args.indexes.now) (sym c.self.view_is) c.requires
+
+pub invariant_of-self : goal.invariant_of-self
+invariant_of-self c =
+    let is = c.args.indexes.now in
+    let kept = returned_keeps is c.self.inside.indexes in
+    let new = c.put_all.ensures in (
+      ap (λ v. length v.out) new ∙ (kept.0 ∙ c.self.invariant.0),
+      c.self.invariant.1,
+      c.self.invariant.2,
+      c.self.invariant.3,
+      c.self.invariant.4,
+      c.self.invariant.5,
+      c.self.invariant.6,
+      ap (λ v. v.home) new ∙ (kept.2 ∙ c.self.invariant.7),
+      subst (λ n. n ≤ 512) (sym (ap (λ v. v.cache) new ∙ kept.1)) c.self.invariant.8,
+      subst (λ n. 3 * n ≤ 2 * c.self.inside.count) (sym (ap (λ v. v.cache) new ∙ kept.1)) c.self.invariant.9,
+    )
+
+pub returns-clause-back : goal.returns-clause-back
+returns-clause-back c =
+    ap (λ v. pool_of c.self.inside.objects v c.self.inside.count c.self.inside.size) c.put_all.ensures
+    ∙ (returned_back c.self.inside.objects c.self.inside.size c.self.inside.count c.args.indexes.now c.self.inside.indexes
+    ∙ ap (λ p. all_back p c.args.indexes.now) c.self.view_is)
+
+pub returns-clause-same : goal.returns-clause-same
+returns-clause-same c = back_keeps c.args.indexes.now c.args.self.now (pool_of c.self.inside.objects c.put_all.new.self c.self.inside.count c.self.inside.size) (returns-clause-back c)
