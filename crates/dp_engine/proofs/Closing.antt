@@ -1,12 +1,11 @@
 -- An engine of which nothing is left.
-use Rattle.std.proofs.Common.{◌≡◌, ℕ, zero, suc, ◌+◌, List, [], ◌∷◌, map, refl, sym, ◌∙◌, ap, subst, arith}
+use Rattle.std.proofs.Common.{◌≡◌, ℕ, zero, suc, ◌+◌, List, [], ◌∷◌, map, refl, ◌∙◌, ap, subst, arith}
 use Rattle.std.specs.List.{AllByRecursion}
 use Rattle.dp_model.specs.declared.env.PoolSpec.{PoolSpec}
 use Rattle.dp_model.specs.Environments.{Environment, count_at}
 use Rattle.dp_model.specs.Packets.{Packet, available, free_below}
 use Rattle.dp_model.specs.Machine.{live}
 use Rattle.dp_model.specs.Runs.{between}
-use Rattle.dp_engine.specs.declared.report.PoolReport.{PoolReport}
 use Rattle.dp_engine.specs.declared.report.Report.{Report}
 use Rattle.dp_engine.specs.Engines.{EngineState, flushed, IsFlushed}
 use Rattle.dp_engine.specs.Reports.{pool_reports, IsReport, IsWhole}

@@ -1,12 +1,12 @@
 -- A machine without packets: its handles, its slots and its lists.
-use Rattle.std.proofs.Common.{◌≡◌, ℕ, zero, suc, ◌+◌, List, [], ◌∷◌, ◌++◌, map, replicate, Option, Some, None, refl, sym, ◌∙◌, ap, subst, arith}
+use Rattle.std.proofs.Common.{◌≡◌, ℕ, zero, suc, List, [], ◌∷◌, ◌++◌, map, replicate, Option, Some, None, refl, sym, ◌∙◌, ap, subst, arith}
 use Rattle.std.specs.Prelude.{slice_get, slice_index_or}
 use Rattle.std.specs.List.{AllByRecursion}
 use Rattle.dp_ring.specs.Rings.{RingView}
 use Rattle.dp_model.specs.Packets.{Packet}
 use Rattle.dp_model.specs.Stores.{Store}
 use Rattle.dp_mbuf.specs.Mbufs.{HasNone}
-use Rattle.dp_engine.specs.Handles.{packet_at, register_at, handles_held, occurs, in_slot, joined, waiting, packets_in, Frames, entries_of, lists_of, StandOnce, Core, Ran, core_of}
+use Rattle.dp_engine.specs.Handles.{packet_at, handles_held, occurs, in_slot, joined, waiting, packets_in, Frames, entries_of, lists_of, StandOnce, Core, Ran, core_of}
 use Rattle.dp_engine.proofs.Counts.{idle_handles}
 
 abbrev pub AreEmpty : List RingView → Type 0

@@ -2,6 +2,7 @@ pub mod Counts
 pub mod Draining
 pub mod Envs
 pub mod Filled
+pub mod Firsts
 pub mod Handles
 pub mod Machines
 pub mod NameLemmas

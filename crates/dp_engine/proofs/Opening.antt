@@ -1,7 +1,6 @@
 -- An engine before its first turn.
-use Rattle.std.proofs.Common.{◌≡◌, ℕ, zero, suc, ◌+◌, ◌≤◌, List, [], ◌∷◌, length, map, replicate, Option, Some, None, refl, sym, ◌∙◌, ap, subst, arith}
+use Rattle.std.proofs.Common.{◌≡◌, ℕ, zero, suc, List, [], ◌∷◌, length, map, replicate, Option, Some, None, refl, sym, ◌∙◌, ap, subst, arith}
 use Rattle.std.specs.Prelude.{slice_get}
-use Rattle.std.specs.List.{AllByRecursion}
 use Rattle.std.proofs.lemmas.Option.{none-some}
 use Rattle.dp_region.specs.Ownership.{Home}
 use Rattle.dp_ring.specs.Rings.{RingView}
@@ -10,25 +9,24 @@ use Rattle.dp_model.specs.declared.env.PoolSpec.{PoolSpec}
 use Rattle.dp_model.specs.declared.env.RingSpec.{RingSpec}
 use Rattle.dp_model.specs.declared.env.PortSpec.{PortSpec}
 use Rattle.dp_model.specs.Environments.{Environment, room_at, fault_of}
-use Rattle.dp_model.specs.Buffers.{Number, IsNumber, Buffers, bytes_of}
+use Rattle.dp_model.specs.Buffers.{IsNumber, bytes_of}
 use Rattle.dp_model.specs.Packets.{Packet}
 use Rattle.dp_model.specs.Rules.{Question}
 use Rattle.dp_model.specs.Meaning.{TablesFit}
-use Rattle.dp_model.specs.Stores.{Store, IsWellFormedStore}
+use Rattle.dp_model.specs.Stores.{IsWellFormedStore}
 use Rattle.dp_model.specs.Starts.{IsStart}
 use Rattle.dp_model.proofs.SafeWhole.{start_rest}
 use Rattle.dp_lpm.specs.Routes.{RouteTable}
-use Rattle.dp_mbuf.specs.Objects.{present, specs_of, zones_of}
 use Rattle.dp_mbuf.specs.Mbufs.{MbufsView, IsNew}
 use Rattle.dp_engine.specs.declared.space.Parts.{Parts}
-use Rattle.dp_engine.specs.Handles.{packet_at, in_slot, packets_in, without_entries, entries_of, Frames, frames_of, lists_of, Core, core_of, ran}
+use Rattle.dp_engine.specs.Handles.{packet_at, in_slot, packets_in, entries_of, frames_of, lists_of, Core, core_of, ran}
 use Rattle.dp_engine.specs.Queues.{rings_in}
 use Rattle.dp_engine.specs.Schemes.{Scheme, scheme_of}
 use Rattle.dp_engine.specs.Serving.{Rests}
 use Rattle.dp_engine.specs.Spaces.{SpaceView, AreFilled, IsNewRing}
 use Rattle.dp_engine.specs.Layouts.{IsLaidOut}
 use Rattle.dp_engine.specs.Tallies.{listed_count}
-use Rattle.dp_engine.specs.Engines.{IsEngine, EngineState, engine_of, IsOpened, StandIn, no_tallies}
+use Rattle.dp_engine.specs.Engines.{IsEngine, engine_of, IsOpened, StandIn, no_tallies}
 use Rattle.dp_engine.proofs.Parts.{rings_first, counts_in, stand_in}
 
 -- a machine over mbufs, rings and transmit lists at its start

@@ -1,14 +1,15 @@
 -- Places for rings, and the rings that stand in them.
 use Rattle.std.proofs.Common.{◌≡◌, ℕ, zero, suc, ◌+◌, ◌<◌, ◌≤◌, cond, Bool, true, false, List, [], ◌∷◌, length, Option, Some, None, refl, sym, ◌∙◌, ap, subst, arith, get_or, set, drop, ltb}
 use Rattle.std.specs.Prelude.{is_none, unwrap_or, slice_get, IsSome, IfSome, IfNone}
-use Rattle.std.specs.List.{AllByRecursion, position, position_from, position_or_len}
+use Rattle.std.specs.List.{position, position_from, position_or_len}
 use Rattle.std.proofs.lemmas.List.{length-set, set-get_or}
 use Rattle.std.proofs.lemmas.Bool.{ltb-true}
 use Rattle.std.proofs.lemmas.List.Sums.{passes_at_first}
 use Rattle.std.proofs.lemmas.Option.{none-some}
 use Rattle.std.proofs.lemmas.Iterator.Adapters.{position_from-zero}
 use Rattle.dp_ring.specs.Rings.{RingView, without_first}
-use Rattle.dp_engine.specs.Queues.{rings_in, RingsFirst, no_ring, ring_at, is_waiting, ring_of, slot_is_waiting}
+use Rattle.dp_engine.specs.Queues.{rings_in, RingsFirst, no_ring, ring_at, is_waiting, ring_of}
+use Rattle.dp_engine.proofs.Firsts.{first_place}
 
 pub rings_below : (slots : List (Option RingView)) → length (rings_in slots) ≤ length slots
 rings_below [] = omega arith
@@ -42,16 +43,6 @@ filled_from (Some r ∷ slots) i =
     let more : i + suc (length slots) ≡ i + 1 + length slots = omega arith in
     let same : i + 1 + length (rings_in slots) ≡ i + suc (length (rings_in slots)) = omega arith in
     ap (unwrap_or (position_from is_none (i + 1) slots)) more ∙ (filled_from slots (i + 1) ∙ same)
-
-none_from : (slots : List (Option RingView)) (i : ℕ) → AllByRecursion (λ o. o ≡ None) slots → position_from slot_is_waiting i slots ≡ None
-none_from [] i all = refl
-none_from (None ∷ slots) i all = none_from slots (i + 1) all.1
-none_from (Some r ∷ slots) i all = absurd (none-some r (sym all.0))
-
-waiting_from : (slots : List (Option RingView)) (i : ℕ) → RingsFirst slots → position_from slot_is_waiting i slots ≡ position_from is_waiting i (rings_in slots)
-waiting_from [] i first = refl
-waiting_from (None ∷ slots) i first = none_from slots (i + 1) first
-waiting_from (Some r ∷ slots) i first = ap (cond (is_waiting r) (Some i)) (waiting_from slots (i + 1) first)
 
 -- ---- rings by their numbers
 
@@ -107,11 +98,6 @@ module _ (slots : List (Option RingView)) (rings : List RingView) (same : rings_
   pub at_most : length rings ≤ 8
   at_most = omega (arith, rings_below slots, ap length same, inv.0)
 
-  pub waiting : position slot_is_waiting slots ≡ position is_waiting rings
-  waiting =
-      position_from-zero slot_is_waiting slots
-      ∙ (waiting_from slots 0 inv.1 ∙ (sym (position_from-zero is_waiting (rings_in slots)) ∙ ap (position is_waiting) same))
-
   -- the ring of a place is the one of that number
   pub ring_is : (k : ℕ) (d : Option RingView) → k < length rings → ring_of (get_or slots k d) ≡ ring_at rings k
   ring_is k d there = ap ring_of (filled_at k d there)
@@ -128,3 +114,13 @@ module _ (slots : List (Option RingView)) (rings : List RingView) (same : rings_
         ap (λ x. rings_in (set slots k x)) now
             ∙ (set_in slots k (f (ring_at rings k)) inside ∙ ap (λ rs. set rs k (f (ring_at rings k))) same),
       )
+
+  -- where one of them has changed, the number of the first that waits is another
+  pub renewed : (k : ℕ) (d o : Option RingView) (f : RingView → RingView) (count first : ℕ) → k < length rings → o ≡ Some (f (ring_of (get_or slots k d)))
+      → count ≡ length (rings_in slots) → first ≡ first_place (set rings k (f (ring_at rings k)))
+      → ((length (set slots k o) ≡ 8) × RingsFirst (set slots k o)) × (count ≡ length (rings_in (set slots k o))) × (first ≡ first_place (rings_in (set slots k o)))
+  renewed k d o f count first there is count_is first_is =
+      let now = changed k d o f there is in
+      let many : length (rings_in (set slots k o)) ≡ length rings = ap length now.1 ∙ length-set rings k (f (ring_at rings k)) in
+      let before : length (rings_in slots) ≡ length rings = ap length same in
+      (now.0, omega (arith, many, before, count_is), first_is ∙ ap first_place (sym now.1))

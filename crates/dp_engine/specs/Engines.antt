@@ -1,8 +1,7 @@
 -- What an engine is, how it begins, and what its calls do.
-use Rattle.std.specs.Prelude.{◌≡◌, ℕ, ◌+◌, ◌*◌, ◌≤◌, List, [], ◌∷◌, length, map, replicate, slice_index_or, slice_set, None}
+use Rattle.std.specs.Prelude.{◌≡◌, ℕ, ◌+◌, ◌*◌, ◌≤◌, List, [], ◌∷◌, length, replicate, slice_index_or, slice_set, None}
 use Rattle.std.specs.List.{AllByRecursion}
 use Rattle.dp_region.specs.Ownership.{Home}
-use Rattle.dp_region.specs.declared.region.Region.{Region}
 use Rattle.dp_pool.specs.Pools.{PoolZones}
 use Rattle.dp_ring.specs.Rings.{RingView}
 use Rattle.dp_lpm.specs.Routes.{RouteTable}

@@ -1,5 +1,5 @@
 -- The rings of an engine, by their numbers.
-use Rattle.std.specs.Prelude.{◌≡◌, ℕ, ◌==◌, Bool, false, not, List, [], ◌∷◌, length, Option, Some, None, slice_index_or}
+use Rattle.std.specs.Prelude.{◌≡◌, ℕ, ◌==◌, Bool, not, List, [], ◌∷◌, length, Option, Some, None, slice_index_or}
 use Rattle.std.specs.List.{AllByRecursion}
 use Rattle.dp_ring.specs.Rings.{RingView}
 
@@ -44,8 +44,3 @@ is_waiting r = not (length r.entries == 0)
 abbrev pub ring_of : Option RingView → RingView
 ring_of None = no_ring
 ring_of (Some r) = r
-
--- whether there is a ring with an entry
-abbrev pub slot_is_waiting : Option RingView → Bool
-slot_is_waiting None = false
-slot_is_waiting (Some r) = is_waiting r

@@ -349,6 +349,7 @@ impl Machine {
     }
 
     // Gives up all packets of a transmit list.
+    #[inline(always)]
     pub(crate) fn clear_sent(&mut self, port: u8)
         requires there { port < length self.old.frames.outboxes }
         ensures { self.new ≡ moved (with_outbox port [] self.old.state) self.old }

@@ -1,9 +1,9 @@
 //! Rings by their numbers.
 
 ghost use Rattle.std.specs.Prelude.{◌≡◌, ◌<◌, ◌≤◌, ◌∷◌, [], length, nat_lt, if◌then◌else◌, slice_get, slice_set, true, is_none, IsSome, IfSome, IfNone};
-ghost use Rattle.std.specs.List.{position};
+ghost use Rattle.std.specs.List.{position, position_or_len};
 ghost use Rattle.dp_ring.specs.Rings.{room_in, with_more, without_first};
-ghost use Rattle.dp_engine.specs.Queues.{rings_in, RingsFirst, ring_at, ring_of, is_waiting, slot_is_waiting};
+ghost use Rattle.dp_engine.specs.Queues.{rings_in, RingsFirst, ring_at, ring_of, is_waiting};
 
 use dp_ring::Ring;
 use std::marker::Model;
@@ -11,18 +11,23 @@ use std::marker::Model;
 /// At most eight rings of packet handles, known by their numbers from 0 on.
 pub struct Queues {
     rings: [Option<Ring>; 8],
+    // How many rings there are.
+    count: u8,
+    // The least number of a ring that has an entry, or how many rings there are where none has one.
+    first: u8,
 }
 
 impl Model for Queues {
     ghost use Rattle.std.specs.Prelude.{◌≡◌, List, length};
+    ghost use Rattle.std.specs.List.{position_or_len};
     ghost use Rattle.dp_ring.specs.Rings.{RingView};
-    ghost use Rattle.dp_engine.specs.Queues.{rings_in, RingsFirst};
+    ghost use Rattle.dp_engine.specs.Queues.{rings_in, RingsFirst, is_waiting};
 
     ghost Value = { List RingView };
 
     ghost view = { λ q. rings_in q.rings };
 
-    ghost invariant = { λ q. (length q.rings ≡ 8) × RingsFirst q.rings };
+    ghost invariant = { λ q. ((length q.rings ≡ 8) × RingsFirst q.rings) × (q.count ≡ length (rings_in q.rings)) × (q.first ≡ position_or_len is_waiting (rings_in q.rings)) };
 }
 
 // The first place without a ring.
@@ -67,21 +72,18 @@ fn pop_in(slot: &mut Option<Ring>) -> Option<u32>
     }
 }
 
-// Whether a place's ring has an entry.
-fn waits(slot: &Option<Ring>) -> bool
-    ensures { result ≡ slot_is_waiting slot.now }
+// The least number of a ring that has an entry, or how many rings there are where none has one. None below `from` has one.
+fn first_from(rings: &[Option<Ring>; 8], from: u8, count: u8) -> u8
+    requires count { count ≡ length (rings_in rings.now) }
+    requires from { from ≤ position_or_len is_waiting (rings_in rings.now) }
+    ensures { result ≡ position_or_len is_waiting (rings_in rings.now) }
 {
-    match slot {
-        Some(ring) => ring.count() != 0,
-        None => false,
+    for k in from..count {
+        if ring_in(rings, k).count() != 0 {
+            return k;
+        }
     }
-}
-
-// The first place whose ring has an entry.
-fn first_waiting(slots: &[Option<Ring>]) -> Option<usize>
-    ensures { result ≡ position slot_is_waiting slots.now }
-{
-    slots.iter().position(|slot| waits(slot))
+    count
 }
 
 impl Queues {
@@ -90,7 +92,13 @@ impl Queues {
         requires { RingsFirst rings }
         ensures { result ≡ rings_in rings }
     {
-        Queues { rings }
+        let count = first_empty(&rings).unwrap_or(8) as u8;
+        let first = first_from(&rings, 0, count);
+        Queues {
+            rings,
+            count,
+            first,
+        }
     }
 
     /// How many rings there are.
@@ -98,7 +106,7 @@ impl Queues {
         ensures value { result ≡ length self.now }
         ensures bound { result ≤ 8 }
     {
-        first_empty(&self.rings).unwrap_or(8)
+        self.count as usize
     }
 
     /// How many entries a ring has.
@@ -124,7 +132,11 @@ impl Queues {
         ensures taken { result ≡ nat_lt 0 (room_in (ring_at self.old k)) }
         ensures rings { self.new ≡ (if nat_lt 0 (room_in (ring_at self.old k)) then slice_set self.old k (with_more (ring_at self.old k) (entry ∷ [])) else self.old) }
     {
-        push_in(&mut self.rings[k as usize], entry)
+        let is_taken = push_in(&mut self.rings[k as usize], entry);
+        if is_taken && k < self.first {
+            self.first = k;
+        }
+        is_taken
     }
 
     /// Takes the first entry of a ring out, if it has one.
@@ -134,7 +146,11 @@ impl Queues {
         ensures rest { self.new ≡ slice_set self.old k (without_first (ring_at self.old k) 1) }
         ensures kept { IfNone result (self.new ≡ self.old) }
     {
-        pop_in(&mut self.rings[k as usize])
+        let entry = pop_in(&mut self.rings[k as usize]);
+        if k <= self.first {
+            self.first = first_from(&self.rings, k, self.count);
+        }
+        entry
     }
 
     /// The least number of a ring that has an entry, if one has.
@@ -143,8 +159,11 @@ impl Queues {
         ensures bound { IfSome result (λ k. k < length self.now) }
         ensures waits { IfSome result (λ k. is_waiting (ring_at self.now k) ≡ true) }
     {
-        let k = first_waiting(&self.rings)?;
-        Some(k as u8)
+        if self.first < self.count {
+            Some(self.first)
+        } else {
+            None
+        }
     }
 
     /// The rings again, each at the place of its number.
@@ -152,7 +171,11 @@ impl Queues {
         ensures same { rings_in result ≡ self }
         ensures first { RingsFirst result }
     {
-        let Queues { rings } = self;
+        let Queues {
+            rings,
+            count: _,
+            first: _,
+        } = self;
         rings
     }
 }

@@ -2,7 +2,7 @@
 
 mod plain;
 
-use dp_lpm::{Lpm, LpmError};
+use dp_lpm::{Lpm, LpmError, Memory};
 use plain::Plain;
 use std::test::Fail;
 
@@ -67,6 +67,23 @@ fn refusals_come_in_their_order(rt: HostRuntime) -> Result<(), Fail> {
         LpmError::NoRule.number(),
     ];
     assert_eq!(rt; numbers, [1, 2, 3, 4, 5]);
+    Ok(())
+}
+
+#[test]
+fn refusals_have_texts(rt: HostRuntime) -> Result<(), Fail> {
+    for (error, text) in [
+        (LpmError::BadDepth, "the depth is not 1 to 32"),
+        (LpmError::BadHop, "the hop is above 16777215"),
+        (LpmError::RulesFull, "no room for another rule"),
+        (LpmError::GroupsFull, "no group left"),
+        (LpmError::NoRule, "no such rule"),
+    ] {
+        let shown = format!(in rt.alloc(); "{error}")?;
+        assert_eq!(rt; shown.as_str(), text);
+    }
+    let shown = format!(in rt.alloc(); "{Memory}")?;
+    assert_eq!(rt; shown.as_str(), "not enough memory");
     Ok(())
 }
 
@@ -182,6 +199,63 @@ fn the_table_and_the_list_agree(rt: HostRuntime) -> Result<(), Fail> {
         let address = numbers.address();
         assert_eq!(rt; table.lookup(address), list.lookup(address));
     }
+    Ok(())
+}
+
+/// How many of so many look-ups the two forms answer differently.
+fn differing(table: &Lpm, list: &Plain, numbers: &mut Numbers, count: u32) -> u32 {
+    let mut differing = 0u32;
+    for _ in 0..count {
+        let address = numbers.address();
+        if table.lookup(address) != list.lookup(address) {
+            differing = differing.saturating_add(1);
+        }
+    }
+    differing
+}
+
+/// A rule that is any: its address, depth and hop.
+fn rule(numbers: &mut Numbers) -> (u32, u8, u32) {
+    let address = numbers.address();
+    let depth = numbers.depth();
+    (address, depth, numbers.next() % 16_777_216)
+}
+
+#[test]
+fn a_thousand_rules_with_groups_to_spare(rt: HostRuntime) -> Result<(), Fail> {
+    let mut table = Lpm::new(rt.alloc(), 1000, 256)?;
+    let mut list = Plain::new(rt.alloc(), 1000, 256)?;
+    let mut numbers = Numbers { state: 11 };
+    let mut refused = 0u32;
+    for step in 0..20_000u32 {
+        let (address, depth, hop) = rule(&mut numbers);
+        let answer = table.add(address, depth, hop);
+        assert_eq!(rt; answer, list.add(address, depth, hop), "add {step}");
+        if let Err(error) = answer {
+            // the rules are used up, and not the groups
+            assert_eq!(rt; error, LpmError::RulesFull, "add {step}");
+            refused = refused.wrapping_add(1);
+        }
+        if refused == 100 {
+            break;
+        }
+    }
+    assert_eq!(rt; (table.len(), refused), (1000, 100));
+    assert_eq!(rt; differing(&table, &list, &mut numbers, 20_000), 0);
+    let mut deleted = 0u32;
+    for step in 0..20_000u32 {
+        let (address, depth, _) = rule(&mut numbers);
+        let answer = table.delete(address, depth);
+        assert_eq!(rt; answer, list.delete(address, depth), "delete {step}");
+        if answer.is_ok() {
+            deleted = deleted.wrapping_add(1);
+        }
+        if deleted == 500 {
+            break;
+        }
+    }
+    assert_eq!(rt; (table.len(), deleted), (500, 500));
+    assert_eq!(rt; differing(&table, &list, &mut numbers, 20_000), 0);
     Ok(())
 }
 

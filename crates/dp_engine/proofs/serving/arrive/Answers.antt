@@ -1,14 +1,13 @@
-use Rattle.std.proofs.Common.{◌≡◌, ◌<◌, ◌≤◌, Bool, true, false, List, [], ◌∷◌, length, refl, sym, ◌∙◌, ap, subst, arith}
+use Rattle.std.proofs.Common.{◌≡◌, ◌≤◌, false, [], ◌∷◌, length, refl, sym, ◌∙◌, ap, subst, arith}
 use Rattle.std.specs.Prelude.{slice_index_or}
 use Rattle.dp_model.specs.declared.env.PortSpec.{PortSpec}
 use Rattle.dp_model.specs.Environments.{Environment, room_at}
 use Rattle.dp_model.specs.Packets.{needed as segments_needed}
-use Rattle.dp_model.specs.Machine.{Setting, World, is_denied}
-use Rattle.dp_model.specs.Runs.{Got, between}
+use Rattle.dp_model.specs.Machine.{Setting}
+use Rattle.dp_model.specs.Runs.{Got}
 use Rattle.dp_model.proofs.SafeTurns.{arrives_rest}
 use Rattle.dp_engine.specs.Handles.{Core}
 use Rattle.dp_engine.specs.Steps.{setting_of, FitsIn, CanRun, Runs}
-use Rattle.dp_engine.specs.Turns.{IsReceived}
 use Rattle.dp_engine.proofs.Served.{setting_is, at_port, received_with, received_is}
 use Rattle.dp_engine.proofs.serving.arrive.Goals as goal
 

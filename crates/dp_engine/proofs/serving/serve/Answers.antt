@@ -1,4 +1,4 @@
-use Rattle.std.proofs.Common.{◌≤◌, ◌<◌, arith}
+use Rattle.std.proofs.Common.{arith}
 use Rattle.dp_engine.proofs.Served.{no_round, one_round, rounds_none, none_of, rounds_all}
 use Rattle.dp_engine.proofs.serving.serve.Goals as goal
 

@@ -1,6 +1,5 @@
 use Rattle.std.proofs.Common.{◌≡◌, sym, ◌∙◌, ap, subst, arith}
 use Rattle.dp_model.specs.Machine.{Setting}
-use Rattle.dp_model.specs.Safety.{IsPipeline}
 use Rattle.dp_engine.specs.Handles.{Core}
 use Rattle.dp_engine.specs.Steps.{FitsIn, CanRun, Runs}
 use Rattle.dp_engine.proofs.Served.{setting_is, next_is, next_runs, next_serves, next_count, served_rests}

@@ -1,4 +1,4 @@
-use Rattle.std.proofs.Common.{◌≡◌, ◌+◌, ◌*◌, ◌<◌, ◌≤◌, Bool, List, length, refl, sym, ◌∙◌, ap, subst, arith}
+use Rattle.std.proofs.Common.{◌+◌, ◌<◌, Bool, List, length, sym, ◌∙◌, ap, subst, arith}
 use Rattle.dp_model.specs.Runs.{Turn as IsTurn, NeverStuck}
 use Rattle.dp_model.specs.Safety.{Beginning, IsOfTurn}
 use Rattle.dp_model.proofs.SafeTurns.{turn_runs_safe, safe_never_stuck}

@@ -1,15 +1,12 @@
-use Rattle.std.proofs.Common.{◌∙◌}
-use Rattle.dp_engine.proofs.Slots.{waiting, waits_there}
+use Rattle.std.proofs.Common.{◌<◌, ◌∙◌, length, ap, sym, arith, List}
+use Rattle.dp_ring.specs.Rings.{RingView}
+use Rattle.dp_engine.specs.Queues.{rings_in, ring_at, is_waiting}
+use Rattle.dp_engine.proofs.Firsts.{first_place, first_waits}
 use Rattle.dp_engine.proofs.queues.Queues.first_waiting.Goals as goal
 
-pub returns-in_err-k : goal.returns-in_err-k
-returns-in_err-k c =
-    let value = c.from_residual.ensures ∙ (c.in_err-k.ensures ∙ waiting _ _ c.self.view_is c.self.invariant) in
-    let there = waits_there _ _ value in
-    record { value = value; bound = there.0; waits = there.1 }
-
-pub returns : goal.returns
-returns c =
-    let value = c.in_ok-k.ensures ∙ waiting _ _ c.self.view_is c.self.invariant in
-    let there = waits_there _ _ value in
-    record { value = value; bound = there.0; waits = there.1 }
+pub returns-then-self-clause-waits : goal.returns-then-self-clause-waits
+returns-then-self-clause-waits c =
+    let rings = rings_in c.self.inside.rings in
+    let there : first_place rings < length rings = omega (arith, c.if-self.true, c.self.invariant.1, c.self.invariant.2) in
+    ap (λ (rs : List RingView). is_waiting (ring_at rs c.self.inside.first)) (sym c.self.view_is)
+    ∙ (ap (λ k. is_waiting (ring_at rings k)) c.self.invariant.2 ∙ first_waits rings there)

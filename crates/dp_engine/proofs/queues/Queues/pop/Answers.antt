@@ -1,34 +1,73 @@
-use Rattle.std.proofs.Common.{◌∙◌, ap}
+use Rattle.std.proofs.Common.{◌≡◌, ◌∙◌, refl, ap, sym, subst, arith, ◌≤◌}
 use Rattle.std.specs.Prelude.{slice_get}
 use Rattle.dp_ring.specs.Rings.{without_first}
-use Rattle.dp_engine.proofs.Slots.{listed as ring_listed, has_ring, ring_is, changed, kept}
+use Rattle.dp_engine.specs.Queues.{ring_at}
+use Rattle.dp_engine.proofs.Firsts.{first_place, not_before, stays}
+use Rattle.dp_engine.proofs.Slots.{listed as ring_listed, has_ring, ring_is, changed, renewed, kept}
 use Rattle.dp_engine.proofs.queues.Queues.pop.Goals as goal
 
 pub listed : goal.listed
-listed c = (ring_listed _ _ c.self.view_is c.self.invariant c.args.k c.requires).0
+listed c = (ring_listed _ _ c.self.view_is c.self.invariant.0 c.args.k c.requires).0
 
 pub bounds-self-inside-k : goal.bounds-self-inside-k
-bounds-self-inside-k c = (ring_listed _ _ c.self.view_is c.self.invariant c.args.k c.requires).1
+bounds-self-inside-k c = (ring_listed _ _ c.self.view_is c.self.invariant.0 c.args.k c.requires).1
 
-pub pop_in-requires : goal.pop_in-requires
-pop_in-requires c = has_ring _ _ c.self.view_is c.self.invariant c.args.k _ c.requires
+pub pop_in-entry-requires : goal.pop_in-entry-requires
+pop_in-entry-requires c = has_ring _ _ c.self.view_is c.self.invariant.0 c.args.k _ c.requires
+
+pub first_from-self-inside-requires-clause-count : goal.first_from-self-inside-requires-clause-count
+first_from-self-inside-requires-clause-count c =
+    (renewed _ _ c.self.view_is c.self.invariant.0 c.args.k _ c.pop_in-entry.new.slot (λ r. without_first r 1) c.self.inside.count _ c.requires c.pop_in-entry.ensures.rest
+    c.self.invariant.1 refl).1
+
+pub first_from-self-inside-requires-clause-from : goal.first_from-self-inside-requires-clause-from
+first_from-self-inside-requires-clause-from c =
+    let first : c.self.inside.first ≡ first_place c.args.self.now = c.self.invariant.2 ∙ ap first_place c.self.view_is in
+    let now = changed _ _ c.self.view_is c.self.invariant.0 c.args.k _ c.pop_in-entry.new.slot (λ r. without_first r 1) c.requires c.pop_in-entry.ensures.rest in
+    subst (λ rings. c.args.k ≤ first_place rings) (sym now.1)
+    (not_before c.args.self.now c.args.k (without_first (ring_at c.args.self.now c.args.k) 1) (omega (arith, first, c.if-k-self.true)) c.requires)
 
 pub invariant_of-self : goal.invariant_of-self
 invariant_of-self c =
-    (changed _ _ c.self.view_is c.self.invariant c.args.k _ c.pop_in.new.slot (λ r. without_first r 1) c.requires c.pop_in.ensures.rest).0
+    let now = renewed _ _ c.self.view_is c.self.invariant.0 c.args.k _ c.pop_in-entry.new.slot (λ r. without_first r 1) c.self.inside.count _ c.requires
+    c.pop_in-entry.ensures.rest c.self.invariant.1 refl in
+    (now.0, now.1, c.first_from-self-inside.ensures)
 
-pub returns-clause-first : goal.returns-clause-first
-returns-clause-first c =
-    c.pop_in.ensures.first
-    ∙ ap (λ r. slice_get r.entries 0) (ring_is _ _ c.self.view_is c.self.invariant c.args.k _ c.requires)
+pub invariant_of-self-else-k-self : goal.invariant_of-self-else-k-self
+invariant_of-self-else-k-self c =
+    let first : c.self.inside.first ≡ first_place c.args.self.now = c.self.invariant.2 ∙ ap first_place c.self.view_is in
+    renewed _ _ c.self.view_is c.self.invariant.0 c.args.k _ c.pop_in-entry.new.slot (λ r. without_first r 1) c.self.inside.count c.self.inside.first c.requires
+    c.pop_in-entry.ensures.rest c.self.invariant.1
+    (first ∙ sym (stays c.args.self.now c.args.k (without_first (ring_at c.args.self.now c.args.k) 1) (omega (arith, first, c.if-k-self.false)) c.requires))
 
-pub returns-clause-rest : goal.returns-clause-rest
-returns-clause-rest c =
-    (changed _ _ c.self.view_is c.self.invariant c.args.k _ c.pop_in.new.slot (λ r. without_first r 1) c.requires c.pop_in.ensures.rest).1
+pub returns-then-k-self-clause-first : goal.returns-then-k-self-clause-first
+returns-then-k-self-clause-first c =
+    c.pop_in-entry.ensures.first
+    ∙ ap (λ r. slice_get r.entries 0) (ring_is _ _ c.self.view_is c.self.invariant.0 c.args.k _ c.requires)
 
-pub returns-clause-kept : goal.returns-clause-kept
-returns-clause-kept c =
-    kept c.args.self.now c.args.k c.pop_in.result _
-    (c.pop_in.ensures.first
-    ∙ ap (λ r. slice_get r.entries 0) (ring_is _ _ c.self.view_is c.self.invariant c.args.k _ c.requires))
-    (changed _ _ c.self.view_is c.self.invariant c.args.k _ c.pop_in.new.slot (λ r. without_first r 1) c.requires c.pop_in.ensures.rest).1
+pub returns-then-k-self-clause-rest : goal.returns-then-k-self-clause-rest
+returns-then-k-self-clause-rest c =
+    (changed _ _ c.self.view_is c.self.invariant.0 c.args.k _ c.pop_in-entry.new.slot (λ r. without_first r 1) c.requires c.pop_in-entry.ensures.rest).1
+
+pub returns-then-k-self-clause-kept : goal.returns-then-k-self-clause-kept
+returns-then-k-self-clause-kept c =
+    kept c.args.self.now c.args.k c.pop_in-entry.result _
+    (c.pop_in-entry.ensures.first
+    ∙ ap (λ r. slice_get r.entries 0) (ring_is _ _ c.self.view_is c.self.invariant.0 c.args.k _ c.requires))
+    (changed _ _ c.self.view_is c.self.invariant.0 c.args.k _ c.pop_in-entry.new.slot (λ r. without_first r 1) c.requires c.pop_in-entry.ensures.rest).1
+
+pub returns-else-k-self-clause-first : goal.returns-else-k-self-clause-first
+returns-else-k-self-clause-first c =
+    c.pop_in-entry.ensures.first
+    ∙ ap (λ r. slice_get r.entries 0) (ring_is _ _ c.self.view_is c.self.invariant.0 c.args.k _ c.requires)
+
+pub returns-else-k-self-clause-rest : goal.returns-else-k-self-clause-rest
+returns-else-k-self-clause-rest c =
+    (changed _ _ c.self.view_is c.self.invariant.0 c.args.k _ c.pop_in-entry.new.slot (λ r. without_first r 1) c.requires c.pop_in-entry.ensures.rest).1
+
+pub returns-else-k-self-clause-kept : goal.returns-else-k-self-clause-kept
+returns-else-k-self-clause-kept c =
+    kept c.args.self.now c.args.k c.pop_in-entry.result _
+    (c.pop_in-entry.ensures.first
+    ∙ ap (λ r. slice_get r.entries 0) (ring_is _ _ c.self.view_is c.self.invariant.0 c.args.k _ c.requires))
+    (changed _ _ c.self.view_is c.self.invariant.0 c.args.k _ c.pop_in-entry.new.slot (λ r. without_first r 1) c.requires c.pop_in-entry.ensures.rest).1
