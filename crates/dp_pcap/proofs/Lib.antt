@@ -10,3 +10,4 @@ pub mod Back
 pub mod Refusals
 pub mod OfferLemmas
 pub mod Offering
+pub mod Counting

@@ -262,3 +262,49 @@ fn a_writer_that_takes_nothing_has_failed(rt: HostRuntime) -> Result<(), Fail> {
     assert_eq!(rt; read_header(&mut r)?.unit(), Unit::Micro);
     Ok(())
 }
+
+// Takes at most so many bytes a call, and notes how many it was offered in each.
+#[derive(Drop)]
+struct Noting {
+    most: usize,
+    offered: Vec<usize>,
+}
+
+impl Write for Noting {
+    fn write(&mut self, buf: &[u8]) -> io::Result<usize> {
+        if self.offered.push(buf.len()).is_err() {
+            return Err(io::ErrorKind::OutOfMemory.into());
+        }
+        Ok(buf.len().min(self.most))
+    }
+
+    fn flush(&mut self) -> io::Result<()> {
+        Ok(())
+    }
+}
+
+// The header, the record's head and its bytes are a piece each: a writer is offered a piece whole, and then what it left of it.
+#[test]
+fn a_writer_is_offered_a_piece_and_then_its_rest(rt: HostRuntime) -> Result<(), Fail> {
+    let bytes = hundred_bytes(rt.alloc())?;
+    let mut buf = vec![in rt.alloc(); 0u8; ROOM]?;
+    for most in [1usize, 7, 16, 23, 24, 59, 60, 1000] {
+        let mut wanted = Vec::new(rt.alloc());
+        for piece in [24usize, 16, 60] {
+            let mut rest = piece;
+            for _ in 0..piece {
+                if rest > 0 {
+                    wanted.push(rest)?;
+                    rest = rest.saturating_sub(most);
+                }
+            }
+        }
+        let offered = Vec::new(rt.alloc());
+        let mut w = OfWrite::new(Noting { most, offered });
+        let mut r = OfRead::new(bytes.as_slice());
+        assert_eq!(rt; copied(&rt, &mut r, &mut w, &mut buf), Ok(None), "{most}");
+        let Noting { most: _, offered } = w.into_inner();
+        assert_eq!(rt; offered.as_slice(), wanted.as_slice(), "{most}");
+    }
+    Ok(())
+}

@@ -1,6 +1,6 @@
 //! What is read of captures.
 use super::{MICRO_HEADER, ROOM, copied, hundred_bytes, next};
-use dp_pcap::{FailingFeed, Next, OfRead, OfWrite, PcapError, Time, Unit, read_header};
+use dp_pcap::{Failed, FailingFeed, Next, OfRead, OfWrite, PcapError, Time, Unit, read_header};
 use std::io;
 use std::io::Read;
 use std::process::Abort;
@@ -253,5 +253,7 @@ fn names_causes(rt: HostRuntime) -> Result<(), Fail> {
         let shown = format!(in rt.alloc(); "{error}")?;
         assert_eq!(rt; shown.as_str(), text);
     }
+    let shown = format!(in rt.alloc(); "{Failed}")?;
+    assert_eq!(rt; shown.as_str(), "the device failed");
     Ok(())
 }

@@ -1,0 +1,163 @@
+-- Counting whole records: what more bytes make of a count.
+use Rattle.std.proofs.Common.{◌≡◌, ℕ, zero, suc, ◌+◌, ◌-◌, ◌^◌, ◌<◌, ◌≤◌, List, [], ◌++◌, length, take, refl, sym, ap, ◌∙◌, subst, inl, inr, arith, length-append, length-take, append_assoc, append-nil, take_all}
+use Rattle.std.proofs.lemmas.Slice.{take-put_mid}
+use borrow.Rule.Slice.PartMut.{put_mid}
+use Rattle.dp_pcap.specs.declared.number.Order.TheVariants.{Little}
+use Rattle.dp_pcap.specs.Capture.{captured}
+use Rattle.dp_pcap.specs.Counting.{Counted, ArePieces, IsPart, IsBehind}
+
+-- ---- inside the header, or behind a record's head
+
+part_skipped : (n left : ℕ) (head part more : List ℕ) → length more < left → IsPart n left head part → IsPart n (left - length more) head (part ++ more)
+part_skipped zero left head part more less (none, some, all) = (none, omega (arith, less), omega (arith, less, all, length-append part more))
+part_skipped (suc n) left head part more less (inl (none, few, same)) = absurd (omega (arith, none, less))
+part_skipped (suc n) left head part more less (inr (some, none, (h, body, size, rest, split))) =
+    inr (omega (arith, less), none, (h, body ++ more, size, omega (arith, rest, less, length-append body more), ap (λ l. l ++ more) split ∙ append_assoc h body more))
+
+-- a part of what is left
+pub skipped : (pieces left : ℕ) (head before more : List ℕ) → length more < left → IsBehind (record { pieces = pieces; left = left; head = head }) before
+    → IsBehind (record { pieces = pieces; left = left - length more; head = head }) (before ++ more)
+skipped pieces left head before more less b = record {
+  whole = b.whole;
+  part = b.part ++ more;
+  split = ap (λ l. l ++ more) b.split ∙ append_assoc b.whole b.part more;
+  pieces = b.pieces;
+  is_part = part_skipped pieces left head b.part more less b.is_part;
+}
+
+no_head : (n left : ℕ) (head part : List ℕ) → 0 < left → IsPart n left head part → [] ≡ head
+no_head zero left head part more (none, some, all) = sym none
+no_head (suc n) left head part more (inl (none, few, same)) = absurd (omega (arith, none, more))
+no_head (suc n) left head part more (inr (some, none, inside)) = sym none
+
+one_more : (n left : ℕ) (head whole part before more : List ℕ) → ArePieces n whole → IsPart n left head part → before ≡ whole ++ part → length more ≡ left → 0 < left
+    → ArePieces (suc n) (before ++ more)
+one_more zero left head whole part before more are (none, some, all) split size any =
+    omega (arith, ap length split, length-append whole part, ap length are, all, length-append before more, size)
+one_more (suc n) left head whole part before more are (inl (none, few, same)) split size any = absurd (omega (arith, none, any))
+one_more (suc n) left head whole part before more are (inr (some, none, (h, body, full, rest, inside))) split size any = (
+  whole,
+  h,
+  body ++ more,
+  are,
+  (full, omega (arith, rest, size, length-append body more)),
+  ap (λ l. l ++ more) split ∙ append_assoc whole part more ∙ ap (λ l. whole ++ l) (ap (λ l. l ++ more) inside ∙ append_assoc h body more),
+)
+
+-- all that is left
+pub completed : (pieces left : ℕ) (head before more : List ℕ) → length more ≡ left → 0 < left → IsBehind (record { pieces = pieces; left = left; head = head }) before
+    → IsBehind (record { pieces = suc pieces; left = 0; head = head }) (before ++ more)
+completed pieces left head before more size any b = record {
+  whole = before ++ more;
+  part = [];
+  split = sym (append-nil (before ++ more));
+  pieces = one_more pieces left head b.whole b.part before more b.pieces b.is_part b.split size any;
+  is_part = inl (refl, omega (arith, ap length (no_head pieces left head b.part any b.is_part)), no_head pieces left head b.part any b.is_part);
+}
+
+-- the same, with the numbers that a call leaves
+pub completes : (pieces left pieces' left' n : ℕ) (head before bytes : List ℕ) → pieces' ≡ suc pieces → left' ≡ 0 → n ≡ left → n ≤ length bytes → 0 < left
+    → IsBehind (record { pieces = pieces; left = left; head = head }) before → IsBehind (record { pieces = pieces'; left = left'; head = head }) (before ++ take n bytes)
+completes pieces left pieces' left' n head before bytes more none all within any b =
+    subst (λ m. IsBehind (record { pieces = m; left = left'; head = head }) (before ++ take n bytes)) (sym more)
+    (subst (λ m. IsBehind (record { pieces = suc pieces; left = m; head = head }) (before ++ take n bytes)) (sym none)
+    (completed pieces left head before (take n bytes) (omega (arith, all, within, length-take n bytes)) any b))
+
+-- ---- inside a record's head
+
+part_grown : (n : ℕ) (head part more : List ℕ) → length head + length more < 16 → IsPart n 0 head part → IsPart n 0 (head ++ more) (part ++ more)
+part_grown zero head part more few (none, some, all) = absurd (omega (arith, some))
+part_grown (suc n) head part more few (inl (none, less, same)) = inl (refl, omega (arith, few, length-append head more), ap (λ l. l ++ more) same)
+part_grown (suc n) head part more few (inr (some, none, inside)) = absurd (omega (arith, some))
+
+-- a part of it
+pub head_grown : (pieces : ℕ) (head before more : List ℕ) → length head + length more < 16 → IsBehind (record { pieces = pieces; left = 0; head = head }) before
+    → IsBehind (record { pieces = pieces; left = 0; head = head ++ more }) (before ++ more)
+head_grown pieces head before more few b = record {
+  whole = b.whole;
+  part = b.part ++ more;
+  split = ap (λ l. l ++ more) b.split ∙ append_assoc b.whole b.part more;
+  pieces = b.pieces;
+  is_part = part_grown pieces head b.part more few b.is_part;
+}
+
+part_begun : (n left : ℕ) (head part more : List ℕ) → length head + length more ≡ 16 → left ≡ captured Little (head ++ more) → 0 < left → IsPart n 0 head part → IsPart n left [] (part ++ more)
+part_begun zero left head part more full says any (none, some, all) = absurd (omega (arith, some))
+part_begun (suc n) left head part more full says any (inl (none, less, same)) =
+    inr (any, refl, (head ++ more, [], omega (arith, full, length-append head more), omega (arith, says), ap (λ l. l ++ more) same ∙ sym (append-nil (head ++ more))))
+part_begun (suc n) left head part more full says any (inr (some, none, inside)) = absurd (omega (arith, some))
+
+-- all of it, and bytes are to follow
+pub head_whole : (pieces left : ℕ) (head before more : List ℕ) → length head + length more ≡ 16 → left ≡ captured Little (head ++ more) → 0 < left
+    → IsBehind (record { pieces = pieces; left = 0; head = head }) before → IsBehind (record { pieces = pieces; left = left; head = [] }) (before ++ more)
+head_whole pieces left head before more full says any b = record {
+  whole = b.whole;
+  part = b.part ++ more;
+  split = ap (λ l. l ++ more) b.split ∙ append_assoc b.whole b.part more;
+  pieces = b.pieces;
+  is_part = part_begun pieces left head b.part more full says any b.is_part;
+}
+
+one_empty : (n : ℕ) (head whole part before more : List ℕ) → ArePieces n whole → IsPart n 0 head part → before ≡ whole ++ part → length head + length more ≡ 16
+    → 0 ≡ captured Little (head ++ more) → ArePieces (suc n) (before ++ more)
+one_empty zero head whole part before more are (none, some, all) split full says = absurd (omega (arith, some))
+one_empty (suc n) head whole part before more are (inl (none, less, same)) split full says = (
+  whole,
+  head ++ more,
+  [],
+  are,
+  (omega (arith, full, length-append head more), says),
+  ap (λ l. l ++ more) split ∙ append_assoc whole part more ∙ ap (λ l. whole ++ l) (ap (λ l. l ++ more) same ∙ sym (append-nil (head ++ more))),
+)
+one_empty (suc n) head whole part before more are (inr (some, none, inside)) split full says = absurd (omega (arith, some))
+
+-- all of it, of a record without bytes
+pub head_alone : (pieces : ℕ) (head before more : List ℕ) → length head + length more ≡ 16 → 0 ≡ captured Little (head ++ more)
+    → IsBehind (record { pieces = pieces; left = 0; head = head }) before → IsBehind (record { pieces = suc pieces; left = 0; head = [] }) (before ++ more)
+head_alone pieces head before more full says b = record {
+  whole = before ++ more;
+  part = [];
+  split = sym (append-nil (before ++ more));
+  pieces = one_empty pieces head b.whole b.part before more b.pieces b.is_part b.split full says;
+  is_part = inl (refl, omega arith, refl);
+}
+
+-- the bytes of a head that is whole now, where those behind the first so many were written
+head_written : (came k n : ℕ) (xs ys bytes : List ℕ) → came + n ≡ 16 → n ≤ length bytes → came ≤ length xs → length (put_mid came k xs ys) ≡ 16 → ys ≡ take n bytes
+    → put_mid came k xs ys ≡ take came xs ++ take n bytes
+head_written came k n xs ys bytes full within there long same =
+    sym (take_all 16 (put_mid came k xs ys) (omega (arith, long)))
+    ∙ take-put_mid came k xs ys 16 (omega (arith, full, within, ap length same, length-take n bytes)) there
+    ∙ ap (λ l. take came xs ++ l) same
+
+-- a head is whole, with the numbers that a call leaves: of a record without bytes
+pub head_ends : (pieces none came k n pieces' left : ℕ) (head' xs ys bytes before : List ℕ) → none ≡ 0 → pieces' ≡ suc pieces → left ≡ 0 → head' ≡ []
+    → left ≡ captured Little (put_mid came k xs ys) → came + n ≡ 16 → n ≤ length bytes → came ≤ length xs → length (put_mid came k xs ys) ≡ 16 → ys ≡ take n bytes
+    → IsBehind (record { pieces = pieces; left = none; head = take came xs }) before → IsBehind (record { pieces = pieces'; left = left; head = head' }) (before ++ take n bytes)
+head_ends pieces none came k n pieces' left head' xs ys bytes before was more zero_left empty says full within there long same b =
+    let whole = head_written came k n xs ys bytes full within there long same in
+    let size : length (take came xs) + length (take n bytes) ≡ 16 = omega (arith, full, within, there, length-take came xs, length-take n bytes) in
+    subst (λ m. IsBehind (record { pieces = m; left = left; head = head' }) (before ++ take n bytes)) (sym more)
+    (subst (λ m. IsBehind (record { pieces = suc pieces; left = m; head = head' }) (before ++ take n bytes)) (sym zero_left)
+    (subst (λ h. IsBehind (record { pieces = suc pieces; left = 0; head = h }) (before ++ take n bytes)) (sym empty)
+    (head_alone pieces (take came xs) before (take n bytes) size (sym zero_left ∙ says ∙ ap (captured Little) whole)
+    (subst (λ m. IsBehind (record { pieces = pieces; left = m; head = take came xs }) before) was b))))
+
+-- and of one with bytes
+pub head_goes_on : (pieces none came k n left : ℕ) (head' xs ys bytes before : List ℕ) → none ≡ 0 → 0 < left → head' ≡ []
+    → left ≡ captured Little (put_mid came k xs ys) → came + n ≡ 16 → n ≤ length bytes → came ≤ length xs → length (put_mid came k xs ys) ≡ 16 → ys ≡ take n bytes
+    → IsBehind (record { pieces = pieces; left = none; head = take came xs }) before → IsBehind (record { pieces = pieces; left = left; head = head' }) (before ++ take n bytes)
+head_goes_on pieces none came k n left head' xs ys bytes before was any empty says full within there long same b =
+    let whole = head_written came k n xs ys bytes full within there long same in
+    let size : length (take came xs) + length (take n bytes) ≡ 16 = omega (arith, full, within, there, length-take came xs, length-take n bytes) in
+    subst (λ h. IsBehind (record { pieces = pieces; left = left; head = h }) (before ++ take n bytes)) (sym empty)
+    (head_whole pieces left (take came xs) before (take n bytes) size (says ∙ ap (captured Little) whole) any
+    (subst (λ m. IsBehind (record { pieces = pieces; left = m; head = take came xs }) before) was b))
+
+-- ---- piece by piece
+
+-- so many of the bytes went by
+pub record Passing (old new : Counted) (bytes : List ℕ) (at : ℕ) : Type 0 where
+  pub within : at ≤ length bytes
+  pub pieces : new.pieces ≤ old.pieces + at
+  pub behind : old.pieces + length bytes < 2 ^ 64 → (before : List ℕ) → IsBehind old before → IsBehind new (before ++ take at bytes)

@@ -1,0 +1,17 @@
+use Rattle.std.proofs.Common.{rules, ◌≡◌, ◌++◌, take, subst, sym, arith, append_assoc}
+use Rattle.dp_pcap.specs.Counting.{IsBehind}
+use Rattle.dp_pcap.proofs.Pieces.{take_more-rest}
+use Rattle.dp_pcap.proofs.whole_records.WholeRecords.pass.Goals as goal
+
+pub loop-at-preserved : goal.loop-at-preserved
+loop-at-preserved c =
+    let stepped = c.step-at.ensures in
+    let at = c.loop-at.at in
+    let bytes = c.args.bytes.now in
+    record {
+      within = search rules;
+      pieces = omega (arith, stepped.pieces, stepped.some, c.loop-at.invariant.pieces);
+      behind = λ few before b. rw (take_more-rest at c.step-at.result bytes)
+          (subst (λ l. IsBehind c.step-at.new.self l) (append_assoc before (take at bytes) _)
+          (stepped.behind (search rules) (before ++ take at bytes) (c.loop-at.invariant.behind few before b)));
+    }

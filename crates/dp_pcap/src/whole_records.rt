@@ -1,0 +1,124 @@
+//! How many records of a capture are whole in the bytes that went by.
+ghost use Rattle.std.specs.Prelude.{◌≡◌, ◌+◌, ◌<◌, ◌≤◌, ◌^◌, ◌++◌, ℕ, List, length, take};
+ghost use Rattle.dp_pcap.specs.Counting.{none_yet, records_in, IsBehind};
+
+use crate::number::{Order, long_number};
+use std::marker::Model;
+
+/// How many bytes the header of a capture has, and how many stand in front of a record's bytes.
+const HEADER: usize = 24;
+
+const HEAD: usize = 16;
+
+/// Counts the records of a capture that are whole in its first bytes, as these go by in pieces of any size. The capture is one as
+/// this crate writes it.
+#[derive(Drop)]
+pub struct WholeRecords {
+    // How many pieces are whole: the header, and then records.
+    pieces: u64,
+    // How many bytes are left of the header or of a record's bytes.
+    left: usize,
+    // The first `came` are those of the next record's head that came.
+    head: [u8; HEAD],
+    came: usize,
+}
+
+impl Model for WholeRecords {
+    ghost use Rattle.std.specs.Prelude.{◌≡◌, ◌<◌, length, take};
+    ghost use Rattle.dp_pcap.specs.Counting.{Counted};
+
+    ghost Value = { Counted };
+
+    ghost view = { λ c. record { pieces = c.pieces; left = c.left; head = take c.came c.head } };
+
+    ghost invariant = { λ c. (c.came < 16) × (length c.head ≡ 16) };
+}
+
+impl WholeRecords {
+    /// A count before the first byte.
+    pub fn new() -> WholeRecords
+        ensures { result ≡ none_yet }
+    {
+        WholeRecords {
+            pieces: 0,
+            left: HEADER,
+            head: [0; HEAD],
+            came: 0,
+        }
+    }
+
+    /// How many records went by whole.
+    pub fn count(&self) -> u64
+        ensures { result ≡ records_in self.now }
+    {
+        self.pieces.saturating_sub(1)
+    }
+
+    /// More bytes of the capture go by.
+    pub fn pass(&mut self, bytes: &[u8])
+        ensures { self.old.pieces + length bytes.now < 2 ^ 64 →
+            (before : List ℕ) → IsBehind self.old before → IsBehind self.new (before ++ bytes.now) }
+    {
+        let mut at = 0;
+        while at < bytes.len() {
+            at += self.step(&bytes[at..]);
+        }
+    }
+
+    // Goes by the front of these bytes: what is there of the header, of a record's head, or of the bytes behind it.
+    fn step(&mut self, bytes: &[u8]) -> usize
+        requires { 0 < length bytes.now }
+        ensures some { 0 < result }
+        ensures most { result ≤ length bytes.now }
+        ensures pieces { self.new.pieces ≤ self.old.pieces + 1 }
+        ensures behind { self.old.pieces + 1 < 2 ^ 64 →
+            (before : List ℕ) → IsBehind self.old before → IsBehind self.new (before ++ take result bytes.now) }
+    {
+        if self.left == 0 {
+            self.take_head(bytes)
+        } else {
+            self.skip(bytes)
+        }
+    }
+
+    // Goes by bytes of the header, or of a record behind its head.
+    fn skip(&mut self, bytes: &[u8]) -> usize
+        requires some { 0 < length bytes.now }
+        requires left { 0 < self.old.left }
+        ensures some { 0 < result }
+        ensures most { result ≤ length bytes.now }
+        ensures pieces { self.new.pieces ≤ self.old.pieces + 1 }
+        ensures behind { self.old.pieces + 1 < 2 ^ 64 →
+            (before : List ℕ) → IsBehind self.old before → IsBehind self.new (before ++ take result bytes.now) }
+    {
+        let taken = self.left.min(bytes.len());
+        self.left -= taken;
+        if self.left == 0 {
+            self.pieces = self.pieces.saturating_add(1);
+        }
+        taken
+    }
+
+    // Goes by bytes of a record's head.
+    fn take_head(&mut self, bytes: &[u8]) -> usize
+        requires some { 0 < length bytes.now }
+        requires none { self.old.left ≡ 0 }
+        ensures some { 0 < result }
+        ensures most { result ≤ length bytes.now }
+        ensures pieces { self.new.pieces ≤ self.old.pieces + 1 }
+        ensures behind { self.old.pieces + 1 < 2 ^ 64 →
+            (before : List ℕ) → IsBehind self.old before → IsBehind self.new (before ++ take result bytes.now) }
+    {
+        let taken = (HEAD - self.came).min(bytes.len());
+        self.head[self.came..self.came + taken].copy_from_slice(&bytes[..taken]);
+        self.came += taken;
+        if self.came == HEAD {
+            self.came = 0;
+            self.left = long_number(Order::Little, &self.head[8..]) as usize;
+            if self.left == 0 {
+                self.pieces = self.pieces.saturating_add(1);
+            }
+        }
+        taken
+    }
+}
