@@ -1,5 +1,6 @@
 -- With which statuses a verdict ends.
-use Rattle.std.proofs.Common.{◌≡◌, ◌⊎◌, ℕ, Option, inl, inr, refl}
+use Rattle.std.proofs.Common.{◌≡◌, ◌⊎◌, ℕ, Option, Result, Ok, Err, inl, inr, refl}
+use Rattle.std.specs.Prelude.{IfErr}
 use Rattle.dp_model.specs.Environments.{Environment}
 use Rattle.dp_pipe.specs.declared.error.PipeError.{PipeError}
 use Rattle.dp_pipe.specs.declared.error.PipeError.TheVariants.{Memory, NotInferred, Refused}
@@ -7,6 +8,11 @@ use Rattle.dp_pipe.specs.Files.{FileMap}
 use Rattle.dp_pipe.specs.Nodes.{Node}
 use Rattle.dp_cli.specs.Judging.{IsVerdict, IsNodeTold}
 use Rattle.dp_cli.specs.Told.{IsTold, status_of}
+
+-- what holds of an error, where there is one
+pub if_err : {A E : Type 0} (r : Result A E) (P Q : E → Type 0) → ((e : E) → P e → Q e) → IfErr r P → IfErr r Q
+if_err (Ok a) P Q f h = tt
+if_err (Err e) P Q f h = f e h
 
 -- a status of 1, or one where nothing could be written
 told_one : (s : ℕ) → IsTold 1 s → IsTold 0 s ⊎ (s ≡ 1)

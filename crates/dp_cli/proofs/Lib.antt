@@ -1,3 +1,4 @@
 pub mod Endings
 mod Lines
 mod Numbers
+pub mod Lowering

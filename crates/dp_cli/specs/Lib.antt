@@ -1,3 +1,4 @@
+pub mod Inferring
 pub mod Judging
 pub mod One
 pub mod Pipe

@@ -1,6 +1,7 @@
 -- What `dpv run` tells of a run.
-use Rattle.std.specs.Prelude.{◌≡◌, ℕ, ◌⊎◌, List, Option, Result, Ok, Err, IfOk, IfErr}
+use Rattle.std.specs.Prelude.{◌≡◌, ℕ, ◌≤◌, ◌⊎◌, List, [], ◌∷◌, Option, Result, Ok, Err, IfOk, IfErr, ⊤}
 use Rattle.std.specs.Io.KnownBytes.{Appends}
+use Rattle.dp_engine.specs.declared.report.PortReport.{PortReport}
 use Rattle.dp_engine.specs.declared.report.Report.{Report}
 use Rattle.dp_pipe.specs.declared.forwarding.RunCause.{RunCause}
 use Rattle.dp_pipe.specs.declared.forwarding.RunCause.TheVariants.{Memory, NoRoom}
@@ -29,3 +30,10 @@ pub record IsRunTold (p : Plan) (pattern : List ℕ) (olds news held holds : Lis
   pub untouched : IfErr answer (λ fault. (fault.cause ≡ Memory) ⊎ (fault.cause ≡ NoRoom) → (news ≡ olds) × (holds ≡ held))
   pub told : IsTold (status_of_run answer) status
   pub printed : status ≡ 0 → IfOk answer (λ report. Appends old new (report_text report))
+
+-- the numbers of ports, of which each may have sent fewer records, and is else the same
+abbrev pub AreLowered : List PortReport → List PortReport → Type 0
+AreLowered [] [] = ⊤
+AreLowered [] (new ∷ news) = ⊥
+AreLowered (old ∷ olds) [] = ⊥
+AreLowered (old ∷ olds) (new ∷ news) = (new.sent ≤ old.sent) × (new ≡ record old { sent = new.sent }) × AreLowered olds news

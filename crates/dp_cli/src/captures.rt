@@ -1,14 +1,16 @@
 //! The captures of a pipeline: opened before its run, written out behind it.
 
-ghost use Rattle.std.specs.Prelude.{◌≡◌, ◌≢◌, ◌≤◌, ◌⊎◌, IfOk, length};
-ghost use Rattle.dp_cli.specs.Told.{IsTold};
+ghost use Rattle.std.specs.Prelude.{◌≡◌, ◌≤◌, Ok, Err, IfOk, IfErr, IfNone, length};
+ghost use Rattle.dp_pipe.specs.Running.{report_of, answer_of};
+ghost use Rattle.dp_cli.specs.Run.{AreLowered};
 
-use crate::fault::{DONE, FAULT, Fault, tell_fault};
+use crate::fault::Fault;
 use crate::files::ReadFault;
 use crate::guarded::Guarded;
 use crate::one::Naming;
+use dp_engine::{PortReport, Report};
 use dp_pcap::{OfBufReader, OfBufWriter};
-use dp_pipe::Pipeline;
+use dp_pipe::{Pipeline, RunCause, RunFault};
 use std::alloc::Global;
 use std::fs;
 use std::io::{BufReader, BufWriter, Read, Write};
@@ -87,38 +89,73 @@ pub fn create_outputs<'a, R: Files>(
     Ok(outputs)
 }
 
-/// Writes out what stands in the buffer of an output, and answers the status of the run, or that of a write that fails where all
-/// was done until then, which is told.
-fn flush_output<F: Write + Drop, E: Write>(
-    output: Output<F>,
-    port: u8,
-    status: u8,
-    err: &mut E,
-) -> u8
-    ensures told { (result ≡ status) ⊎ IsTold FAULT result }
-    ensures kept { status ≢ DONE → (result ≡ status) × (err.new ≡ err.old) }
-{
+/// Writes out what stands in the buffer of an output. Where that fails: how many of its records the file took whole.
+fn write_out<F: Write + Drop>(output: Output<F>) -> Option<u64> {
     let mut writer = output.into_inner();
     match writer.flush() {
-        Err(_) if status == DONE => tell_fault(err, Fault::Output { port }),
-        _ => status,
+        Ok(()) => None,
+        Err(_) => Some(writer.get_ref().records()),
     }
 }
 
-/// Writes out what stands in the buffers of all outputs, in port order, and answers the status of the run, or that of the first that
-/// fails where all was done until then, which is told.
-pub fn flush_outputs<F: Write + Drop, E: Write>(
-    outputs: Vec<Output<F>>,
-    status: u8,
-    err: &mut E,
-) -> u8
-    requires { length outputs.items ≤ 8 }
-    ensures told { (result ≡ status) ⊎ IsTold FAULT result }
-    ensures kept { status ≢ DONE → (result ≡ status) × (err.new ≡ err.old) }
+/// A port has sent no more records than these.
+#[tactic(auto, using(crate::proofs::Lowering::lowered_none, crate::proofs::Lowering::lowered_at))]
+fn lower(ports: &mut [PortReport], port: usize, whole: u64)
+    ensures { AreLowered ports.old ports.new }
 {
-    let mut status = status;
-    for (port, output) in (0..8).zip(outputs) {
-        status = flush_output(output, port, status, err);
+    if port < ports.len() {
+        ports[port].sent = ports[port].sent.min(whole);
     }
-    status
+}
+
+/// Writes out what stands in the buffers of all outputs, in port order. A port whose file does not take it all has sent the records
+/// that the file took whole, and no more. Answers the first such port.
+#[tactic(auto, using(crate::proofs::Lowering::lowered_none, crate::proofs::Lowering::lowered_more))]
+fn write_out_all<F: Write + Drop>(outputs: Vec<Output<F>>, ports: &mut [PortReport]) -> Option<u8>
+    requires { length outputs.items ≤ 8 }
+    ensures lowered { AreLowered ports.old ports.new }
+    ensures whole { IfNone result (ports.new ≡ ports.old) }
+{
+    let mut failed = None;
+    for (port, output) in (0..8u8).zip(outputs) {
+        if let Some(whole) = write_out(output) {
+            lower(ports, usize::from(port), whole);
+            if failed.is_none() {
+                failed = Some(port);
+            }
+        }
+    }
+    failed
+}
+
+/// Writes out what stands in the buffers of a run's outputs, before the run is told of: what it answered, where each file took all;
+/// else a run that stopped, at the first file that did not where it had come to its end, and with as many records sent by each port
+/// as its file took whole.
+pub fn settle<F: Write + Drop>(
+    outputs: Vec<Output<F>>,
+    answer: Result<Report, RunFault>,
+) -> Result<Report, RunFault>
+    requires { length outputs.items ≤ 8 }
+    ensures whole { IfOk result (λ report. answer ≡ Ok report) }
+    ensures cause { IfErr answer (λ fault. answer_of result ≡ Err fault.cause) }
+    ensures lowered { AreLowered (report_of answer).ports.items (report_of result).ports.items }
+{
+    match answer {
+        Ok(report) => {
+            let mut report = report;
+            match write_out_all(outputs, report.ports.as_mut_slice()) {
+                None => Ok(report),
+                Some(port) => Err(RunFault {
+                    cause: RunCause::Out(port),
+                    report,
+                }),
+            }
+        }
+        Err(fault) => {
+            let RunFault { cause, report } = fault;
+            let mut report = report;
+            let _failed = write_out_all(outputs, report.ports.as_mut_slice());
+            Err(RunFault { cause, report })
+        }
+    }
 }

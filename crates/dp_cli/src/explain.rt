@@ -6,7 +6,9 @@ ghost use Rattle.dp_check.specs.Faults.{question};
 ghost use Rattle.dp_cli.specs.Judging.{asked_node, accepted_text, entry_at, IsVerdict, IsNodeTold, EndedAt, AreAllTold, IsToldAt, IsPipelineTold};
 ghost use Rattle.dp_cli.specs.Told.{IsTold};
 
-use crate::fault::{DONE, Fault, REFUSED, USAGE, tell, tell_fault, tell_if_memory, tell_unloaded};
+use crate::fault::{
+    DONE, Fault, REFUSED, USAGE, tell, tell_fault, tell_if_memory, tell_unloaded, tell_usage,
+};
 use crate::judged::{Asked, Judged, asked_of, judge};
 use crate::reasons::{HintText, KnownText, RuleText, WantedText};
 use dp_check::{Diagnosis, diagnose};
@@ -188,11 +190,7 @@ pub fn tell_no_node<E: Write>(node: Entry, err: &mut E) -> u8
     ensures { IsTold USAGE result }
 {
     let name = NodeName(node);
-    tell(
-        err,
-        format_args!("error: the pipeline has no {name}"),
-        USAGE,
-    )
+    tell_usage(err, format_args!("error: the pipeline has no {name}"))
 }
 
 /// Explains the node of a pipeline with this entry.

@@ -3,6 +3,7 @@
 use crate::explain::{explain_line, explain_node};
 use crate::judged::Asked;
 use crate::one::one_env;
+use crate::testing::cert_text;
 use dp_model::Entry;
 use dp_pipe::{Listed, NamedBytes};
 use std::alloc::{AllocError, Global};
@@ -117,19 +118,6 @@ const CASES: [Case; 10] = [
         told: "fault: pipeline 6 Asm port 0 line 2 cause 5\n",
     },
 ];
-
-/// The text of a certificate of rows, each without the zeros at its end.
-fn cert_text(alloc: Global, rows: &[&str]) -> Result<Vec<u8>, AllocError> {
-    let mut text = Vec::from_slice(alloc, b"dpv-cert 1\n")?;
-    for row in rows {
-        text.extend_from_slice(row.as_bytes())?;
-        for _ in row.len()..306 {
-            text.push(b'0')?;
-        }
-        text.push(b'\n')?;
-    }
-    Ok(text)
-}
 
 /// A file in memory.
 fn file<'a>(name: &'a str, text: &'a str) -> NamedBytes<'a> {

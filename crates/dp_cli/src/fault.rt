@@ -3,7 +3,7 @@
 ghost use Rattle.std.specs.Prelude.{◌≡◌, ◌≢◌, ◌⊎◌, IfSome, OnErr, OnOk};
 ghost use Rattle.std.specs.Fmt.{with_newline};
 ghost use Rattle.std.specs.Io.KnownBytes.{Appends};
-ghost use Rattle.dp_cli.specs.Told.{IsTold, status_of, status_of_fault};
+ghost use Rattle.dp_cli.specs.Told.{IsTold, TellsMemory, status_of, status_of_fault};
 
 use dp_pipe::PipeError;
 use std::fmt::Display;
@@ -57,6 +57,10 @@ impl Fault<'_> {
 }
 
 impl fmt::Display for Fault<'_> {
+    ghost use Rattle.dp_cli.specs.Told.{text_of_fault};
+
+    ghost output = { text_of_fault };
+
     fn fmt<W: fmt::Write>(&self, f: &mut fmt::Formatter<W>) -> fmt::Result {
         match self {
             Fault::Memory => write!(f, "fault: memory"),
@@ -90,17 +94,33 @@ pub fn tell<W: Write, T: Display + Drop>(to: &mut W, text: T, status: u8) -> u8
     status_of_write(writeln!(to, "{text}"), status)
 }
 
-/// Writes a fault as a line, and answers its status.
+/// Writes a fault as a line, and answers its status, or 3 where it cannot be written. So with 4 it was told that memory ran out.
 pub fn tell_fault<W: Write>(to: &mut W, fault: Fault<'_>) -> u8
-    ensures { IsTold (status_of_fault fault.entry) result }
+    ensures status { IsTold (status_of_fault fault.entry) result }
+    ensures memory { result ≡ MEMORY → TellsMemory (W.contents to.old) (W.contents to.new) }
 {
-    tell(to, fault, fault.status())
+    match writeln!(to, "{fault}") {
+        Ok(()) => fault.status(),
+        Err(_) => FAULT,
+    }
+}
+
+/// Writes what is wrong with the words of the command line as a line, and answers the status, or 3 where it cannot be written.
+pub fn tell_usage<W: Write, T: Display + Drop>(to: &mut W, text: T) -> u8
+    ensures status { IsTold USAGE result }
+    ensures memory { result ≢ MEMORY }
+{
+    match writeln!(to, "{text}") {
+        Ok(()) => USAGE,
+        Err(_) => FAULT,
+    }
 }
 
 /// The status of what was printed. Where memory ran out, that is told.
 pub fn tell_if_memory<W: Write>(to: &mut W, status: u8) -> u8
     ensures told { IsTold status result }
     ensures silent { status ≢ MEMORY → to.new ≡ to.old }
+    ensures memory { result ≡ MEMORY → TellsMemory (W.contents to.old) (W.contents to.new) }
 {
     if status == MEMORY {
         tell_fault(to, Fault::Memory)
@@ -115,6 +135,7 @@ pub fn tell_unloaded<O: Write, E: Write>(error: PipeError, out: &mut O, err: &mu
     ensures status { IsTold (status_of error) result }
     ensures refused { result ≡ REFUSED → err.new ≡ err.old }
     ensures fault { status_of error ≢ REFUSED → out.new ≡ out.old }
+    ensures memory { result ≡ MEMORY → TellsMemory (E.contents err.old) (E.contents err.new) }
 {
     match error {
         PipeError::Memory => tell_fault(err, Fault::Memory),

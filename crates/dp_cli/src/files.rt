@@ -1,4 +1,4 @@
-//! Files of bounded length, read whole.
+//! Files of bounded length, read whole; and what stands in for standard streams that are closed.
 
 use crate::fault::Fault;
 use std::alloc::{AllocError, Global};
@@ -46,4 +46,22 @@ pub fn read<R: Files>(rt: &R, alloc: Global, name: &str) -> Result<Vec<u8>, Read
         return Err(ReadFault::File);
     }
     Ok(bytes)
+}
+
+/// The null device, read alone: a write to it fails.
+const NOTHING: &str = "/dev/null";
+
+/// Opens the null device, where there is one.
+fn open_nothing<R: Files>(rt: &R) -> Result<Option<R::File>, AllocError> {
+    match fs::open(rt, NOTHING) {
+        Ok(file) => Ok(Some(file)),
+        Err(error) if error.kind() == io::ErrorKind::OutOfMemory => Err(AllocError),
+        Err(_) => Ok(None),
+    }
+}
+
+/// Files to be held to the program's end, one for each standard stream. A file that is opened takes the least number that is free,
+/// so these have the numbers of the streams that are closed, and no capture gets what is printed or told.
+pub fn fill_streams<R: Files>(rt: &R) -> Result<[Option<R::File>; 3], AllocError> {
+    Ok([open_nothing(rt)?, open_nothing(rt)?, open_nothing(rt)?])
 }

@@ -75,7 +75,7 @@ fn bytes_of<F: Files>(
 }
 
 /// A program's text, and the program that it reads as.
-fn program_of<F: Files>(
+pub fn program_of<F: Files>(
     alloc: Global,
     files: &mut F,
     node: Entry,

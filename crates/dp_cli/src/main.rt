@@ -2,11 +2,14 @@
 #![tactic(auto)]
 
 mod captures;
+mod certifying;
 mod explain;
 mod fault;
 mod files;
+mod graph;
 mod guarded;
 mod judged;
+mod listing;
 mod mem;
 mod one;
 mod pipe;
@@ -15,23 +18,26 @@ mod report;
 mod rows;
 mod run;
 mod script;
+mod show;
 mod words;
 
 ghost use Rattle.std.specs.Prelude.{IfOk};
 ghost use Rattle.dp_engine.specs.Engines.{IsAscending};
 
-use captures::{create_outputs, flush_outputs, open_inputs};
+use captures::{create_outputs, open_inputs, settle};
+use certifying::infer_node;
 use clap::ArgMatches;
 use clap::error::ErrorKind;
 use dp_model::Entry;
-use dp_pipe::{How, Pipeline};
+use dp_pipe::{How, Pipeline, run};
 use explain::{explain_line, explain_node};
-use fault::{DONE, FAULT, Fault, USAGE, tell, tell_fault};
+use fault::{DONE, FAULT, Fault, USAGE, tell_fault, tell_usage};
 use judged::Asked;
 use mem::mem_line;
 use one::{Naming, ONE_PORT, OneFiles, one_env};
 use pipe::{HostFiles, check_line, infer_line, load_line};
-use run::run_line;
+use run::tell_run;
+use show::{Form, show_line, show_node};
 use std::alloc::Global;
 use std::io;
 use std::process::ExitCode;
@@ -105,10 +111,9 @@ fn check_file<R: Files + Print, E: io::Write>(
 
 /// Tells that a word names no node.
 fn tell_no_node<E: io::Write>(err: &mut E, which: &str) -> u8 {
-    tell(
+    tell_usage(
         err,
         format_args!("error: '{which}' names no node: port or ring, and one digit"),
-        USAGE,
     )
 }
 
@@ -160,6 +165,27 @@ fn explain_file<R: Files + Print, E: io::Write>(
     }
 }
 
+/// Prints the certificate of a program by itself.
+fn infer_program<R: Files + Print, E: io::Write>(
+    rt: &R,
+    alloc: Global,
+    words: &ArgMatches<'_>,
+    err: &mut E,
+) -> u8 {
+    infer_node(
+        alloc,
+        &mut HostFiles {
+            rt,
+            naming: Naming::AsTheyStand,
+        },
+        &one_env(),
+        Entry::Port(0),
+        word(words, "NODE"),
+        &mut io::writer(rt),
+        err,
+    )
+}
+
 /// A program by itself, for the one port of `dpv one`.
 fn asked_one<'a>(words: &ArgMatches<'a>) -> Asked<'a> {
     Asked {
@@ -189,6 +215,65 @@ fn explain_one<R: Files + Print, E: io::Write>(
     )
 }
 
+/// How a program is to be shown.
+fn form_in(words: &ArgMatches<'_>) -> Form {
+    if words.get_flag("dot") {
+        Form::Graph
+    } else {
+        Form::Listing
+    }
+}
+
+/// Shows a program of a pipeline file.
+fn show_file<R: Files + Print, E: io::Write>(
+    rt: &R,
+    alloc: Global,
+    words: &ArgMatches<'_>,
+    err: &mut E,
+) -> u8 {
+    let which = word(words, "WHICH");
+    let Some(node) = node_named(which) else {
+        return tell_no_node(err, which);
+    };
+    let file = word(words, "FILE");
+    match files::read(rt, alloc, file) {
+        Ok(text) => show_line(
+            alloc,
+            text.as_slice(),
+            &mut HostFiles {
+                rt,
+                naming: Naming::AsTheyStand,
+            },
+            node,
+            form_in(words),
+            &mut io::writer(rt),
+            err,
+        ),
+        Err(fault) => tell_fault(err, fault.of_file(file)),
+    }
+}
+
+/// Shows a program by itself.
+fn show_one<R: Files + Print, E: io::Write>(
+    rt: &R,
+    alloc: Global,
+    words: &ArgMatches<'_>,
+    err: &mut E,
+) -> u8 {
+    show_node(
+        alloc,
+        &mut HostFiles {
+            rt,
+            naming: Naming::AsTheyStand,
+        },
+        &one_env(),
+        asked_one(words),
+        form_in(words),
+        &mut io::writer(rt),
+        err,
+    )
+}
+
 /// An operand of a command, which asks for it.
 fn word<'a>(words: &ArgMatches<'a>, name: &str) -> &'a str {
     words.get_str(name).unwrap_or("")
@@ -203,19 +288,18 @@ fn refused_in<E: io::Write>(alloc: Global, list: Option<&str>, err: &mut E) -> R
     };
     match numbers_in(alloc, list) {
         Ok(Some(pattern)) => Ok(pattern),
-        Ok(None) => Err(tell(
+        Ok(None) => Err(tell_usage(
             err,
             format_args!(
                 "error: '{list}' is no list: numbers from 1 on, each above the one before it, joined by commas"
             ),
-            USAGE,
         )),
         Err(_) => Err(tell_fault(err, Fault::Memory)),
     }
 }
 
 /// Runs a pipeline: opens the captures that it reads, makes those that it writes, and writes out at the end what their buffers
-/// hold.
+/// hold, before it tells of the run.
 fn run_pipeline<R: Files + Print, E: io::Write>(
     rt: &R,
     alloc: Global,
@@ -234,16 +318,14 @@ fn run_pipeline<R: Files + Print, E: io::Write>(
         Ok(outputs) => outputs,
         Err(fault) => return tell_fault(err, fault),
     };
-    let status = run_line(
+    let answer = run(
         alloc,
         pipeline,
         inputs.as_mut_slice(),
         outputs.as_mut_slice(),
         pattern,
-        &mut io::writer(rt),
-        err,
     );
-    flush_outputs(outputs, status, err)
+    tell_run(settle(outputs, answer), &mut io::writer(rt), err)
 }
 
 /// Runs the pipeline of a file.
@@ -293,8 +375,11 @@ fn run_command<R: Files + Print, E: io::Write>(
         Some(("one", words)) => run_one_port(rt, alloc, words, err),
         Some(("check", words)) => check_file(rt, alloc, words, err),
         Some(("infer", words)) => infer_file(rt, alloc, words, err),
+        Some(("infer-one", words)) => infer_program(rt, alloc, words, err),
         Some(("explain", words)) => explain_file(rt, alloc, words, err),
         Some(("explain-one", words)) => explain_one(rt, alloc, words, err),
+        Some(("show", words)) => show_file(rt, alloc, words, err),
+        Some(("show-one", words)) => show_one(rt, alloc, words, err),
         Some(("run", words)) => run_file(rt, alloc, words, err),
         Some(("mem", words)) => run_script(rt, alloc, word(words, "FILE"), err),
         _ => USAGE,
@@ -305,6 +390,9 @@ fn main(rt: HostRuntime) -> ExitCode {
     let alloc = rt.alloc();
     let stderr = rt.stderr();
     let mut err = io::writer(&stderr);
+    let Ok(_streams) = files::fill_streams(&rt) else {
+        return ExitCode::from(tell_fault(&mut err, Fault::Memory));
+    };
     let Ok(given) = std::env::args(&rt) else {
         return ExitCode::from(tell_fault(&mut err, Fault::Memory));
     };
@@ -322,11 +410,15 @@ fn main(rt: HostRuntime) -> ExitCode {
 }
 
 #[cfg(test)]
+mod certifying_tests;
+#[cfg(test)]
 mod explain_tests;
 #[cfg(test)]
 mod pipe_tests;
 #[cfg(test)]
 mod run_tests;
+#[cfg(test)]
+mod show_tests;
 #[cfg(test)]
 mod testing;
 #[cfg(test)]

@@ -6,14 +6,12 @@ ghost use Rattle.dp_cert.specs.Spelling.{Certificate, spelling};
 ghost use Rattle.dp_check.specs.Faults.{IsWith};
 ghost use Rattle.dp_pipe.specs.Loads.{IsLoadedFrom};
 ghost use Rattle.dp_cli.specs.Pipe as spec;
-ghost use Rattle.dp_cli.specs.Told.{IsTold};
+ghost use Rattle.dp_cli.specs.Told.{IsTold, TellsMemory};
 
-use crate::fault::{
-    DONE, Fault, USAGE, status_of_write, tell, tell_fault, tell_if_memory, tell_unloaded,
-};
+use crate::certifying::print_cert;
+use crate::fault::{DONE, MEMORY, USAGE, tell, tell_if_memory, tell_unloaded, tell_usage};
 use crate::files::{self, ReadFault};
 use crate::one::Naming;
-use dp_cert::encode;
 use dp_check::Checked;
 use dp_model::Entry;
 use dp_pipe::{FetchFault, Files, How, NodeName, Pipeline, load};
@@ -59,6 +57,7 @@ pub fn load_line<F: Files, O: Write, E: Write>(
     ensures silent { OnOk result ((out.new ≡ out.old) × (err.new ≡ err.old)) }
     ensures fails { IfErr result (spec.IsFaultTold (F.known files.old) how text.now) }
     ensures stays { F.known files.new ≡ F.known files.old }
+    ensures memory { IfErr result (λ status. status ≡ MEMORY → TellsMemory (E.contents err.old) (E.contents err.new)) }
 {
     match load(alloc, text, files, how) {
         Ok(pipeline) => Ok(pipeline),
@@ -71,6 +70,7 @@ pub fn check_line<O: Write, E: Write>(pipeline: &Pipeline, out: &mut O, err: &mu
     ensures status { IsTold DONE result }
     ensures printed { result ≡ DONE → Appends (O.contents out.old) (O.contents out.new) (spec.accepted_lines pipeline.now.nodes) }
     ensures silent { result ≡ DONE → err.new ≡ err.old }
+    ensures memory { result ≡ MEMORY → TellsMemory (E.contents err.old) (E.contents err.new) }
 {
     for k in 0..pipeline.nodes() {
         let name = NodeName(pipeline.node(k).entry());
@@ -108,18 +108,11 @@ pub fn infer_line<O: Write, E: Write>(
     ensures printed { result ≡ DONE → IfSome (spec.node_at pipeline.now which) (λ node. (cert : Certificate) → IsWith node cert → Appends (O.contents out.old) (O.contents out.new) (spelling cert)) }
     ensures silent { result ≡ DONE → err.new ≡ err.old }
     ensures nothing { IfNone (spec.node_at pipeline.now which) (out.new ≡ out.old) }
+    ensures memory { result ≡ MEMORY → TellsMemory (E.contents err.old) (E.contents err.new) }
 {
     let Some(node) = node_at(pipeline, which) else {
         let name = NodeName(which);
-        return tell(
-            err,
-            format_args!("error: the pipeline has no {name}"),
-            USAGE,
-        );
+        return tell_usage(err, format_args!("error: the pipeline has no {name}"));
     };
-    let Ok(text) = encode(alloc, node.cert()) else {
-        return tell_fault(err, Fault::Memory);
-    };
-    let status = status_of_write(out.write_all(text.as_slice()), DONE);
-    tell_if_memory(err, status)
+    print_cert(alloc, node.cert(), out, err)
 }

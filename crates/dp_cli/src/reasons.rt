@@ -29,7 +29,7 @@ impl fmt::Display for RuleText {
 }
 
 /// What of a packet is counted.
-fn measure_word(part: Measure) -> &'static str {
+pub fn measure_word(part: Measure) -> &'static str {
     match part {
         Measure::Headroom => "headroom",
         Measure::Tailroom => "tailroom",
@@ -221,7 +221,7 @@ impl fmt::Display for HintText {
                 f,
                 "let dpv infer write the certificate"
             ),
-            Reason::Successor { .. } => write_of_rows(f, self.inferred),
+            Reason::Successor { gap, .. } => write_of_rows(f, gap, self.inferred),
             Reason::NoEntry => write!(f, "name a port or ring that is there"),
             Reason::NoPool { .. } | Reason::NoTable { .. } | Reason::NoRing { .. } => {
                 write!(f, "declare one more in the pipeline, or name another")
@@ -269,17 +269,34 @@ impl fmt::Display for HintText {
 }
 
 /// How what is known after an instruction comes to be enough.
-fn write_of_rows<W: fmt::Write>(f: &mut fmt::Formatter<W>, inferred: bool) -> fmt::Result {
-    if inferred {
-        write!(
-            f,
-            "test or bound it again before control goes there, or leave the loop with what it began with"
-        )
-    } else {
-        write!(
+fn write_of_rows<W: fmt::Write>(
+    f: &mut fmt::Formatter<W>,
+    gap: Gap,
+    inferred: bool,
+) -> fmt::Result {
+    if !inferred {
+        return write!(
             f,
             "let dpv infer write the certificate, or test for more before it"
-        )
+        );
+    }
+    match freed_there(gap) {
+        Some(packet) => write!(
+            f,
+            "free p{packet} before control goes there, where it also comes without it"
+        ),
+        None => write!(
+            f,
+            "test or bound it again before control goes there, or leave the loop with what it began with"
+        ),
+    }
+}
+
+/// The packet register that is to be empty.
+fn freed_there(gap: Gap) -> Option<u8> {
+    match gap {
+        Gap::Packet { packet, wanted, .. } if wanted.is_empty() => Some(packet.number()),
+        _ => None,
     }
 }
 

@@ -1,6 +1,11 @@
 //! What is known of packets and numbers, in words.
 
-use dp_model::Fact;
+ghost use Rattle.std.specs.Prelude.{◌<◌};
+
+use crate::reasons::measure_word;
+use dp_check::Measure;
+use dp_model::{Fact, Row};
+use std::alloc::{AllocError, Global};
 use std::fmt;
 
 /// The share of a packet, in a word or two.
@@ -64,5 +69,228 @@ impl fmt::Display for FactText {
                 write!(f, ", {segs}")
             }
         }
+    }
+}
+
+/// A part of what is known of a packet.
+#[derive(Clone, Copy, Debug, PartialEq, Eq)]
+enum Part {
+    Share(u8),
+    Bytes(Measure, u16),
+    Segments(u8),
+}
+
+impl fmt::Display for Part {
+    fn fmt<W: fmt::Write>(&self, f: &mut fmt::Formatter<W>) -> fmt::Result {
+        match *self {
+            Part::Share(share) => write!(f, "{}", ShareText(share)),
+            Part::Bytes(measure, bytes) => write!(f, "{} {bytes}", measure_word(measure)),
+            Part::Segments(segs) => write!(f, "{}", SegmentsText(segs)),
+        }
+    }
+}
+
+/// The parts of what is known of a packet register, where it holds a packet.
+fn parts_of(fact: Fact) -> Option<[Part; 6]> {
+    match fact {
+        Fact::Empty => None,
+        Fact::Held {
+            share,
+            head,
+            tail,
+            first,
+            last,
+            segs,
+        } => Some([
+            Part::Share(share),
+            Part::Bytes(Measure::Headroom, head),
+            Part::Bytes(Measure::Tailroom, tail),
+            Part::Bytes(Measure::First, first),
+            Part::Bytes(Measure::Last, last),
+            Part::Segments(segs),
+        ]),
+    }
+}
+
+/// Adds the parts that are not as they were, as ` headroom 142, first 0`.
+fn push_changed_parts(
+    out: &mut String,
+    now: &[Part; 6],
+    before: &[Part; 6],
+) -> Result<(), AllocError> {
+    let mut mark = " ";
+    for k in 0..6 {
+        if now[k] != before[k] {
+            let part = now[k];
+            write!(out, "{mark}{part}")?;
+            mark = ", ";
+        }
+    }
+    Ok(())
+}
+
+/// Adds what is known of a register behind its name: what is not as it was, where a packet was in it and is.
+fn push_fact(out: &mut String, now: Fact, before: Fact) -> Result<(), AllocError> {
+    if let Some(parts) = parts_of(now) {
+        if let Some(others) = parts_of(before) {
+            return push_changed_parts(out, &parts, &others);
+        }
+    }
+    let fact = FactText(now);
+    write!(out, " {fact}")
+}
+
+/// Adds what is known of the packet registers that are not as they were, with a mark between two.
+fn push_facts(
+    out: &mut String,
+    now: &[Fact; 8],
+    before: &[Fact; 8],
+    mark: &str,
+) -> Result<(), AllocError> {
+    for k in 0..8 {
+        if now[k] != before[k] {
+            push_mark(out, mark)?;
+            write!(out, "p{k}")?;
+            push_fact(out, now[k], before[k])?;
+        }
+    }
+    Ok(())
+}
+
+/// Adds the mark between two phrases, where one stands there already.
+fn push_mark(out: &mut String, mark: &str) -> Result<(), AllocError> {
+    if out.is_empty() {
+        Ok(())
+    } else {
+        out.push_str(mark)
+    }
+}
+
+/// The last of the registers from this one on of which the same is said.
+fn last_alike(said: &[Option<u64>; 8], first: usize) -> usize
+    requires { first < 8 }
+{
+    let mut last = first;
+    for next in first..8 {
+        if said[next] != said[first] {
+            return last;
+        }
+        last = next;
+    }
+    last
+}
+
+/// Whether something is said of a register that is not said of the one before.
+fn begins(said: &[Option<u64>; 8], register: usize) -> bool
+    requires { register < 8 }
+{
+    said[register].is_some() && (register == 0 || said[register - 1] != said[register])
+}
+
+/// Adds the greatest value of registers, as `r0 <= 5`, `r1-r7 <= 0` or `r2 any`.
+fn push_bound(
+    out: &mut String,
+    first: usize,
+    last: usize,
+    greatest: u64,
+) -> Result<(), AllocError> {
+    write!(out, "r{first}")?;
+    if last > first {
+        write!(out, "-r{last}")?;
+    }
+    if greatest == u64::MAX {
+        write!(out, " any")
+    } else {
+        write!(out, " <= {greatest}")
+    }
+}
+
+/// Adds what is said of number registers, those with the same greatest value together, with a mark between two.
+fn push_bounds(out: &mut String, said: &[Option<u64>; 8], mark: &str) -> Result<(), AllocError> {
+    for first in 0..8 {
+        if begins(said, first) {
+            push_mark(out, mark)?;
+            let greatest = said[first].unwrap_or(u64::MAX);
+            push_bound(out, first, last_alike(said, first), greatest)?;
+        }
+    }
+    Ok(())
+}
+
+/// The greatest values that are known.
+fn known_bounds(bounds: &[u64; 8]) -> [Option<u64>; 8] {
+    let mut said = [None; 8];
+    for k in 0..8 {
+        if bounds[k] != u64::MAX {
+            said[k] = Some(bounds[k]);
+        }
+    }
+    said
+}
+
+/// The greatest values that are not as they were.
+fn changed_bounds(bounds: &[u64; 8], before: &[u64; 8]) -> [Option<u64>; 8] {
+    let mut said = [None; 8];
+    for k in 0..8 {
+        if bounds[k] != before[k] {
+            said[k] = Some(bounds[k]);
+        }
+    }
+    said
+}
+
+/// All that a row says, with a mark between two registers: `p0 sole, headroom 128, at most 1 segment; r0-r7 <= 0`. Registers of
+/// which nothing is known are left out.
+///
+/// # Errors
+///
+/// `AllocError` where a growth was refused.
+pub fn row_text(alloc: Global, row: &Row, mark: &str) -> Result<String, AllocError> {
+    let mut out = String::new(alloc);
+    if !row.live {
+        out.push_str("never reached")?;
+        return Ok(out);
+    }
+    push_facts(&mut out, &row.facts, &[Fact::Empty; 8], mark)?;
+    push_bounds(&mut out, &known_bounds(&row.bounds), mark)?;
+    if out.is_empty() {
+        out.push_str("nothing known")?;
+    }
+    Ok(out)
+}
+
+/// What a row says otherwise than the one before, behind a `+`; or `as before`.
+fn change_text(alloc: Global, row: &Row, before: &Row) -> Result<String, AllocError> {
+    let mut changes = String::new(alloc);
+    push_facts(&mut changes, &row.facts, &before.facts, "; ")?;
+    push_bounds(
+        &mut changes,
+        &changed_bounds(&row.bounds, &before.bounds),
+        "; ",
+    )?;
+    if changes.is_empty() {
+        changes.push_str("as before")?;
+        return Ok(changes);
+    }
+    format!(in alloc; "+ {changes}")
+}
+
+/// What a row says: as far as it differs from the one before, behind a `+`, where that is no longer; else all of it.
+///
+/// # Errors
+///
+/// `AllocError` where a growth was refused.
+pub fn row_after(alloc: Global, row: &Row, before: Option<&Row>) -> Result<String, AllocError> {
+    let whole = row_text(alloc, row, "; ")?;
+    match before {
+        Some(before) if before.live && row.live => {
+            let change = change_text(alloc, row, before)?;
+            if change.len() <= whole.len() {
+                Ok(change)
+            } else {
+                Ok(whole)
+            }
+        }
+        _ => Ok(whole),
     }
 }

@@ -1,13 +1,13 @@
 //! `dpv run`: a pipeline, from captures to captures.
 
-ghost use Rattle.std.specs.Prelude.{◌≡◌, ◌≢◌, length, map, OnOk};
+ghost use Rattle.std.specs.Prelude.{◌≡◌, length, map, IfOk};
 ghost use Rattle.std.specs.Io.KnownBytes.{Appends};
 ghost use Rattle.dp_engine.specs.Engines.{IsAscending};
 ghost use Rattle.dp_cli.specs.Report.{report_text};
-ghost use Rattle.dp_cli.specs.Run.{IsRunTold, status_of_cause};
-ghost use Rattle.dp_cli.specs.Told.{IsTold, status_of_fault};
+ghost use Rattle.dp_cli.specs.Run.{IsRunTold, status_of_cause, status_of_run};
+ghost use Rattle.dp_cli.specs.Told.{IsTold, TellsMemory, status_of_fault};
 
-use crate::fault::{DONE, Fault, status_of_write, tell_fault, tell_if_memory};
+use crate::fault::{DONE, Fault, MEMORY, status_of_write, tell_fault, tell_if_memory};
 use crate::report::print_report;
 use dp_engine::Report;
 use dp_pcap::{Feed, Sink};
@@ -35,6 +35,7 @@ fn tell_report<O: Write, E: Write>(report: &Report, out: &mut O, err: &mut E) ->
     ensures status { IsTold DONE result }
     ensures printed { result ≡ DONE → Appends (O.contents out.old) (O.contents out.new) (report_text report.now) }
     ensures silent { result ≡ DONE → err.new ≡ err.old }
+    ensures memory { result ≡ MEMORY → TellsMemory (E.contents err.old) (E.contents err.new) }
 {
     let status = status_of_write(print_report(report, out), DONE);
     tell_if_memory(err, status)
@@ -42,7 +43,8 @@ fn tell_report<O: Write, E: Write>(report: &Report, out: &mut O, err: &mut E) ->
 
 /// Tells of a run that stopped, and answers the status: its report on `out`, but for want of memory, and then the fault on `err`.
 fn tell_stopped<O: Write, E: Write>(fault: RunFault, out: &mut O, err: &mut E) -> u8
-    ensures { IsTold (status_of_cause fault.cause) result }
+    ensures status { IsTold (status_of_cause fault.cause) result }
+    ensures memory { result ≡ MEMORY → TellsMemory (E.contents err.old) (E.contents err.new) }
 {
     let RunFault { cause, report } = fault;
     if cause != RunCause::Memory {
@@ -52,6 +54,23 @@ fn tell_stopped<O: Write, E: Write>(fault: RunFault, out: &mut O, err: &mut E) -
         }
     }
     tell_fault(err, fault_of(cause))
+}
+
+/// Tells what a run answered: prints the report, also of a run that stopped, and then tells why it did; answers the status.
+pub fn tell_run<O: Write, E: Write>(
+    answer: Result<Report, RunFault>,
+    out: &mut O,
+    err: &mut E,
+) -> u8
+    ensures status { IsTold (status_of_run answer) result }
+    ensures printed { result ≡ DONE → IfOk answer (λ report. Appends (O.contents out.old) (O.contents out.new) (report_text report)) }
+    ensures silent { result ≡ DONE → err.new ≡ err.old }
+    ensures memory { result ≡ MEMORY → TellsMemory (E.contents err.old) (E.contents err.new) }
+{
+    match answer {
+        Ok(report) => tell_report(&report, out, err),
+        Err(fault) => tell_stopped(fault, out, err),
+    }
 }
 
 /// Runs a pipeline from captures to captures, one reader and one writer for each port, with these allocation calls refused.
@@ -70,9 +89,7 @@ pub fn run_line<R: Feed, W: Sink, O: Write, E: Write>(
     requires pattern { IsAscending 0 pattern.items }
     ensures told { IsRunTold pipeline pattern.items (map R.remaining ins.old) (map R.remaining ins.new) (map W.contents outs.old) (map W.contents outs.new) (O.contents out.old) (O.contents out.new) result }
     ensures silent { result ≡ DONE → err.new ≡ err.old }
+    ensures memory { result ≡ MEMORY → TellsMemory (E.contents err.old) (E.contents err.new) }
 {
-    match run(alloc, pipeline, ins, outs, pattern) {
-        Ok(report) => tell_report(&report, out, err),
-        Err(fault) => tell_stopped(fault, out, err),
-    }
+    tell_run(run(alloc, pipeline, ins, outs, pattern), out, err)
 }

@@ -73,6 +73,19 @@ pub fn joined(alloc: Global, parts: &[&[u8]]) -> Result<Vec<u8>, AllocError> {
     Ok(bytes)
 }
 
+/// The text of a certificate of rows, each without the zeros at its end.
+pub fn cert_text(alloc: Global, rows: &[&str]) -> Result<Vec<u8>, AllocError> {
+    let mut text = Vec::from_slice(alloc, b"dpv-cert 1\n")?;
+    for row in rows {
+        text.extend_from_slice(row.as_bytes())?;
+        for _ in row.len()..306 {
+            text.push(b'0')?;
+        }
+        text.push(b'\n')?;
+    }
+    Ok(text)
+}
+
 /// The first n bytes, or all where there are fewer.
 pub fn front(bytes: &[u8], n: usize) -> &[u8] {
     if n <= bytes.len() { &bytes[..n] } else { bytes }

@@ -3,7 +3,9 @@
 use crate::mem::mem_line;
 use crate::one::ONE_PORT;
 use crate::pipe::{infer_line, load_line};
-use crate::testing::{Devices, Ended, HEADER, NONE, Ran, WHOLE, file, front, joined, run_on};
+use crate::testing::{
+    Devices, Ended, HEADER, NONE, Ran, WHOLE, cert_text, file, front, joined, run_on,
+};
 use dp_model::Entry;
 use dp_pipe::{How, Listed};
 use std::alloc::{AllocError, Global};
@@ -21,19 +23,6 @@ const STRIP_ROWS: [&str; 6] = [
     "010102008000000000000001",
     "01",
 ];
-
-/// The text of a certificate whose lines begin with these digits.
-fn cert_text(alloc: Global, rows: &[&str]) -> Result<Vec<u8>, AllocError> {
-    let mut text = Vec::from_slice(alloc, b"dpv-cert 1\n")?;
-    for row in rows {
-        text.extend_from_slice(row.as_bytes())?;
-        for _ in row.len()..306 {
-            text.push(b'0')?;
-        }
-        text.push(b'\n')?;
-    }
-    Ok(text)
-}
 
 /// A record of the bytes from `first` to 59 at second 1 and microsecond 2.
 fn record(alloc: Global, first: u8) -> Result<Vec<u8>, AllocError> {

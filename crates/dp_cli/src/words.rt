@@ -8,7 +8,7 @@ ghost use Rattle.dp_model.specs.declared.env.Entry.{Entry};
 ghost use Rattle.dp_cli.specs.Words as spec;
 ghost use Rattle.dp_cli.specs.Words.{place_of, word_of};
 
-use clap::{Arg, Command};
+use clap::{Arg, ArgAction, Command};
 use dp_model::Entry;
 use std::alloc::{AllocError, Global};
 
@@ -43,15 +43,29 @@ fn check<'a>(alloc: Global) -> Result<Command<'a>, AllocError> {
         .arg(file(alloc, "the pipeline file"))
 }
 
+/// The operand WHICH.
+fn needed_which<'a>(alloc: Global) -> Arg<'a> {
+    Arg::new(alloc, "WHICH")
+        .required(true)
+        .help("the node: port or ring, and one digit, as port0")
+}
+
 /// `dpv infer FILE WHICH`.
 fn infer<'a>(alloc: Global) -> Result<Command<'a>, AllocError> {
-    let which = Arg::new(alloc, "WHICH")
-        .required(true)
-        .help("the node: port or ring, and one digit, as port0");
     Command::new(alloc, "infer")
         .about("Prints the certificate of a program of a pipeline, all inferred")
         .arg(file(alloc, "the pipeline file"))?
-        .arg(which)
+        .arg(needed_which(alloc))
+}
+
+/// `dpv infer-one NODE`.
+fn infer_one<'a>(alloc: Global) -> Result<Command<'a>, AllocError> {
+    let node = Arg::new(alloc, "NODE")
+        .required(true)
+        .help("the node program");
+    Command::new(alloc, "infer-one")
+        .about("Prints the certificate of one program, inferred for the port of one")
+        .arg(node)
 }
 
 /// The operand WHICH, which may be left out.
@@ -84,6 +98,31 @@ fn explain_one<'a>(alloc: Global) -> Result<Command<'a>, AllocError> {
     of_one(alloc, explain)
 }
 
+/// The option `--dot`.
+fn dot<'a>(alloc: Global) -> Arg<'a> {
+    Arg::new(alloc, "dot")
+        .long("dot")
+        .action(ArgAction::SetTrue)
+        .help("prints a graph for dot, as dot -Tsvg draws it")
+}
+
+/// `dpv show FILE WHICH [--dot]`.
+fn show<'a>(alloc: Global) -> Result<Command<'a>, AllocError> {
+    Command::new(alloc, "show")
+        .about("Prints a program of a pipeline with what is known before each instruction")
+        .arg(file(alloc, "the pipeline file"))?
+        .arg(needed_which(alloc))?
+        .arg(dot(alloc))
+}
+
+/// `dpv show-one NODE [CERT] [--dot]`.
+fn show_one<'a>(alloc: Global) -> Result<Command<'a>, AllocError> {
+    let show = Command::new(alloc, "show-one").about(
+        "Prints one program, on the port of one, with what is known before each instruction",
+    );
+    of_one(alloc, show)?.arg(dot(alloc))
+}
+
 /// `dpv run FILE [--refuse LIST]`.
 fn run<'a>(alloc: Global) -> Result<Command<'a>, AllocError> {
     let refuse = Arg::new(alloc, "refuse")
@@ -113,8 +152,11 @@ pub fn command<'a>(alloc: Global) -> Result<Command<'a>, AllocError> {
         .subcommand(one(alloc)?)?
         .subcommand(check(alloc)?)?
         .subcommand(infer(alloc)?)?
+        .subcommand(infer_one(alloc)?)?
         .subcommand(explain(alloc)?)?
         .subcommand(explain_one(alloc)?)?
+        .subcommand(show(alloc)?)?
+        .subcommand(show_one(alloc)?)?
         .subcommand(run(alloc)?)?
         .subcommand(mem(alloc)?)
 }

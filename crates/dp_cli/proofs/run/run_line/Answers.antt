@@ -1,13 +1,14 @@
--- A run that stopped.
-use Rattle.std.proofs.Common.{Err, ap, map}
+-- What a run answered was told.
+use Rattle.std.proofs.Common.{ap, map}
+use Rattle.dp_cli.proofs.Endings.{if_err}
 use Rattle.dp_cli.proofs.run.run_line.Goals as goal
 
-pub returns-in-Err-clause-told : goal.returns-in-Err-clause-told
-returns-in-Err-clause-told g c = record {
-  answer = Err c.in-Err.fault;
-  answers = c.in-Err.ensures.answers;
-  free = c.in-Err.ensures.free;
-  untouched = λ early. let same = c.in-Err.ensures.untouched early in (ap (map g.R.Feed.remaining) same.0, ap (map g.W.Sink.contents) same.1);
-  told = c.tell_stopped.ensures;
-  printed = λ _. tt;
+pub returns-clause-told : goal.returns-clause-told
+returns-clause-told g c = record {
+  answer = c.run.result;
+  answers = c.run.ensures.answers;
+  free = c.run.ensures.free;
+  untouched = if_err c.run.result _ _ (λ fault same early. (ap (map g.R.Feed.remaining) (same early).0, ap (map g.W.Sink.contents) (same early).1)) c.run.ensures.untouched;
+  told = c.tell_run.ensures.status;
+  printed = c.tell_run.ensures.printed;
 }
