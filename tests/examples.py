@@ -35,7 +35,7 @@ def main() -> int:
     with tempfile.TemporaryDirectory() as name:
         folder = pathlib.Path(name) / "examples"
         shutil.copytree(TOP / "examples", folder)
-        passed = [is_as_expected(program, pipeline) for pipeline in sorted(folder.glob("*/*.toml"))]
+        passed = [is_as_expected(program, pipeline) for pipeline in sorted(it for it in folder.glob("*/*.toml") if it.parent.name != "refused")]
     return 0 if passed and all(passed) else 1
 
 

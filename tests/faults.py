@@ -5,7 +5,8 @@ Usage: tests/faults.py [PROGRAM]   (the built program; by default the one that .
 Each case has its own fault and all those that are looked for later: words come first, then the pipeline file, its text and its nodes
 one after the other, of each the program file and its text, then the certificate's, then the check; then a node that is not there, then
 the inputs and then the outputs, in port order, then the run. So the fault that is told shows the order. Then captures that are no plain
-files of their own: an input that is also an output, an output named twice, standard input and output, a full disk.
+files of their own: an input that is also an output, an output named twice, standard input and output, a full disk. Then captures of
+both byte orders and units, and the largest environment, with room and without.
 Prints a line for each case that went another way, and a count; exits with 1 where there is such a case.
 """
 import pathlib
@@ -208,8 +209,8 @@ def run_cases() -> list[Case]:
         "no_header": (3, idle, "fault: input 0 cause 6\n"),
         "no_other_header": (3, idle, "fault: input 1 cause 3\n"),
         "no_bytes": (3, idle, "fault: input 1 cause 8\n"),
-        "full": (3, ran, "fault: output 1\n"),
-        "both_full": (3, ran, "fault: output 0\n"),
+        "full": (3, report((1, 1, "whole"), (2, 0, "whole"), calls=3), "fault: output 1\n"),
+        "both_full": (3, report((1, 0, "whole"), (2, 0, "whole"), calls=3), "fault: output 0\n"),
         "both": (0, ran, ""),
     }
     return [Case(["run", f"{name}.toml"], *end) for name, end in (load_ends() | ends).items()] + [
@@ -231,6 +232,36 @@ def infer_cases() -> list[Case]:
         Case(["infer", "sound.toml", "ring1"], 2, "", "error: the pipeline has no ring 1\n"),
         Case(["infer", "sound.toml", "port0"], 0, cert, ""),
         Case(["infer", "unread.toml", "port0"], 0, cert, ""),
+    ]
+
+
+def looking_cases() -> list[Case]:
+    """Those of the commands that look at one program, or at those of a pipeline."""
+    cert = (STRIP / "strip.cert").read_text()
+    lost = "port 0 not inferred at 0 by J10\n> 0  exit  p0 sole, headroom 128, at most 1 segment; r0-r7 <= 0\n"
+    dropped = "0  tx p0,r0,L2  p0 sole, headroom 128, at most 1 segment; r0-r7 <= 0\n  1  exit         + p0 empty\n"
+    forward = f"port 0 accepted\n  {dropped}  2  free p0      + p0 sole, headroom 128, at most 1 segment\n  3  exit         + p0 empty\n"
+    return [
+        Case(["infer-one", "none"], *node_fault("5 File port 0")),
+        Case(["infer-one", "long.dpv"], *node_fault("5 File port 0")),
+        Case(["infer-one", "bad.dpv"], *node_fault("6 Asm port 0 line 2 cause 5")),
+        Case(["infer-one", "lost.dpv"], 1, "port 0 not inferred at 0 by J10\n", ""),
+        Case(["infer-one", "strip.dpv"], 0, cert, ""),
+        Case(["explain", "none", "port9"], 3, "", "fault: file none\n"),
+        Case(["explain", "text.toml", "port9"], *node_fault("1 NotToml")),
+        Case(["explain", "sound.toml", "port9"], 2, "", "error: the pipeline has no port 9\n"),
+        Case(["explain", "asm.toml", "port0"], *node_fault("6 Asm port 0 line 2 cause 5")),
+        Case(["explain", "second.toml", "port0"], 0, "port 0 accepted\n", ""),
+        Case(["explain-one", "strip.dpv", "bad.cert"], *node_fault("7 BadCert port 0 line 7 cause 2")),
+        Case(["explain-one", "strip.dpv", "strip.cert"], 0, "port 0 accepted\n", ""),
+        Case(["show", "none", "port9"], 3, "", "fault: file none\n"),
+        Case(["show", "text.toml", "port9"], *node_fault("1 NotToml")),
+        Case(["show", "sound.toml", "ring1"], 2, "", "error: the pipeline has no ring 1\n"),
+        Case(["show", "cert_file.toml", "port0"], *node_fault("5 File port 0")),
+        Case(["show", "lost.toml", "port0"], 1, lost, ""),
+        Case(["show-one", "bad.dpv", "none"], *node_fault("6 Asm port 0 line 2 cause 5")),
+        Case(["show-one", "strip.dpv", "none"], *node_fault("5 File port 0")),
+        Case(["show-one", "forward.dpv"], 0, forward, ""),
     ]
 
 
@@ -264,6 +295,7 @@ def cases() -> list[Case]:
         Case(["mem", "script"], 3, "", "fault: line 2 bad command\n"),
         *check_cases(),
         *infer_cases(),
+        *looking_cases(),
         *run_cases(),
     ]
 
@@ -298,9 +330,68 @@ def stream_cases(program: str, folder: pathlib.Path) -> list[bool]:
         holds("twice", (folder / "twice").read_bytes(), TWO),
         ends_so(program, Case(["run", "long_first.toml"], 0, other, ""), folder),
         holds("twice", (folder / "twice").read_bytes(), ONE + TWO[len(ONE):]),
-        # A pipe is read to its end, and has the report in front of what the buffer held.
-        holds("standard output", streams.stdout, sent.encode() + ONE),
+        # A pipe is read to its end, and has the report behind the capture.
+        holds("standard output", streams.stdout, ONE + sent.encode()),
         holds("standard error", streams.stderr, b""),
+    ]
+
+
+def spelled(order: str, magic: int, length: int, record: bytes) -> bytes:
+    """A capture of one record at second 1 and fraction 2, in a byte order."""
+    header = struct.pack(order + "IHHIIII", magic, 2, 4, 0, 0, 262144, 1)
+    return header + struct.pack(order + "IIII", 1, 2, length, length) + record
+
+
+def strips(program: str, folder: pathlib.Path, source: bytes, ends: tuple[int, str, str], target: bytes) -> bool:
+    """Whether strip ends so on a capture, and this is written."""
+    (folder / "source").write_bytes(source)
+    passed = ends_so(program, one("strip.dpv", "strip.cert", "source", "target", ends), folder)
+    return holds("target", (folder / "target").read_bytes(), target) and passed
+
+
+def capture_cases(program: str, folder: pathlib.Path) -> list[bool]:
+    """Captures of both byte orders and units, whose record strip cuts."""
+    record, passed = bytes(range(60)), []
+    sent = OPEN.replace("received 0", "received 1").replace("sent 0 input open", "sent 1 input whole").replace("calls 0", "calls 1")
+    for magic in (0xA1B2C3D4, 0xA1B23C4D):
+        written = spelled("<", magic, 46, record[14:])
+        passed += [strips(program, folder, spelled(order, magic, 60, record), (0, sent, ""), written) for order in "<>"]
+    return passed
+
+
+def needed(pools: list[tuple[int, int]], places: list[int]) -> int:
+    """How many bytes of a region an engine needs: pools of so many buffers of so much room, and rings and lists of so many places."""
+    zones = [count * (128 + -(-room // 64) * 64) for count, room in pools] + [4 << count.bit_length() for count, _ in pools]
+    return sum(64 + -(-zone // 64) * 64 for zone in zones + [4 * count for count in places])
+
+
+def largest(region: int, counts: list[int]) -> str:
+    """A pipeline with as much of everything as there may be; port 7 puts its packets into ring 7, whose program sends them there."""
+    text = f"region = {region}\n" + "".join(f"[[pool]]\ncount = {count}\ncache = 512\nroom = 4096\n" for count in counts)
+    text += 4 * "[[table]]\nrules = 65536\ngroups = 256\nroutes = []\n"
+    text += 8 * (RING.replace("count = 4", "count = 65536") + 'node = "forward.dpv"\n')
+    for k in range(8):
+        program, source = ("queue.dpv" if k == 7 else "forward.dpv"), ("one.pcap" if k in (0, 7) else "empty.pcap")
+        text += f'[[port]]\npool = {k}\nsegs = 64\nqueue = 65536\nnode = "{program}"\nin = "{source}"\nout = "largest{k}"\n'
+    return text
+
+
+def largest_cases(program: str, folder: pathlib.Path) -> list[bool]:
+    """The largest environment in a region of just as many bytes as it needs, and in one of 64 fewer."""
+    counts = 7 * [8191] + [8198]
+    region = needed([(count, 4096) for count in counts], 16 * [65_536])
+    (folder / "queue.dpv").write_text("enq p0,7,d\nexit\nd: free p0\nexit\n")
+    (folder / "empty.pcap").write_bytes(HEADER)
+    (folder / "largest.toml").write_text(largest(region, counts))
+    (folder / "too_large.toml").write_text(largest(region - 64, counts))
+    rest = "".join(f"ring {k} left 0\n" for k in range(8)) + "".join(f"pool {k} free {n} of {n}\n" for k, n in enumerate(counts))
+    line = "port {} received {} nobuf 0 oversize 0 sent {} input {}\n"
+    ran = "".join(line.format(k, int(k in (0, 7)), int(k in (0, 7)), "whole") for k in range(8)) + rest + "calls 2 refused 0\n"
+    idle = "".join(line.format(k, 0, 0, "open") for k in range(8)) + rest + "calls 0 refused 0\n"
+    return [
+        ends_so(program, Case(["run", "largest.toml"], 0, ran, ""), folder),
+        *(holds(f"largest{k}", (folder / f"largest{k}").read_bytes(), ONE if k in (0, 7) else HEADER) for k in range(8)),
+        ends_so(program, Case(["run", "too_large.toml"], 3, idle, "fault: region\n"), folder),
     ]
 
 
@@ -328,13 +419,17 @@ def main() -> int:
         wrong = (["check"], ["check", "none", "more"], ["infer", "none"], ["infer", "none", "port0", "more"])
         passed += [shows_usage(program, list(words), 2, folder) for words in wrong]
         nodes = ("", "port", "port10", "Port0", "ring-1", "ringx", "port0 ", "pool0", "0")
-        passed += [shows_usage(program, ["infer", "none", name], 2, folder) for name in nodes]
+        passed += [shows_usage(program, [command, "none", name], 2, folder) for command in ("infer", "explain", "show") for name in nodes]
+        wrong = (["infer-one"], ["infer-one", "none", "more"], ["explain"], ["explain-one"], ["show", "none"], ["show-one"], ["show-one", "--dots", "none"])
+        passed += [shows_usage(program, list(words), 2, folder) for words in wrong]
         wrong = (["run"], ["run", "none", "more"], ["run", "none", "--refuse"], ["run", "none", "--refuse", "1", "--refuse", "2"])
         passed += [shows_usage(program, list(words), 2, folder) for words in wrong]
         lists = ("", "0", ",", "1,", ",1", "1,,2", "1,1", "2,1", "1, 2", "+1", "-1", "0x1", "one", "18446744073709551616")
         passed += [shows_usage(program, ["run", "none", f"--refuse={name}"], 2, folder) for name in lists]
         passed += [ends_so(program, case, folder) for case in cases()]
         passed += stream_cases(program, folder)
+        passed += capture_cases(program, folder)
+        passed += largest_cases(program, folder)
     print(f"faults: {len(passed)} cases, {passed.count(False)} went another way")
     return 0 if all(passed) else 1
 

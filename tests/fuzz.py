@@ -3,16 +3,19 @@
 
 Usage: tests/fuzz.py [--seed N] [--cases N | --seconds N] [--jobs N] [--only KIND,..] [--keep FOLDER] [PROGRAM]
        tests/fuzz.py --again FOLDER [PROGRAM]
-KIND is one of one, check, infer, mem and run. The same seed makes the same cases, whatever the number of jobs. PROGRAM is by default the one
+KIND is one of one, check, infer, mem and run. The same seed makes the same cases, whatever the number of jobs;
+eight in a row share their programs. PROGRAM is by default the one
 that ./dpv builds and runs.
 
 What a case has to come to is worked out by tests/model from the files alone: the status, what is printed and told, and each byte that is
 written; so the texts are those that docs/ have, outputs are whole captures, and all buffers are free at the end. A fourth of the cases
-run twice, and of pipelines whose pools have a cache a fourth also without: both have to do the same. No case may take more than
-a minute, or 3 GiB of memory. Each finding is kept in a folder of its own: the files, the words, what was expected and what came; `--again`
+run once more, in one of these ways, and have to do the same: as they are; without caches, where pools have some; with reads and writes
+that take a byte or a few each. Or an allocation is refused: then a case does the same, or tells of it with status 4 and has written
+nothing or all. No case may take more than a minute, or 3 GiB of memory. Each finding is kept in a folder of its own: the files, the words, what was expected and what came; `--again`
 tries such a folder once more. Prints a line for each, and a count; exits with 1 where there is a finding.
 """
 import argparse
+import itertools
 import json
 import multiprocessing
 import os
@@ -20,21 +23,25 @@ import pathlib
 import resource
 import shutil
 import signal
+import subprocess
 import sys
 import tempfile
 import time
 from collections import Counter
+from collections.abc import Iterator
 from dataclasses import dataclass, field
 from random import Random
 from typing import NamedTuple
 
-from cases import MAKERS, Case
+from cases import MAKERS, Case, Family
 from model import answers, machine
 from program import built
 
 MOST_SECONDS = 60
 MOST_MEMORY = 3 << 30
 WEIGHTS = {"one": 3, "check": 2, "infer": 2, "mem": 1, "run": 6}
+FAMILY = 8
+HERE = pathlib.Path(__file__).resolve().parent
 
 
 class Ended(NamedTuple):
@@ -54,6 +61,7 @@ class Tally:
 
     cases: Counter[str] = field(default_factory=Counter)
     statuses: Counter[str] = field(default_factory=Counter)
+    again: Counter[str] = field(default_factory=Counter)
     records: int = 0
     findings: int = 0
     seconds: float = 0.0
@@ -63,6 +71,7 @@ class Tally:
         """Adds what another counted."""
         self.cases += other.cases
         self.statuses += other.statuses
+        self.again += other.again
         self.records += other.records
         self.findings += other.findings
         self.seconds, self.memory = max(self.seconds, other.seconds), max(self.memory, other.memory)
@@ -77,11 +86,11 @@ def give_up(_signal: int, _frame: object) -> None:
     raise TooLong
 
 
-def start(program: str, words: list[str]) -> Ended:
+def start(program: str, words: list[str], env: dict[str, str] | None = None) -> Ended:
     """Runs the program in this folder, without what it wrote."""
     write = os.O_WRONLY | os.O_CREAT | os.O_TRUNC
     actions = [(os.POSIX_SPAWN_OPEN, fd, name, write, 0o600) for fd, name in ((1, ".printed"), (2, ".told"))]
-    child = os.posix_spawn(program, ["dpv", *words], os.environ, file_actions=actions)
+    child = os.posix_spawn(program, ["dpv", *words], {**os.environ, **(env or {})}, file_actions=actions)
     signal.setitimer(signal.ITIMER_REAL, MOST_SECONDS)
     try:
         _, status, used = os.wait4(child, 0)
@@ -99,11 +108,11 @@ def written(case: Case) -> dict[str, pathlib.Path]:
     return {name: pathlib.Path(name) for name in names}
 
 
-def try_case(program: str, case: Case) -> Ended:
+def try_case(program: str, case: Case, env: dict[str, str] | None = None) -> Ended:
     """Runs the program in this folder, with what it wrote to files."""
     for old in written(case).values():
         old.unlink()
-    ended = start(program, case.words)
+    ended = start(program, case.words, env)
     return ended._replace(written={name: path.read_bytes() for name, path in written(case).items()})
 
 
@@ -147,20 +156,60 @@ def fault_of(program: str, case: Case, tally: Tally) -> tuple[Ended, str | None]
     return ended, wrong
 
 
-def judge(program: str, case: Case, rng: Random, tally: Tally) -> str | None:
-    """Runs a case, some of them twice, and tells what is wrong with it."""
+def runs_as(program: str, case: Case, ended: Ended, how: str, env: dict[str, str] | None = None) -> str | None:
+    """What is wrong where a case, run once more, does not the same."""
+    again = try_case(program, case, env)
+    return None if again[:4] == ended[:4] else f"another answer {how}: {ended[:3]}, then {again[:3]}"
+
+
+def runs_without_cache(program: str, case: Case, ended: Ended) -> str | None:
+    """What is wrong where a run that went well is another one without caches."""
+    plain = without_cache(case) if case.kind == "run" and ended.status == 0 else None
+    if plain is None:
+        return runs_as(program, case, ended, "the second time")
+    pathlib.Path("it.toml").write_bytes(plain)
+    return runs_as(program, case, ended, "without a cache")
+
+
+def runs_refused(program: str, case: Case, ended: Ended, env: dict[str, str]) -> str | None:
+    """What is wrong where an allocation is refused, and the case neither does the same nor tells of it and wrote nothing or all."""
+    refused = try_case(program, case, env)
+    tells = (refused.status, refused.told) == (4, "fault: memory\n") and ended.printed.startswith(refused.printed)
+    if tells and all(data in (b"", ended.written.get(name)) for name, data in refused.written.items()):
+        return None
+    return None if refused[:4] == ended[:4] else f"allocation {env['REFUSE']} refused: {ended[:3]}, then {refused[:3]}"
+
+
+def runs_once_more(program: str, case: Case, ended: Ended, how: str, number: int, shims: pathlib.Path | None) -> str | None:
+    """What is wrong with a case, run once more: as it is or without caches, with so many bytes a call, or with this allocation refused."""
+    if how == "short" and shims is not None:
+        return runs_as(program, case, ended, f"with {number} bytes a call", {"LD_PRELOAD": str(shims / "short.so"), "MOST": str(number)})
+    if how == "refused" and shims is not None:
+        return runs_refused(program, case, ended, {"LD_PRELOAD": str(shims / "refused.so"), "REFUSE": str(number)})
+    return runs_without_cache(program, case, ended)
+
+
+def judge(program: str, case: Case, rng: Random, tally: Tally, shims: pathlib.Path | None) -> str | None:
+    """Runs a case, some of them once more in another way, and tells what is wrong with it."""
     ended, wrong = fault_of(program, case, tally)
     if wrong or rng.random() < 0.75:
         return wrong
-    twice = try_case(program, case)
-    if twice[:4] != ended[:4]:
-        return f"another answer the second time: {ended[:3]}, then {twice[:3]}"
-    plain = without_cache(case) if case.kind == "run" and ended.status == 0 else None
-    if plain is None:
+    how = rng.choice(("cache", "cache", "short", "refused"))
+    tally.again[how] += 1
+    number = rng.choice((1, 1, 2, 7, 1000)) if how == "short" else int(2 ** (rng.random() * 9))
+    return runs_once_more(program, case, ended, how, number, shims)
+
+
+def put_shims(folder: pathlib.Path) -> pathlib.Path | None:
+    """Builds the libraries that make reads and writes short and refuse allocations; or nothing where there is no C compiler."""
+    compiler = shutil.which("cc") or shutil.which("gcc") or shutil.which("clang")
+    if compiler is None:
+        print("fuzz: short writes and refused allocations NOT TRIED, for want of a C compiler")
         return None
-    pathlib.Path("it.toml").write_bytes(plain)
-    twice = try_case(program, case)
-    return None if twice[:4] == ended[:4] else f"another answer without a cache: {ended[:3]}, then {twice[:3]}"
+    for name in ("short", "refused"):
+        command = [compiler, "-O2", "-shared", "-fPIC", "-o", str(folder / f"{name}.so"), str(HERE / f"{name}.c")]
+        subprocess.run(command, check=True)
+    return folder
 
 
 def put_files(case: Case, folder: pathlib.Path) -> None:
@@ -184,35 +233,55 @@ def keep(case: Case, wrong: str, number: int, seed: str, into: pathlib.Path) -> 
     print(f"{folder}: dpv {' '.join(case.words)}: {wrong[:300]}", flush=True)
 
 
-def made(seed: str, number: int, kinds: list[str]) -> tuple[Case, Random]:
-    """A case, and the generator that made it."""
-    rng = Random(f"{seed} {number}")
-    kind = rng.choices(kinds, [WEIGHTS[kind] for kind in kinds])[0]
-    return MAKERS[kind](rng), rng
+class Maker:
+    """Makes cases by their numbers: those of a family, one behind the other, share their programs."""
+
+    def __init__(self, seed: str, kinds: list[str]) -> None:
+        self.seed, self.kinds = seed, kinds
+        self.last: tuple[int, Family] | None = None
+
+    def family(self, number: int) -> Family:
+        """The family of this number."""
+        if self.last is None or self.last[0] != number:
+            rng = Random(f"{self.seed} {number}")
+            kind = rng.choices(self.kinds, [WEIGHTS[kind] for kind in self.kinds])[0]
+            self.last = number, MAKERS[kind](rng)
+        return self.last[1]
+
+    def case(self, number: int) -> tuple[Case, Random]:
+        """The case of this number, and the generator that made it."""
+        rng = Random(f"{self.seed} case {number}")
+        return self.family(number // FAMILY)(rng), rng
 
 
-def work(asked: argparse.Namespace, first: int, until: float) -> Tally:
-    """Every case whose number is this one plus a multiple of the jobs."""
-    tally, number, home = Tally(), first, os.getcwd()
+def numbers(jobs: int, first: int) -> Iterator[int]:
+    """The cases of each family whose number is this one plus a multiple of the jobs."""
+    return (FAMILY * family + k for family in itertools.count(first, jobs) for k in range(FAMILY))
+
+
+def work(asked: argparse.Namespace, shims: pathlib.Path | None, first: int, until: float) -> Tally:
+    """The cases of one job."""
+    tally, maker, home = Tally(), Maker(asked.seed, asked.only), os.getcwd()
     resource.setrlimit(resource.RLIMIT_AS, (MOST_MEMORY, MOST_MEMORY))
     signal.signal(signal.SIGALRM, give_up)
     shared = "/dev/shm" if os.access("/dev/shm", os.W_OK) else None
     with tempfile.TemporaryDirectory(dir=shared) as name:
         os.chdir(name)
-        while number < asked.cases and time.monotonic() < until:
-            case, rng = made(asked.seed, number, asked.only)
+        for number in numbers(asked.jobs, first):
+            if number >= asked.cases or time.monotonic() >= until:
+                break
+            case, rng = maker.case(number)
             put_files(case, pathlib.Path(name))
-            wrong = judge(asked.program, case, rng, tally)
+            wrong = judge(asked.program, case, rng, tally, shims)
             if wrong:
                 tally.findings += 1
                 keep(case, wrong, number, asked.seed, asked.keep)
-            number += asked.jobs
         os.chdir(home)
     return tally
 
 
-def again(program: str, folder: pathlib.Path) -> int:
-    """Tries a finding once more."""
+def again(program: str, folder: pathlib.Path, shims: pathlib.Path | None) -> int:
+    """Tries a finding once more, in each way."""
     told = json.loads((folder / "case.json").read_text())
     names = [it for it in folder.iterdir() if it.is_file() and it.name not in ("case.json", "finding.txt")]
     case = Case(told["kind"], told["words"], {it.name: it.read_bytes() for it in names}, told["folders"])
@@ -220,7 +289,10 @@ def again(program: str, folder: pathlib.Path) -> int:
     with tempfile.TemporaryDirectory() as name:
         os.chdir(name)
         put_files(case, pathlib.Path(name))
-        wrong = judge(program, case, Random(0), Tally())
+        ended, wrong = fault_of(program, case, Tally())
+        ways = [("short", 1), *(("refused", number) for number in range(1, 100)), ("cache", 0)]
+        for how, number in ways:
+            wrong = wrong or runs_once_more(program, case, ended, how, number, shims)
         os.chdir("/")
     print(f"dpv {' '.join(case.words)}: {wrong or 'as it has to be'}")
     return 1 if wrong else 0
@@ -246,17 +318,19 @@ def words() -> argparse.Namespace:
 
 def main() -> int:
     """All of it."""
-    asked = words()
-    if asked.again:
-        return again(asked.program, asked.again.resolve())
-    begun, tally = time.monotonic(), Tally()
-    until = begun + (asked.seconds or float("inf"))
-    with multiprocessing.Pool(asked.jobs) as pool:
-        for done in pool.starmap(work, [(asked, first, until) for first in range(asked.jobs)], chunksize=1):
-            tally.add(done)
+    asked, tally = words(), Tally()
+    with tempfile.TemporaryDirectory() as folder:
+        shims = put_shims(pathlib.Path(folder))
+        if asked.again:
+            return again(asked.program, asked.again.resolve(), shims)
+        begun = time.monotonic()
+        until = begun + (asked.seconds or float("inf"))
+        with multiprocessing.Pool(asked.jobs) as pool:
+            for done in pool.starmap(work, [(asked, shims, first, until) for first in range(asked.jobs)], chunksize=1):
+                tally.add(done)
     print(f"fuzz: seed {asked.seed}, {tally.cases.total()} cases ({shown(tally.cases)}) in {time.monotonic() - begun:.0f} s")
-    print(f"fuzz: by status {shown(tally.statuses)}; {tally.records} records; longest {tally.seconds:.1f} s, largest {tally.memory // 1024} MiB")
-    print(f"fuzz: {tally.findings} findings")
+    print(f"fuzz: by status {shown(tally.statuses)}; once more {shown(tally.again)}; {tally.records} records")
+    print(f"fuzz: longest {tally.seconds:.1f} s, largest {tally.memory // 1024} MiB; {tally.findings} findings")
     return 1 if tally.findings else 0
 
 

@@ -2,7 +2,7 @@
 """Runs the built program dpv on programs, pipelines and texts that are to cost as much as they can, and measures what they do.
 
 Usage: tests/hurt.py [--only TEXT] [PROGRAM]   (by default the program that ./dpv builds and runs; some minutes)
-Prints a line for each: what it is, the time to load it, the time of a record, and the memory. docs/limits.md has what was measured.
+Prints a line for each: what it is, the time to load it, the time of a record, and the memory; then for texts and heap scripts. docs/limits.md has what was measured.
 Exits with 1 where one ends in another way than it has to, or with other numbers of records.
 """
 import argparse
@@ -21,6 +21,7 @@ from program import built
 
 FORWARD = ["tx p0,r0,d", "exit", "d: free p0", "exit"]
 MOST = 1024
+LONGEST = 1_048_576
 
 
 @dataclass
@@ -86,7 +87,10 @@ def put_captures(load: Load, count: int) -> None:
     head = struct.pack("<IHHIIII", 0xA1B2C3D4, 2, 4, 0, 0, 262_144, 1)
     record = struct.pack("<IIII", 1, 2, load.size, load.size) + bytes(range(256)) * (load.size // 256) + bytes(load.size % 256)
     for k in range(len(load.programs) - len(load.rings)):
-        pathlib.Path(f"i{k}").write_bytes(head + (record * count if k == 0 else b""))
+        with open(f"i{k}", "wb") as file:
+            file.write(head)
+            for _ in range(count if k == 0 else 0):
+                file.write(record)
 
 
 def filled(begin: list[str], body: list[str], end: list[str], passes: int = 257) -> list[str]:
@@ -184,6 +188,12 @@ def loads() -> list[Load]:
     ]
 
 
+def memory_of(used: Used) -> str:
+    """The memory that a run used; it counts at least what this script uses."""
+    floor = resource.getrusage(resource.RUSAGE_SELF).ru_maxrss // 1024
+    return f"{used.memory} MiB" if used.memory > floor + 1 else f"below {floor + 2} MiB"
+
+
 def measure(program: str, load: Load) -> bool:
     """Prints what a pipeline takes: to load it, for each record, and of memory. Whether it ended as it has to."""
     put_pipeline(load)
@@ -193,9 +203,8 @@ def measure(program: str, load: Load) -> bool:
     full = start(program, ["run", "it.toml"])
     record = (full.seconds - empty.seconds) / load.count
     shown = f"{record:.2f} s" if record > 0.1 else f"{record * 1e6:.1f} us" if record < 1e-3 else f"{record * 1e3:.1f} ms"
-    floor = resource.getrusage(resource.RUSAGE_SELF).ru_maxrss // 1024
-    memory = f"{full.memory} MiB" if full.memory > floor + 1 else f"below {floor + 2} MiB"
-    print(f"| {load.name} | {empty.seconds:.2f} s | {shown} | {memory} |", flush=True)
+    shown = shown if record > 0 else "too short"
+    print(f"| {load.name} | {empty.seconds:.2f} s | {shown} | {memory_of(full)} |", flush=True)
     passed = empty.status == full.status == 0 and load.printed in full.printed
     if not passed:
         print(f"it went another way: status {empty.status} and {full.status}, {full.printed[:400]!r}")
@@ -219,8 +228,74 @@ def measure_script(program: str, name: str, lines: list[str]) -> bool:
     """Prints what a heap script takes. Whether it ended as it has to."""
     pathlib.Path("script").write_text("\n".join([f"region {1 << 30}", *lines, "stats"]) + "\n")
     used = start(program, ["mem", "script"])
-    print(f"| {name} | {used.seconds:.2f} s | {used.memory} MiB |", flush=True)
+    print(f"| {name} | {used.seconds:.2f} s | {memory_of(used)} |", flush=True)
     return used.status == 0 and used.printed.count("\n") > len(lines)
+
+
+def repeated(part: str) -> str:
+    """A part over and over, as often as a text may have it; `%` in it is a number of its own."""
+    text, count = [], 0
+    left = LONGEST
+    while True:
+        line = part.replace("%", f"{count:x}")
+        left -= len(line)
+        if left < 0:
+            return "".join(text)
+        text.append(line)
+        count += 1
+
+
+def nested(begin: str, inside: str, end: str) -> str:
+    """A part within itself as deep as a text may have it."""
+    times = (LONGEST - len(inside) - 10) // (len(begin) + len(end))
+    return f"a = {begin * times}{inside}{end * times}\n"
+
+
+ENDS = "tx p0,r0,d\nexit\nd: free p0\nexit\n"
+
+
+def texts() -> dict[str, tuple[str, str]]:
+    """Files that are as long as they may be, and the first line that they end with: pipelines, or programs that are named `.dpv`."""
+    keys, no_toml = "fault: pipeline 2 BadKey top 0\n", "fault: pipeline 1 NotToml\n"
+    labels = repeated("a%:\n")[: LONGEST - 20_000].rpartition("\n")[0] + "\n"
+    last = labels.rsplit("\n", 2)[-2][:-1]
+    found = [f"jlt r0,1,{last}"] * 1020 + ["free p0", "exit"]
+    return {
+        "pipeline of one comment": ("#" * LONGEST, keys),
+        "pipeline of one text": (f'a = "{"x" * (LONGEST - 6)}"', keys),
+        "pipeline of many keys": (repeated("a% = 1\n"), keys),
+        "pipeline of many keys of a table": ("[pool]\n" + repeated("a% = 1\n")[: LONGEST - 8].rpartition("\n")[0], keys),
+        "pipeline of many keys with dots": (repeated("a.b% = 1\n"), keys),
+        "pipeline of a key with many dots": ("a" + ".a" * (LONGEST // 2 - 3) + " = 1", no_toml),
+        "pipeline of many tables": (repeated("[a%]\n"), keys),
+        "pipeline of many tables in one another": (repeated("[a.b%.c]\n"), keys),
+        "pipeline of many pools": ("region = 4096\n" + "[[pool]]\n" * ((LONGEST - 14) // 9), "fault: pipeline 2 BadKey pool 0\n"),
+        "pipeline of a long array": (f"a = [{'1,' * (LONGEST // 2 - 4)}]", keys),
+        "pipeline of nested arrays": (nested("[", "", "]"), no_toml),
+        "pipeline of nested tables": (nested("{a=", "1", "}"), no_toml),
+        "pipeline of open arrays": ("a = " + "[" * (LONGEST - 4), no_toml),
+        "pipeline of escapes": ('a = "' + "\\u0041" * ((LONGEST - 6) // 6) + '"', keys),
+        "pipeline of newlines": ("\n" * LONGEST, keys),
+        "program.dpv of many labels": (repeated("a%:\n")[: LONGEST - len(ENDS)].rpartition("\n")[0] + "\n" + ENDS, ""),
+        "program.dpv of many labels in one line": (repeated("a%:")[: LONGEST - len(ENDS)].rpartition(":")[0] + ":" + ENDS, ""),
+        "program.dpv of many labels, the last named 1,020 times": (labels + "\n".join(found) + "\n", ""),
+        "program.dpv of one comment": (ENDS + "#" * (LONGEST - len(ENDS)), ""),
+        "program.dpv of newlines": ("\n" * (LONGEST - len(ENDS)) + ENDS, ""),
+        "program.dpv of commas": ("tx " + "," * (LONGEST - 3), "fault: pipeline 6 Asm port 0 line 1 cause 3\n"),
+        "program.dpv of digits": ("set r1," + "0" * (LONGEST - len(ENDS) - 9) + "1\n" + ENDS, ""),
+    }
+
+
+def measure_text(program: str, name: str, text: str, first: str) -> bool:
+    """Prints what it takes to check a text. Whether it ended as it has to."""
+    put_pipeline(Load(name, [FORWARD]))
+    pathlib.Path("n0" if ".dpv" in name else "it.toml").write_text(text)
+    used = start(program, ["check", "it.toml"])
+    print(f"| {name.replace('.dpv', '')} | {used.seconds:.2f} s | {memory_of(used)} |", flush=True)
+    passed = used.printed.startswith(first or "port 0 accepted\n")
+    if not passed:
+        print(f"it went another way: status {used.status}, {used.printed[:200]!r}, {len(text)} bytes")
+    return passed
 
 
 def main() -> int:
@@ -235,6 +310,8 @@ def main() -> int:
     with tempfile.TemporaryDirectory() as folder:
         os.chdir(folder)
         passed = [measure(program, load) for load in loads() if asked.only in load.name]
+        print("\n| text of 1,048,576 bytes | time | memory |\n|---|---|---|")
+        passed += [measure_text(program, name, *it) for name, it in texts().items() if asked.only in name]
         print("\n| heap script | time | memory |\n|---|---|---|")
         passed += [measure_script(program, *it) for it in scripts().items() if asked.only in it[0]]
         os.chdir(home)

@@ -302,7 +302,7 @@ class Texts(unittest.TestCase):
             b"region = 4096": "3 BadEnv 1 0",
         }
         for text, cause in told.items():
-            self.assertEqual(pipelines.load(text, lambda _: None, False, ""), pipelines.fault(cause))
+            self.assertEqual(pipelines.load(lambda _: None, text, False, ""), pipelines.fault(cause))
 
     def test_captures(self) -> None:
         self.assertEqual(captures.read(capture(magic=0xA1B2C3D3)).ending, "1")

@@ -5,6 +5,7 @@ Usage: tests/outside.py [PROGRAM]   (by default the one that ./dpv builds and ru
 The input is a pipe that is fed in two halves, so that what happens between them comes in the middle of a run. What is on disk then is
 always a front of the capture that a whole run writes. Prints a line for each case, and exits with 1 where one went another way.
 """
+import itertools
 import os
 import pathlib
 import shutil
@@ -63,10 +64,19 @@ class Tried:
         return run.returncode, printed.decode(), told.decode()
 
     def is_front(self) -> bool:
-        """Whether what is on disk is a front of the capture, and reads as records up to a cut."""
+        """Whether what is on disk is a front of the capture, and reads as records up to a cut; by tcpdump too, where there is one."""
         data = self.output.read_bytes()
         read = captures.read(data)
-        return target().startswith(data) and len(data) > 24 and (read.ending == "whole" or read.ending.startswith("cut "))
+        is_read = read.ending == "whole" or read.ending.startswith("cut ")
+        return target().startswith(data) and len(data) > 24 and is_read and self.is_read_by_tcpdump(read)
+
+    def is_read_by_tcpdump(self, read: captures.Capture) -> bool:
+        """Whether tcpdump reads as many records, and complains of a cut alone."""
+        if shutil.which("tcpdump") is None:
+            return True
+        run = subprocess.run(["tcpdump", "-n", "-t", "-x", "-r", str(self.output)], capture_output=True, text=True, timeout=60)
+        records = [line for line in run.stdout.splitlines() if not line.startswith("\t")]
+        return len(records) == len(read.records) and ("truncated dump file" in run.stderr) == (read.ending != "whole")
 
 
 def is_whole(ended: tuple[int, str, str], tried: Tried) -> bool:
@@ -128,14 +138,21 @@ def ends(tried: Tried, suffix: str) -> tuple[int, str, str]:
     return run.returncode, run.stdout, run.stderr
 
 
-def without_output(tried: Tried) -> bool:
-    """Standard output is closed: the capture is whole, and the status says that the report is not."""
-    return ends(tried, ">&-") == (3, "", "") and tried.output.read_bytes() == target()
+STREAMS = {"<&-": "input", ">&-": "output", "2>&-": "error"}
 
 
-def without_errors(tried: Tried) -> bool:
-    """Standard error is closed: nothing changes."""
-    return is_whole(ends(tried, "2>&-"), tried) and tried.output.exists()
+def without(closed: tuple[str, ...]) -> Callable[[Tried], bool]:
+    """Standard streams are closed: no file gets what goes there, so the capture is whole, and the status says where the report is lost."""
+    status, printed = (3, "") if ">&-" in closed else (0, REPORT.format(COUNT))
+    return lambda tried: ends(tried, " ".join(closed)) == (status, printed, "") and tried.output.read_bytes() == target()
+
+
+def nothing_to_read(tried: Tried) -> bool:
+    """Standard input is closed, and is to be read: it is empty."""
+    words = [tried.program, "one", *tried.words()[2:4], "/dev/stdin", str(tried.output)]
+    run = subprocess.run(["sh", "-c", '"$@" <&-', "sh", *words], capture_output=True, text=True, timeout=60)
+    told = (run.returncode, run.stdout, run.stderr.partition("\n")[0])
+    return told == (3, REPORT.format(0).replace("whole", "open"), "fault: input 0 cause 6") and tried.output.read_bytes() == b""
 
 
 def closed_pipe(tried: Tried) -> bool:
@@ -144,9 +161,22 @@ def closed_pipe(tried: Tried) -> bool:
     tried.pipe.write_bytes(source())
     reader, writer = os.pipe()
     os.close(reader)
-    run = subprocess.run(tried.words(), stdout=writer, stderr=subprocess.PIPE, timeout=60, restore_signals=False)
+    run = subprocess.run(tried.words(), stdout=writer, stderr=subprocess.PIPE, timeout=60)
     os.close(writer)
     return (run.returncode, run.stderr) == (3, b"") and tried.output.read_bytes() == target()
+
+
+def left_pipe(tried: Tried) -> bool:
+    """The output is a pipe whose reader goes away in the middle: it got a front of the capture, and the fault is told behind the report."""
+    tried.pipe.unlink()
+    tried.pipe.write_bytes(source())
+    os.mkfifo(tried.output)
+    run = subprocess.Popen(tried.words(), stdout=subprocess.PIPE, stderr=subprocess.PIPE, text=True)
+    with open(tried.output, "rb", buffering=0) as reader:
+        taken = reader.read(1000)
+    printed, told = run.communicate(timeout=60)
+    lines = (told.partition("\n")[0], printed.splitlines()[1:2])
+    return run.returncode == 3 and lines == ("fault: output 0", ["pool 0 free 64 of 64"]) and target().startswith(taken)
 
 
 def read_only(tried: Tried) -> bool:
@@ -170,9 +200,14 @@ CASES: dict[str, Callable[[Tried], bool]] = {
     "output cut in the middle": emptied,
     "output renamed in the middle": moved,
     "input byte by byte": one_by_one,
-    "no standard output": without_output,
-    "no standard error": without_errors,
+    **{
+        f"no standard {' and no '.join(STREAMS[name] for name in closed)}": without(closed)
+        for number in (1, 2, 3)
+        for closed in itertools.combinations(STREAMS, number)
+    },
+    "no standard input, which is read": nothing_to_read,
     "closed pipe": closed_pipe,
+    "output whose reader goes away": left_pipe,
     "read-only folder": read_only,
 }
 

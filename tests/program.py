@@ -6,12 +6,16 @@ Refused memory: dpv runs again and again, the first allocation is refused, then 
 has to end with `fault: memory` and status 4, or with all that a run does to which nothing is refused. One that ended early
 may have printed only the first of the lines, and has left each of its outputs empty or whole. A run of a pipeline makes as many
 allocations for 1,000 records as for one.
-A full disk: what cannot be written ends with status 3.
+Memory that is given back: a run with a region of 64 mebibytes keeps less than one of them at its end.
+A full disk: what cannot be written ends with status 3, and a port has sent only the records that its file took whole.
 Prints a line for each, and exits with 1 where one went another way.
 """
 import os
 import pathlib
+import re
+import resource
 import shutil
+import signal
 import struct
 import subprocess
 import sys
@@ -21,6 +25,7 @@ TOP = pathlib.Path(__file__).resolve().parent.parent
 STRIP = TOP / "examples/strip"
 MULTICAST = TOP / "examples/multicast"
 OUTPUTS = ("out.pcap", "port0.pcap", "port1.pcap")
+MEBIBYTE = 1_048_576
 HEAP = "region 65536\n" + "malloc 100 0\n" * 40 + "zmalloc 64 1024\nlist\nfree 1\nfree 41\nstats\n"
 
 
@@ -29,17 +34,20 @@ def one(program: str, output: str) -> list[str]:
     return [program, "one", str(STRIP / "strip.dpv"), str(STRIP / "strip.cert"), str(STRIP / "in.pcap"), output]
 
 
-def copy_multicast(folder: pathlib.Path, records: int) -> list[str]:
+def copy_multicast(folder: pathlib.Path, records: int, region: int | None = None) -> list[str]:
     """Copies the example of two ports, port 0 with so many records, and gives the words that run it but for the program."""
     shutil.copytree(MULTICAST, folder, dirs_exist_ok=True)
     header, record = 24, struct.pack("<IIII", 1, 2, 60, 60) + bytes(60)
     capture = (MULTICAST / "in0.pcap").read_bytes()[:header] + records * record
     (folder / "in0.pcap").write_bytes(capture)
+    if region is not None:
+        text = (MULTICAST / "multicast.toml").read_text()
+        (folder / "multicast.toml").write_text(re.sub(r"(?m)^region = \d+", f"region = {region}", text))
     return ["run", "multicast.toml"]
 
 
 class Ended:
-    """What a run did: its status, what it printed, told and wrote, and how many allocations it made."""
+    """What a run did: its status, what it printed, told and wrote, how many allocations it made, and how many bytes it kept."""
 
     def __init__(self, command: list[str], shim: pathlib.Path, refused: int) -> None:
         folder = shim.parent
@@ -50,7 +58,7 @@ class Ended:
         run = subprocess.run(command, env=env, cwd=folder, capture_output=True, timeout=60)
         self.status, self.printed, self.told = run.returncode, run.stdout, run.stderr
         self.written = [output.read_bytes() if output.exists() else b"" for output in outputs]
-        self.allocations = int(count.read_text())
+        self.allocations, self.kept = map(int, count.read_text().split())
 
     def is_as(self, whole: "Ended") -> bool:
         """Whether it did all that this run did."""
@@ -89,6 +97,27 @@ def takes_the_same(program: str, shim: pathlib.Path) -> bool:
     return counts[0] == counts[1] > 0
 
 
+def gives_back(program: str, shim: pathlib.Path) -> bool:
+    """Whether runs over a large region have given it back at their ends, also where the run is at fault."""
+    region = 64 * MEBIBYTE
+    script, late = shim.parent / "large.txt", shim.parent / "late.txt"
+    script.write_text(f"region {region}\nmalloc 4096 0\nlist\n")
+    late.write_text(f"region {region}\nmalloc 4096 0\nfree 2\n")
+    multicast = copy_multicast(shim.parent, 3, region)
+    commands = {
+        "dpv mem": (0, ["mem", str(script)]),
+        "dpv mem at fault": (3, ["mem", str(late)]),
+        "dpv run": (0, multicast),
+        "dpv run with a call refused": (0, [*multicast, "--refuse", "1"]),
+    }
+    passed = []
+    for name, (status, words) in commands.items():
+        ended = Ended([program, *words], shim, 0)
+        passed.append(ended.status == status and ended.kept < MEBIBYTE)
+        print(f"{name}, a region of 64 mebibytes: status {ended.status}, {ended.kept} bytes are kept")
+    return all(passed)
+
+
 def shim_in(folder: pathlib.Path) -> pathlib.Path | None:
     """The library that refuses an allocation, built with the C compiler; or nothing where there is none."""
     compiler = shutil.which("cc") or shutil.which("gcc") or shutil.which("clang")
@@ -110,6 +139,26 @@ def is_full(name: str, command: list[str], told: bytes, printed: str | None = No
     return passed
 
 
+def limit_files(size: int) -> None:
+    """No file may have more bytes: a write past them takes those that fit, and the next fails."""
+    signal.signal(signal.SIGXFSZ, signal.SIG_IGN)
+    resource.setrlimit(resource.RLIMIT_FSIZE, (size, size))
+
+
+def sends_what_fits(program: str, folder: pathlib.Path, size: int) -> bool:
+    """Whether a run into a file of so many bytes at most tells the records of 46 bytes that are whole there, of 2,000, as sent."""
+    header, record = 24, struct.pack("<IIII", 1, 2, 60, 60) + bytes(60)
+    capture, out = folder / "many.pcap", folder / "fits.pcap"
+    capture.write_bytes((STRIP / "in.pcap").read_bytes()[:header] + 2000 * record)
+    command = [program, "one", str(STRIP / "strip.dpv"), str(STRIP / "strip.cert"), str(capture), str(out)]
+    run = subprocess.run(command, capture_output=True, text=True, timeout=60, preexec_fn=lambda: limit_files(size))
+    sent = re.search(r" sent (\d+) input ", run.stdout)
+    held, whole = out.stat().st_size, max(size - header, 0) // 62
+    passed = (run.returncode, run.stderr, held, sent and int(sent[1])) == (3, "fault: output 0\n", size, whole)
+    print(f"dpv one into {size} bytes: status {run.returncode}, told {run.stderr!r}, sent {sent and sent[1]}" + ("" if passed else f", and not {whole}"))
+    return passed
+
+
 def built() -> pathlib.Path:
     """The program that ./dpv runs, which builds it where it has to."""
     subprocess.run([str(TOP / "dpv"), "--version"], check=True, stdout=subprocess.DEVNULL)
@@ -128,9 +177,11 @@ def main() -> int:
             shim is None or refuse_each("dpv one", one(program, "out.pcap"), shim),
             shim is None or refuse_each("dpv run", [program, *copy_multicast(folder, 3)], shim),
             shim is None or takes_the_same(program, shim),
+            shim is None or gives_back(program, shim),
             is_full("dpv one to a full disk", one(program, "/dev/full"), b"fault: output 0\n"),
             is_full("dpv one, its report to a full disk", one(program, str(folder / "out.pcap")), b"", "/dev/full"),
             is_full("dpv mem to a full disk", [program, "mem", str(heap)], b"", "/dev/full"),
+            *(sends_what_fits(program, folder, size) for size in (0, 20, 85, 86, 65536, 100000, 124023)),
         ]
     return 0 if all(passed) else 1
 

@@ -19,8 +19,11 @@ from model.machine import BIGGEST
 from model.programs import assemble
 
 from .captures import capture
+from .certs import changed_rows
 from .heap import heap_script
+from .noise import changed_bytes
 from .pipelines import Parts, node_files, pipeline_files
+from .programs import changed_text
 
 
 @dataclass
@@ -33,8 +36,12 @@ class Case:
     folders: list[str] = field(default_factory=list)
 
 
-def make_one(rng: Random) -> Case:
-    """`dpv one`."""
+# Makes cases that share their programs: the same files but for captures and words, or but for one program or certificate.
+Family = Callable[[Random], Case]
+
+
+def make_one(rng: Random) -> Family:
+    """`dpv one`, on other captures."""
     parts = Parts({}, ONE, {})
     names = node_files(rng, parts, 0, rng.random() < 0.7)
     if "cert" not in names:
@@ -42,40 +49,56 @@ def make_one(rng: Random) -> Case:
         code = assemble(parts.files.get("n0", b""))
         rows = rules.infer(ONE, code, rules.entry_row(ONE, 0)) if isinstance(code, list) else None
         parts.files["c0"] = rules.spelled(rows or [None])
-    parts.files["i0"] = capture(rng, ONE, 24, rng.random() < 0.7)
-    return Case("one", ["one", names["node"], names["cert"], "i0", "o0"], parts.files, ["folder"])
+    words = ["one", names["node"], names["cert"], "i0", "o0"]
+    return lambda rng: Case("one", words, {**parts.files, "i0": capture(rng, ONE, 24, rng.random() < 0.7)}, ["folder"])
 
 
-def make_check(rng: Random) -> Case:
-    """`dpv check`."""
-    return Case("check", ["check", "it.toml"], pipeline_files(rng, rng.random() < 0.3).files, ["folder"])
+def make_check(rng: Random) -> Family:
+    """`dpv check`, with a changed file now and then."""
+    files = pipeline_files(rng, rng.random() < 0.5).files
+    return lambda rng: Case("check", ["check", "it.toml"], changed_files(rng, files), ["folder"])
 
 
-def make_infer(rng: Random) -> Case:
-    """`dpv infer`."""
+def make_infer(rng: Random) -> Family:
+    """`dpv infer`, of other nodes."""
     parts = pipeline_files(rng, rng.random() < 0.6)
-    which = rng.choice(("port",) * 4 + ("ring",)) + str(rng.choice((0,) * 9 + (1, 1, 2, 9)))
-    return Case("infer", ["infer", "it.toml", which], parts.files, ["folder"])
+    which = lambda rng: rng.choice(("port",) * 4 + ("ring",)) + str(rng.choice((0,) * 9 + (1, 1, 2, 9)))
+    return lambda rng: Case("infer", ["infer", "it.toml", which(rng)], parts.files, ["folder"])
 
 
-def make_mem(rng: Random) -> Case:
+def make_mem(_rng: Random) -> Family:
     """`dpv mem`."""
-    return Case("mem", ["mem", "script"], {"script": heap_script(rng)})
+    return lambda rng: Case("mem", ["mem", "script"], {"script": heap_script(rng)})
 
 
-def make_run(rng: Random) -> Case:
-    """`dpv run`."""
+def make_run(rng: Random) -> Family:
+    """`dpv run`, on other captures and with other calls refused."""
     sound = rng.random() < 0.75
     parts = pipeline_files(rng, sound)
-    for k in range(len(parts.env.ports)):
-        if rng.random() < (1 if sound else 0.97):
-            parts.files[f"i{k}"] = capture(rng, parts.env, 10, rng.random() < 0.85)
-    words = ["run", "it.toml"]
-    if rng.random() < 0.5:
-        calls = sorted(rng.sample(range(1, 40), rng.choice((1, 2, 5, 20))))
-        text = ",".join(map(str, calls))
-        words += ["--refuse", text if rng.random() < 0.95 else changed_list(rng, text)]
-    return Case("run", words, parts.files, ["folder"])
+
+    def case(rng: Random) -> Case:
+        files, words = dict(parts.files), ["run", "it.toml"]
+        for k in range(len(parts.env.ports)):
+            if rng.random() < (1 if sound else 0.97):
+                files[f"i{k}"] = capture(rng, parts.env, 10, rng.random() < 0.85)
+        if rng.random() < 0.5:
+            calls = sorted(rng.sample(range(1, 40), rng.choice((1, 2, 5, 20))))
+            text = ",".join(map(str, calls))
+            words += ["--refuse", text if rng.random() < 0.95 else changed_list(rng, text)]
+        return Case("run", words, files, ["folder"])
+
+    return case
+
+
+def changed_files(rng: Random, files: dict[str, bytes]) -> dict[str, bytes]:
+    """The files of a pipeline, of which a program or a certificate may be changed."""
+    name = rng.choice([name for name in files if name[0] in "nc"] or ["none"])
+    if name == "none" or rng.random() < 0.2:
+        return files
+    rows = rules.decode(files[name], files[name].count(b"\n") - 1) if name[0] == "c" else ()
+    if isinstance(rows, list) and rows and rng.random() < 0.8:
+        return {**files, name: rules.spelled(changed_rows(rng, rows))}
+    return {**files, name: changed_text(rng, files[name]) if name[0] == "n" else changed_bytes(rng, files[name])}
 
 
 def changed_list(rng: Random, text: str) -> str:
@@ -84,7 +107,7 @@ def changed_list(rng: Random, text: str) -> str:
     return rng.choice((*wrong, str(BIGGEST), "01", f"1,{BIGGEST}"))
 
 
-MAKERS: dict[str, Callable[[Random], Case]] = {
+MAKERS: dict[str, Callable[[Random], Family]] = {
     "one": make_one,
     "check": make_check,
     "infer": make_infer,

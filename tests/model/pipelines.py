@@ -167,7 +167,7 @@ def rows_for(node: Node, program: list[Instr], env: Env, place: int, files: File
     return rows or ([] if not forward else Fault(1, f"{node.name} not inferred at some label by some rule\n", ""))
 
 
-def load(text: bytes, files: Files, inferred: bool, said: str) -> Pipeline | Fault:
+def load(files: Files, text: bytes, inferred: bool, said: str) -> Pipeline | Fault:
     """The pipeline of a text, with the certificates that are named or with all of them inferred; or why it is not loaded."""
     try:
         top = tomllib.loads(text.decode())

@@ -1,0 +1,113 @@
+#!/usr/bin/env python3
+"""Runs each command of the built program dpv with each of its allocations refused in turn.
+
+Usage: tests/growths.py [PROGRAM]   (the built program; by default the one that ./dpv builds and runs; some seconds)
+The pipeline has a part of each kind, so that each call that takes memory grows: texts of programs and certificates are read, certificates
+are inferred and written, tables are made and filled, an engine is opened, captures are read and written. Some commands end with a program
+that is refused or a fault of a file; then want of memory comes in its place, and in no other way.
+tests/program.py does the same to the examples. Prints a line for each command, and exits with 1 where one went another way.
+"""
+import pathlib
+import sys
+import tempfile
+
+from faults import capture
+from model import rules
+from model.machine import Env, Pool, Port, Ring
+from model.programs import assemble
+from program import Ended, built, shim_in
+
+COUNTING = "set r1,0\na: add r1,1\njlt r1,200,a\ntx p0,r0,e\nexit\ne: free p0\nexit\n"
+LOOKING = "lookup r2,0,r1,d\nd: free p0\nexit\n"
+COPYING = "clone p1,p0,1,d\nfree p1\niflen p0,1,d\nset r1,7\nstore p0,0,1,r1\nd: enq p0,0,e\nexit\ne: free p0\nexit\n"
+SENDING = "set r1,1\ntx p0,r1,d\nexit\nd: free p0\nexit\n"
+LOST = "alloc p1,0,d\nexit\nd: free p0\nexit\n"
+POOLS = [Pool(8, 4, 2176), Pool(8, 0, 0)]
+FACT = (2, 128, 0, 0, 0, 1)
+ENV = Env(POOLS, [{}], [Ring(4, FACT)], [Port(0, 1, 4)] * 2)
+TABLE = '[[table]]\nrules = 8\ngroups = 2\nroutes = ["10.0.0.0/8 1", "0.0.0.128/25 2", "0.0.1.0/32 3"]\n'
+
+
+def pipeline(names: list[str], table: str = "") -> str:
+    """A pipeline whose two ports and ring have these programs and certificates, with a table or without, which is large."""
+    text = f"region = {ENV.need()}\n" + "".join(f"[[pool]]\ncount = {p.count}\ncache = {p.cache}\nroom = {p.room}\n" for p in POOLS)
+    nodes = ["".join(f'{key} = "{name}"\n' for key, name in zip(("node", "cert"), words.split())) for words in names]
+    ring = "[[ring]]\ncount = 4\n" + "".join(f"{key} = {value}\n" for key, value in zip(("share", "head", "tail", "first", "last", "segs"), FACT))
+    ports = [f'[[port]]\npool = 0\nsegs = 1\nqueue = 4\n{nodes[k]}in = "in{k}.pcap"\nout = "port{k}.pcap"\n' for k in range(2)]
+    return text + table + ring + nodes[2] + "".join(ports)
+
+
+def make_files(folder: pathlib.Path) -> None:
+    """The programs, a certificate, captures and pipelines."""
+    code = assemble(COPYING.encode())
+    files = {"counting": COUNTING, "looking": LOOKING, "copying": COPYING, "sending": SENDING, "lost": LOST, "broken": "exit\nfree p9\n"}
+    files["copying.cert"] = rules.spelled(rules.infer(ENV, code, rules.entry_row(ENV, 1))).decode()
+    files["broken.cert"] = files["copying.cert"][:-2] + "\n"
+    files["sound.toml"] = pipeline(["counting", "copying copying.cert", "sending"])
+    files["refused.toml"] = pipeline(["counting", "copying copying.cert", "lost"])
+    files["broken.toml"] = pipeline(["counting", "copying copying.cert", "broken"])
+    files["cert.toml"] = pipeline(["counting", "copying broken.cert", "sending"])
+    files["table.toml"] = pipeline(["counting", "copying copying.cert", "looking"], TABLE)
+    files["route.toml"] = files["table.toml"].replace("/25 2", "/99 2")
+    for name, text in files.items():
+        (folder / name).write_text(text)
+    for k in range(2):
+        (folder / f"in{k}.pcap").write_bytes(capture(b"a record", b"another"))
+
+
+# The words of each command, and the status that it ends with where nothing is refused.
+COMMANDS = [
+    (["check", "sound.toml"], 0),
+    (["check", "refused.toml"], 1),
+    (["check", "broken.toml"], 3),
+    (["check", "cert.toml"], 3),
+    (["check", "route.toml"], 3),
+    (["infer", "sound.toml", "port0"], 0),
+    (["infer", "sound.toml", "port1"], 0),
+    (["infer", "refused.toml", "port0"], 1),
+    (["infer", "sound.toml", "port7"], 2),
+    (["explain", "sound.toml"], 0),
+    (["explain", "refused.toml"], 1),
+    (["explain-one", "lost"], 1),
+    (["run", "sound.toml"], 0),
+    (["run", "table.toml", "--refuse", "2,3"], 0),
+    (["run", "refused.toml"], 1),
+    (["run", "sound.toml", "--refuse", "3,2"], 2),
+    (["help"], 0),
+    (["nothing"], 2),
+]
+
+
+def is_like(ended: Ended, whole: Ended) -> bool:
+    """Whether a run did all that another did."""
+    return (ended.status, ended.printed, ended.told, ended.written) == (whole.status, whole.printed, whole.told, whole.written)
+
+
+def refuse_each(program: str, words: list[str], status: int, shim: pathlib.Path) -> bool:
+    """Whether a command ends as it has to with each of its allocations refused; prints how many there were."""
+    whole, refused, bad = Ended([program, *words], shim, 0), 0, 0
+    for number in range(1, whole.allocations + 1):
+        ended = Ended([program, *words], shim, number)
+        refused += ended.is_refused(whole)
+        if not ended.is_refused(whole) and not is_like(ended, whole):
+            bad += 1
+            print(f"allocation {number}: status {ended.status}, told {ended.told!r}, printed {ended.printed[-200:]!r}")
+    print(f"dpv {' '.join(words)}: {whole.allocations} allocations, {refused} runs ended with fault: memory, {bad} in another way")
+    if whole.status != status:
+        print(f"it ended with status {whole.status} and not {status}: {whole.printed!r} {whole.told!r}")
+    return whole.status == status and bad == 0 and refused > 0
+
+
+def main() -> int:
+    """All of it."""
+    program = str(pathlib.Path(sys.argv[1]).resolve() if len(sys.argv) > 1 else built())
+    with tempfile.TemporaryDirectory() as name:
+        folder = pathlib.Path(name)
+        make_files(folder)
+        shim = shim_in(folder)
+        passed = [refuse_each(program, words, status, shim) for words, status in COMMANDS] if shim else []
+    return 0 if all(passed) else 1
+
+
+if __name__ == "__main__":
+    sys.exit(main())

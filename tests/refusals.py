@@ -1,0 +1,74 @@
+#!/usr/bin/env python3
+"""Has the built program dpv explain one refused program for each rule.
+
+Usage: tests/refusals.py [PROGRAM]   (the built program; by default the one that ./dpv builds and runs)
+examples/refused has a program for each rule that breaks it, jN.dpv, and what dpv has to say of it, jN.txt: of the pipeline jN.toml
+where there is one, else of the program by itself, with the certificate jN.cert where there is one. Its cure, cured/jN.dpv, has to be
+accepted, and where there is none the program itself is, with the certificate that is inferred. docs/refusals.md has to have the
+programs, the explanations and the cures as they are here.
+Prints a line for each rule that went another way, and a count; exits with 1 where there is one.
+"""
+import pathlib
+import subprocess
+import sys
+
+from program import TOP, built
+
+FOLDER = TOP / "examples" / "refused"
+RULES = range(1, 12)
+
+
+def words_for(rule: int, folder: pathlib.Path, certs: bool) -> list[str]:
+    """The command that explains the program of a rule in a folder."""
+    if (folder / f"j{rule}.toml").exists():
+        return ["explain", f"j{rule}.toml"]
+    cert = [f"j{rule}.cert"] if certs and (folder / f"j{rule}.cert").exists() else []
+    return ["explain-one", f"j{rule}.dpv", *cert]
+
+
+def said(program: str, words: list[str], folder: pathlib.Path) -> tuple[int, str]:
+    """The status, and what was printed on both streams, one after the other."""
+    run = subprocess.run([program, *words], cwd=folder, capture_output=True, text=True, timeout=60)
+    return run.returncode, run.stdout + run.stderr
+
+
+def is_explained(program: str, rule: int) -> bool:
+    """Whether the program of a rule is refused, with this explanation."""
+    status, text = said(program, words_for(rule, FOLDER, True), FOLDER)
+    wanted = (FOLDER / f"j{rule}.txt").read_text()
+    # A certificate with too few rows is no certificate of the program, and is told as a fault.
+    passed = (status, text) == (3 if rule == 1 else 1, wanted)
+    if not passed:
+        print(f"J{rule}: status {status}, said {text!r}")
+    return passed
+
+
+def is_cured(program: str, rule: int) -> bool:
+    """Whether the cure of a rule's program is accepted."""
+    folder = FOLDER / "cured" if (FOLDER / "cured" / f"j{rule}.dpv").exists() else FOLDER
+    passed = said(program, words_for(rule, folder, False), folder) == (0, "port 0 accepted\n")
+    if not passed:
+        print(f"J{rule}: the cure is not accepted")
+    return passed
+
+
+def is_in_docs(rule: int, docs: str) -> bool:
+    """Whether the program, its explanation and its cure stand in the page."""
+    files = [FOLDER / f"j{rule}.dpv", FOLDER / f"j{rule}.txt", FOLDER / "cured" / f"j{rule}.dpv"]
+    missing = [file.name for file in files if file.exists() and file.read_text() not in docs]
+    for name in missing:
+        print(f"docs/refusals.md: {name} is not there as it is in examples/refused")
+    return not missing
+
+
+def main() -> int:
+    """All rules."""
+    program = str(pathlib.Path(sys.argv[1]).resolve() if len(sys.argv) > 1 else built())
+    docs = (TOP / "docs" / "refusals.md").read_text()
+    passed = [is_explained(program, rule) and is_cured(program, rule) and is_in_docs(rule, docs) for rule in RULES]
+    print(f"refusals: {sum(passed)} rules are as they should be, {len(passed) - sum(passed)} are not")
+    return 0 if all(passed) else 1
+
+
+if __name__ == "__main__":
+    sys.exit(main())

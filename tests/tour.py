@@ -1,0 +1,63 @@
+#!/usr/bin/env python3
+"""Has the built program dpv run what docs/tour.md shows.
+
+Usage: tests/tour.py [--write] [PROGRAM]   (the built program; by default the one that ./dpv builds and runs)
+In the page's blocks of kind `console` a line behind `$ ` is a command, which goes on in the lines behind `> `, and what follows is what
+it has to print, on both streams. All are run in turn by one shell in a copy of examples, with `dpv` for the program. Prints each command
+that printed something else, and exits with 1 where there is one; with --write it puts the page right.
+"""
+import os
+import pathlib
+import re
+import shutil
+import subprocess
+import sys
+import tempfile
+
+from program import TOP, built
+
+PAGE = TOP / "docs" / "tour.md"
+BLOCK = re.compile(r"(?<=^```console\n).*?(?=^```$)", re.M | re.S)
+COMMAND = re.compile(r"^\$ .*\n(?:> .*\n|>\n)*", re.M)
+
+
+def script_of(command: str) -> str:
+    """A command as it is typed."""
+    return "".join(line[2:] + "\n" for line in command.splitlines())
+
+
+def outputs(program: str, commands: list[str]) -> list[str]:
+    """What each command prints."""
+    with tempfile.TemporaryDirectory() as name:
+        folder = pathlib.Path(name)
+        shutil.copytree(TOP / "examples", folder / "examples")
+        (folder / "bin").mkdir()
+        (folder / "bin" / "dpv").symlink_to(program)
+        path = f"{folder / 'bin'}:{os.environ['PATH']}"
+        script = "".join(script_of(command) + "printf '\\1'\n" for command in commands)
+        run = subprocess.run(["bash"], input=script, cwd=folder, env=os.environ | {"PATH": path, "LC_ALL": "C"}, stdout=subprocess.PIPE, stderr=subprocess.STDOUT, text=True, timeout=120)
+        return run.stdout.split("\1")[:-1]
+
+
+def main() -> int:
+    """The whole page."""
+    words = [word for word in sys.argv[1:] if word != "--write"]
+    program = str(pathlib.Path(words[0]).resolve() if words else built())
+    page = PAGE.read_text()
+    shown = "".join(BLOCK.findall(page))
+    commands = COMMAND.findall(shown)
+    wanted = COMMAND.split(shown)[1:]
+    found = outputs(program, commands)
+    if "--write" in sys.argv:
+        printed = iter(found)
+        PAGE.write_text(BLOCK.sub(lambda block: "".join(c + next(printed) for c in COMMAND.findall(block.group())), page))
+        return 0
+    bad = [(c, is_so) for c, is_so, want in zip(commands, found, wanted, strict=True) if is_so != want]
+    for command, printed in bad:
+        print(f"docs/tour.md: {command}prints now:\n{printed}")
+    print(f"tour: {len(commands) - len(bad)} commands print what is shown, {len(bad)} do not")
+    return 1 if bad else 0
+
+
+if __name__ == "__main__":
+    sys.exit(main())
