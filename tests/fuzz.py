@@ -139,16 +139,22 @@ def without_cache(case: Case) -> bytes | None:
     return b"\n".join(plain) if plain != lines else None
 
 
-def fault_of(program: str, case: Case, tally: Tally) -> tuple[Ended, str | None]:
-    """How a case ended, and what is wrong with it. What the documents leave open is told from what was printed."""
+def wrong_by(said: str, case: Case, program: str, ended: Ended | None) -> tuple[Ended, answers.Answer | None, str | None]:
+    """How a case ended, what it had to come to, given what was printed where that is open, and what is wrong with it."""
     try:
-        expected = answers.answer(case.words, pathlib.Path(), "")
-        ended = try_case(program, case)
-        wrong = complaint(expected, ended)
-        if wrong and not ended.written and (case.kind in ("mem", "infer") or ended.status == 1):
-            wrong = complaint(answers.answer(case.words, pathlib.Path(), ended.printed), ended)
+        expected = answers.answer(case.words, pathlib.Path(), said)
     except machine.Stuck as stuck:
-        return try_case(program, case), f"an accepted program is stuck: {stuck}"
+        return ended or try_case(program, case), None, f"an accepted program is stuck: {stuck}"
+    ended = ended or try_case(program, case)
+    return ended, expected, complaint(expected, ended)
+
+
+def fault_of(program: str, case: Case, tally: Tally) -> tuple[Ended, str | None]:
+    """How a case ended, and what is wrong with it. What the documents leave open is told from what was printed: whether rows are found
+    for a program with loops is open too, so that one which is stuck may be one that is not accepted."""
+    ended, expected, wrong = wrong_by("", case, program, None)
+    if wrong and not ended.written and (case.kind in ("mem", "infer") or ended.status == 1):
+        ended, expected, wrong = wrong_by(ended.printed, case, program, ended)
     tally.cases[case.kind] += 1
     tally.statuses[f"{case.kind} {ended.status}"] += 1
     tally.records += expected.records if expected else 0
