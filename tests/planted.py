@@ -3,6 +3,7 @@
 
 Usage: tests/planted.py [--jobs N] [--alone] [--must-fail] [--since COMMIT] [--part N OF] [--most N] [CRATE ..]
        tests/planted.py [--jobs N] --gate
+       tests/planted.py --count
 
 Where nothing says which, all are tried.
   CRATE        those of this crate
@@ -13,6 +14,7 @@ Where nothing says which, all are tried.
   --must-fail  those of must-fail/ as well, which `rt ci` tries each time
   --gate       what the gate tries at this commit: --since the commit 7 changes back, --part N 7, where N is the number of
                changes so far by 7, and --most 120; where there is no such history every crate counts as changed, and the day is N
+  --count      tries none: writes how many each crate has into the table of docs/notes/wrong_bodies.md
   --alone      each in a check of its own
   --jobs N     N checks side by side (by default as many as there are processors and memory)
 
@@ -366,6 +368,7 @@ def asked() -> argparse.Namespace:
     words.add_argument("--part", type=int, nargs=2)
     words.add_argument("--most", type=int)
     words.add_argument("--gate", action="store_true")
+    words.add_argument("--count", action="store_true")
     words.add_argument("crates", nargs="*")
     by = words.parse_args()
     unknown = [it for it in by.crates if it not in CRATES]
@@ -396,6 +399,20 @@ def chosen(by: argparse.Namespace) -> tuple[list[Edit], int]:
     return first + others[:most], len(others) - len(others[:most])
 
 
+def counted(text: str) -> str:
+    """The page of wrong bodies, with how many each crate has today in its table's second and third column."""
+    rows, sums = [], [0, 0]
+    for row in text.split("\n"):
+        cells = row.split("|")
+        name = cells[1].strip(" `") if len(cells) == 6 else ""
+        if name in CRATES:
+            counts = [len(list((CRATES[name].folder / folder).glob("*.edit"))) for folder in ("must-fail", "planted")]
+            sums = [so_far + more for so_far, more in zip(sums, counts)]
+            row = "|".join([*cells[:2], *(f" {it} " for it in counts), *cells[4:]])
+        rows.append("|".join([*cells[:2], *(f" {it} " for it in sums), *cells[4:]]) if name == "all" else row)
+    return "\n".join(rows)
+
+
 def lanes(jobs: int) -> int:
     """How many checks run side by side."""
     memory = os.sysconf("SC_PHYS_PAGES") * os.sysconf("SC_PAGE_SIZE")
@@ -403,7 +420,12 @@ def lanes(jobs: int) -> int:
 
 
 def main() -> int:
-    by = asked()
+    by, page = asked(), TOP / "docs/notes/wrong_bodies.md"
+    if by.count:
+        page.write_text(counted(page.read_text()))
+        return 0
+    if by.gate and page.read_text() != counted(page.read_text()):
+        sys.exit("planted: docs/notes/wrong_bodies.md counts what was there before: run tests/planted.py --count")
     edits, left = chosen(by)
     groups: dict[Crate, list[Edit]] = collections.defaultdict(list)
     for it in edits:
