@@ -21,7 +21,7 @@ _dpv_files() {
 # What may stand where the cursor is, a line each: the command, how many operands are before it, the first of them, the word so far.
 _dpv_operands() {
     case "$1 $2" in
-        "check 0" | "infer 0" | "explain 0" | "show 0" | "run 0") _dpv_files toml "$4" ;;
+        "check 0" | "infer 0" | "explain 0" | "show 0" | "run 0" | "trace 0") _dpv_files toml "$4" ;;
         "infer 1" | "explain 1" | "show 1") compgen -W "$(_dpv_nodes "$3")" -- "$4" ;;
         "one 0" | "infer-one 0" | "explain-one 0" | "show-one 0") _dpv_files dpv "$4" ;;
         "one 1" | "explain-one 1" | "show-one 1") _dpv_files cert "$4" ;;
@@ -32,14 +32,14 @@ _dpv_operands() {
 
 _dpv() {
     local word="${COMP_WORDS[COMP_CWORD]}" command="${COMP_WORDS[1]-}" first= count=0 place
-    local commands="one check infer infer-one explain explain-one show show-one run mem help"
+    local commands="one check infer infer-one explain explain-one show show-one run trace mem help"
     if ((COMP_CWORD == 1)); then
         mapfile -t COMPREPLY < <(compgen -W "$commands --help --version" -- "$word")
         return
     fi
     for ((place = 2; place < COMP_CWORD; place++)); do
         case "${COMP_WORDS[place]}" in
-            --refuse) place=$((place + 1)) ;;
+            --refuse | --records | --port) place=$((place + 1)) ;;
             -*) ;;
             *)
                 [ "$count" -gt 0 ] || first="${COMP_WORDS[place]}"
@@ -48,6 +48,7 @@ _dpv() {
         esac
     done
     case "$command $word" in
+        trace\ -*) mapfile -t COMPREPLY < <(compgen -W "--records --port --refuse --help" -- "$word") ;;
         run\ -*) mapfile -t COMPREPLY < <(compgen -W "--refuse --help" -- "$word") ;;
         show\ -* | show-one\ -*) mapfile -t COMPREPLY < <(compgen -W "--dot --help" -- "$word") ;;
         help\ *) mapfile -t COMPREPLY < <(compgen -W "$commands" -- "$word") ;;

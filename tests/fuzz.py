@@ -35,7 +35,7 @@ from typing import NamedTuple
 
 from cases import MAKERS, Case, Family
 from model import answers, machine
-from program import built
+from program import built, fixed
 
 MOST_SECONDS = 60
 MOST_MEMORY = 3 << 30
@@ -123,6 +123,7 @@ def complaint(expected: answers.Answer | None, ended: Ended) -> str | None:
     if expected is None:
         is_usage = (ended.status, ended.printed, ended.written) == (2, "", {}) and ended.told != ""
         return None if is_usage else "words that are wrong are not told so"
+    ended = ended._replace(told=fixed(ended.told))
     for part in ("status", "printed", "told"):
         if getattr(expected, part) != getattr(ended, part):
             return f"{part}: expected {getattr(expected, part)!r}, came {getattr(ended, part)!r}"

@@ -18,7 +18,7 @@ import time
 from collections.abc import Callable
 
 from model import captures
-from program import STRIP, built
+from program import STRIP, built, fixed
 
 REPORT = "port 0 received {0} nobuf 0 oversize 0 sent {0} input whole\npool 0 free 64 of 64\ncalls {0} refused 0\n"
 COUNT = 4000
@@ -190,7 +190,7 @@ def read_only(tried: Tried) -> bool:
     nobody = 65_534 if os.geteuid() == 0 else None
     run = subprocess.run(words, capture_output=True, text=True, timeout=60, user=nobody)
     told = f"fault: file {tried.output}\n"
-    return (run.returncode, run.stdout, run.stderr) == (3, "", told) and not tried.output.exists()
+    return (run.returncode, run.stdout, fixed(run.stderr)) == (3, "", told) and not tried.output.exists()
 
 
 CASES: dict[str, Callable[[Tried], bool]] = {

@@ -130,11 +130,16 @@ def shim_in(folder: pathlib.Path) -> pathlib.Path | None:
     return shim
 
 
+def fixed(told: str) -> str:
+    """What is told, without the lines behind that of a fault: the file's name and the reason."""
+    return re.sub(r"(?ms)^  (?:file|because): .*", "", told)
+
+
 def is_full(name: str, command: list[str], told: bytes, printed: str | None = None) -> bool:
     """Whether a run ends with status 3 and tells this, where what it prints goes to a file or is dropped."""
     with open(printed or os.devnull, "wb") as out:
         run = subprocess.run(command, stdout=out, stderr=subprocess.PIPE, timeout=60)
-    passed = (run.returncode, run.stderr) == (3, told)
+    passed = (run.returncode, fixed(run.stderr.decode())) == (3, told.decode())
     print(f"{name}: status {run.returncode}, told {run.stderr!r}" + ("" if passed else f", and not 3 and {told!r}"))
     return passed
 
@@ -154,7 +159,7 @@ def sends_what_fits(program: str, folder: pathlib.Path, size: int) -> bool:
     run = subprocess.run(command, capture_output=True, text=True, timeout=60, preexec_fn=lambda: limit_files(size))
     sent = re.search(r" sent (\d+) input ", run.stdout)
     held, whole = out.stat().st_size, max(size - header, 0) // 62
-    passed = (run.returncode, run.stderr, held, sent and int(sent[1])) == (3, "fault: output 0\n", size, whole)
+    passed = (run.returncode, fixed(run.stderr), held, sent and int(sent[1])) == (3, "fault: output 0\n", size, whole)
     print(f"dpv one into {size} bytes: status {run.returncode}, told {run.stderr!r}, sent {sent and sent[1]}" + ("" if passed else f", and not {whole}"))
     return passed
 

@@ -1,5 +1,6 @@
 -- The question that a check answers.
-use Rattle.std.specs.Prelude.{◌≡◌, ℕ, not, List, Option, find, IsTrue}
+use Rattle.std.specs.Prelude.{◌≡◌, ℕ, not, List, ◌++◌, Option, find, IsTrue, codes}
+use Rattle.std.specs.Fmt.{decimal}
 use Rattle.std.specs.List.{list_all}
 use Rattle.dp_model.specs.declared.env.Entry.{Entry}
 use Rattle.dp_model.specs.declared.instr.Instr.{Instr}
@@ -26,6 +27,10 @@ later_fault q label = find (λ rule. not (holds q label rule)) later_rules
 -- a question is refused at a label, with the number of the rule
 abbrev pub IsRefusedWith : Question → ℕ → ℕ → Type 0
 IsRefusedWith q label number = (rule : Rule) × (number ≡ number_of rule) × IsRefused q label rule
+
+-- how a refusal at a label, with the number of the rule, is displayed
+abbrev pub refused_text : ℕ → ℕ → List ℕ
+refused_text label number = codes "refused at " ++ (decimal label ++ (codes " by J" ++ decimal number))
 
 -- no rule fails, and the program and the rows are such
 pub record IsChecked (q : Question) : Type 0 where

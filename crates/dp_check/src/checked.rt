@@ -84,6 +84,11 @@ pub struct Refused {
 }
 
 impl Display for Refused {
+    ghost use Rattle.std.specs.Prelude.{Some};
+    ghost use Rattle.dp_check.specs.Faults.{refused_text};
+
+    ghost output = { λ refused. Some (refused_text refused.label refused.rule) };
+
     fn fmt<W: Write>(&self, f: &mut Formatter<W>) -> fmt::Result {
         write!(f, "refused at {} by J{}", self.label, self.rule)
     }

@@ -1,3 +1,4 @@
+pub mod Behind
 pub mod Endings
 mod Lines
 mod Numbers

@@ -5,4 +5,6 @@ pub mod Pipe
 pub mod Report
 pub mod Run
 pub mod Told
+pub mod Tracing
+pub mod Why
 pub mod Words

@@ -1,10 +1,12 @@
 -- What `dpv run` tells of a run.
-use Rattle.std.specs.Prelude.{◌≡◌, ℕ, ◌≤◌, ◌⊎◌, List, [], ◌∷◌, Option, Result, Ok, Err, IfOk, IfErr, ⊤}
+use Rattle.std.specs.Prelude.{◌≡◌, ℕ, ◌≤◌, ◌⊎◌, List, [], ◌∷◌, ◌++◌, codes, Option, Result, Ok, Err, IfOk, IfErr, ⊤}
+use Rattle.std.specs.Fmt.{decimal}
 use Rattle.std.specs.Io.KnownBytes.{Appends}
+use Rattle.dp_pcap.specs.Causes.{number_of}
 use Rattle.dp_engine.specs.declared.report.PortReport.{PortReport}
 use Rattle.dp_engine.specs.declared.report.Report.{Report}
 use Rattle.dp_pipe.specs.declared.forwarding.RunCause.{RunCause}
-use Rattle.dp_pipe.specs.declared.forwarding.RunCause.TheVariants.{Memory, NoRoom}
+use Rattle.dp_pipe.specs.declared.forwarding.RunCause.TheVariants.{Memory, NoRoom, In, Out}
 use Rattle.dp_pipe.specs.declared.running.RunFault.{RunFault}
 use Rattle.dp_pipe.specs.Pipelines.{Plan}
 use Rattle.dp_pipe.specs.Running.{RunAnswers, AllFree}
@@ -15,6 +17,13 @@ use Rattle.dp_cli.specs.Told.{IsTold}
 abbrev pub status_of_cause : RunCause → ℕ
 status_of_cause Memory = 4
 status_of_cause _ = 3
+
+-- the line of a run that stopped
+abbrev pub stop_text : RunCause → List ℕ
+stop_text Memory = codes "fault: memory"
+stop_text NoRoom = codes "fault: region"
+stop_text (In port error) = codes "fault: input " ++ (decimal port ++ (codes " cause " ++ decimal (number_of error)))
+stop_text (Out port) = codes "fault: output " ++ decimal port
 
 -- that of a run: 0 where it came to its end
 abbrev pub status_of_run : Result Report RunFault → ℕ

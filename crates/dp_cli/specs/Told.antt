@@ -1,10 +1,17 @@
 -- The statuses that the program ends with.
-use Rattle.std.specs.Prelude.{◌≡◌, ℕ, ◌⊎◌, List, [], ◌∷◌, ◌++◌, Option, Some, None, codes}
+use Rattle.std.specs.Prelude.{◌≡◌, ℕ, ◌⊎◌, List, [], ◌∷◌, ◌++◌, Option, Some, None, codes, option_map}
+use Rattle.std.specs.Fmt.{decimal}
 use Rattle.std.specs.Io.KnownBytes.{Appends}
+use Rattle.dp_pcap.specs.Causes.{number_of}
+use Rattle.dp_pipe.specs.Causes.{text_of}
 use Rattle.dp_pipe.specs.declared.error.PipeError.{PipeError}
 use Rattle.dp_pipe.specs.declared.error.PipeError.TheVariants.{Memory, NotInferred, Refused}
 use Rattle.dp_cli.specs.declared.fault.Fault.{Fault}
 use Rattle.dp_cli.specs.declared.fault.Fault.TheVariants as fault
+use Rattle.dp_cli.specs.declared.files.ReadFault.{ReadFault}
+use Rattle.dp_cli.specs.declared.files.ReadFault.TheVariants as read
+use Rattle.dp_cli.specs.declared.why.Finding.{Finding}
+use Rattle.dp_cli.specs.Why.{reason_of, finding_lines}
 
 -- a status; or that of a text which could not be written, 3, or 4 for want of memory
 abbrev pub IsTold : ℕ → ℕ → Type 0
@@ -15,10 +22,42 @@ abbrev pub status_of_fault : Fault → ℕ
 status_of_fault fault.Memory = 4
 status_of_fault _ = 3
 
--- the text of want of memory; those of the other faults are not told
-abbrev pub text_of_fault : Fault → Option (List ℕ)
-text_of_fault fault.Memory = Some (codes "fault: memory")
-text_of_fault _ = None
+-- the line of a fault, without its newline
+abbrev pub text_of_fault : Fault → List ℕ
+text_of_fault fault.Memory = codes "fault: memory"
+text_of_fault (fault.File name reason) = codes "fault: file " ++ name.now
+text_of_fault (fault.Pipeline error) = codes "fault: pipeline " ++ text_of error
+text_of_fault fault.Region = codes "fault: region"
+text_of_fault (fault.Input port cause found) = codes "fault: input " ++ (decimal port ++ (codes " cause " ++ decimal (number_of cause)))
+text_of_fault (fault.Output port found) = codes "fault: output " ++ decimal port
+text_of_fault (fault.Line line) = codes "fault: line " ++ (decimal line ++ codes " bad command")
+
+-- what is told behind that line
+abbrev pub finding_of : Fault → Option Finding
+finding_of (fault.File name reason) = Some (record { file = None; reason = reason })
+finding_of (fault.Pipeline error) = option_map (λ reason. record { file = None; reason = reason }) (reason_of error)
+finding_of (fault.Input port cause found) = Some found
+finding_of (fault.Output port found) = Some found
+finding_of _ = None
+
+-- what is told of a file that was not read: its name, or that memory ran out
+abbrev pub read_text : ReadFault → List ℕ → List ℕ
+read_text read.Memory name = codes "fault: memory"
+read_text (read.File reason) name = codes "fault: file " ++ name
+
+-- the reason behind it
+abbrev pub read_finding : ReadFault → Option Finding
+read_finding read.Memory = None
+read_finding (read.File reason) = Some (record { file = None; reason = reason })
+
+-- the lines behind that line, where there are any
+abbrev pub lines_behind : Option Finding → Option (List ℕ)
+lines_behind None = Some []
+lines_behind (Some finding) = finding_lines finding
+
+-- all lines of a fault, where their words are told
+abbrev pub lines_of_fault : Fault → Option (List ℕ)
+lines_of_fault fault = option_map (λ behind. (text_of_fault fault ++ 10 ∷ []) ++ behind) (lines_behind (finding_of fault))
 
 -- that memory ran out is told, and nothing more
 abbrev pub TellsMemory : Option (List ℕ) → Option (List ℕ) → Type 0

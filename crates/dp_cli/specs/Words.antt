@@ -20,6 +20,14 @@ word_of (Ring place) = codes "ring" ++ (48 + place) ∷ []
 abbrev pub number_in : List ℕ → Option ℕ
 number_in word = if list_all is_ascii_digit word && (nat_lt 0 (length word) && nat_lt (digits_value 10 word) (2 ^ 64)) then Some (digits_value 10 word) else None
 
+-- the number of records that a word is: from 1 to 134,217,728
+abbrev pub records_in : List ℕ → Option ℕ
+records_in word = option_and_then (λ n. if nat_lt 0 n && nat_lt n 134217729 then Some n else None) (number_in word)
+
+-- the port that a word is: below 8
+abbrev pub port_in : List ℕ → Option ℕ
+port_in word = option_and_then (λ n. if nat_lt n 8 then Some n else None) (number_in word)
+
 -- the numbers of words, each above the one before it
 abbrev pub ascending_in : ℕ → List (List ℕ) → Option (List ℕ)
 ascending_in last [] = Some []

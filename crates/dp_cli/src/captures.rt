@@ -1,6 +1,6 @@
 //! The captures of a pipeline: opened before its run, written out behind it.
 
-ghost use Rattle.std.specs.Prelude.{◌≡◌, ◌≤◌, Ok, Err, IfOk, IfErr, IfNone, length};
+ghost use Rattle.std.specs.Prelude.{◌≡◌, ◌≤◌, Ok, Err, Some, IfOk, IfErr, IfNone, IfSome, IsErr, IsSome, length};
 ghost use Rattle.dp_pipe.specs.Running.{report_of, answer_of};
 ghost use Rattle.dp_cli.specs.Run.{AreLowered};
 
@@ -8,19 +8,20 @@ use crate::fault::Fault;
 use crate::files::ReadFault;
 use crate::guarded::Guarded;
 use crate::one::Naming;
+use crate::watched::{Seen, Watched};
 use dp_engine::{PortReport, Report};
 use dp_pcap::{OfBufReader, OfBufWriter};
 use dp_pipe::{Pipeline, RunCause, RunFault};
 use std::alloc::Global;
 use std::fs;
-use std::io::{BufReader, BufWriter, Read, Write};
+use std::io::{BufReader, BufWriter, Error, Read, Write};
 use std::rt::Files;
 
 /// How many bytes a file's buffer has.
 const BUFFER: usize = 65_536;
 
 /// A capture that is read.
-pub type Input<F> = OfBufReader<F>;
+pub type Input<F> = OfBufReader<Watched<F>>;
 
 /// A capture that is written.
 pub type Output<F> = OfBufWriter<Guarded<F>>;
@@ -32,7 +33,7 @@ fn open_input<'a, R: Files>(
     name: &'a str,
 ) -> Result<Input<R::File>, Fault<'a>> {
     let file = fs::open(rt, name).map_err(|error| ReadFault::from(error).of_file(name))?;
-    match BufReader::with_capacity(alloc, BUFFER, file) {
+    match BufReader::with_capacity(alloc, BUFFER, Watched::new(file)) {
         Ok(reader) => Ok(OfBufReader::new(reader)),
         Err(_) => Err(Fault::Memory),
     }
@@ -89,12 +90,30 @@ pub fn create_outputs<'a, R: Files>(
     Ok(outputs)
 }
 
-/// Writes out what stands in the buffer of an output. Where that fails: how many of its records the file took whole.
-fn write_out<F: Write + Drop>(output: Output<F>) -> Option<u64> {
+/// What the file of an input gave away beside its bytes, where a port has one.
+pub fn seen_at<F: Read + Drop>(inputs: Vec<Input<F>>, port: u8) -> Option<Seen> {
+    let input = inputs.into_iter().nth(usize::from(port))?;
+    Some(input.into_inner().get_ref().seen())
+}
+
+/// An output that was not written out: how many of its records the file took whole, and the error.
+struct Unwritten {
+    whole: u64,
+    failure: Error,
+}
+
+/// Writes out what stands in the buffer of an output.
+fn write_out<F: Write + Drop>(output: Output<F>) -> Option<Unwritten> {
     let mut writer = output.into_inner();
     match writer.flush() {
         Ok(()) => None,
-        Err(_) => Some(writer.get_ref().records()),
+        Err(error) => {
+            let file = writer.get_ref();
+            Some(Unwritten {
+                whole: file.records(),
+                failure: file.failure().unwrap_or(error),
+            })
+        }
     }
 }
 
@@ -108,54 +127,99 @@ fn lower(ports: &mut [PortReport], port: usize, whole: u64)
     }
 }
 
+/// A port whose file failed, with the error.
+#[derive(Clone, Copy, Debug)]
+struct Failed {
+    port: u8,
+    failure: Error,
+}
+
 /// Writes out what stands in the buffers of all outputs, in port order. A port whose file does not take it all has sent the records
-/// that the file took whole, and no more. Answers the first such port.
+/// that the file took whole, and no more. Answers the first such port, or that at which the run stopped where that is one of them.
 #[tactic(auto, using(crate::proofs::Lowering::lowered_none, crate::proofs::Lowering::lowered_more))]
-fn write_out_all<F: Write + Drop>(outputs: Vec<Output<F>>, ports: &mut [PortReport]) -> Option<u8>
+fn write_out_all<F: Write + Drop>(
+    outputs: Vec<Output<F>>,
+    ports: &mut [PortReport],
+    stopped: Option<u8>,
+) -> Option<Failed>
     requires { length outputs.items ≤ 8 }
     ensures lowered { AreLowered ports.old ports.new }
     ensures whole { IfNone result (ports.new ≡ ports.old) }
 {
     let mut failed = None;
     for (port, output) in (0..8u8).zip(outputs) {
-        if let Some(whole) = write_out(output) {
+        if let Some(Unwritten { whole, failure }) = write_out(output) {
             lower(ports, usize::from(port), whole);
-            if failed.is_none() {
-                failed = Some(port);
+            if failed.is_none() || stopped == Some(port) {
+                failed = Some(Failed { port, failure });
             }
         }
     }
     failed
 }
 
+/// What a run answered, behind which the buffers of its outputs are written out, and the error of the output that it names.
+#[derive(Drop)]
+pub struct Settled {
+    pub answer: Result<Report, RunFault>,
+    pub failure: Option<Error>,
+}
+
+/// The port whose writer stopped a run.
+fn stopped_at(cause: RunCause) -> Option<u8> {
+    match cause {
+        RunCause::Out(port) => Some(port),
+        _ => None,
+    }
+}
+
+/// The error of the file of a port, where it is the one that failed.
+fn failure_at(failed: Option<Failed>, port: Option<u8>) -> Option<Error>
+    ensures only { IfSome result (λ error. IfSome failed (λ f. (f.failure ≡ error) × (port ≡ Some f.port))) }
+    ensures given { IfSome failed (λ f. port ≡ Some f.port → result ≡ Some f.failure) }
+{
+    match failed {
+        Some(failed) if port == Some(failed.port) => Some(failed.failure),
+        _ => None,
+    }
+}
+
 /// Writes out what stands in the buffers of a run's outputs, before the run is told of: what it answered, where each file took all;
 /// else a run that stopped, at the first file that did not where it had come to its end, and with as many records sent by each port
 /// as its file took whole.
-pub fn settle<F: Write + Drop>(
-    outputs: Vec<Output<F>>,
-    answer: Result<Report, RunFault>,
-) -> Result<Report, RunFault>
+pub fn settle<F: Write + Drop>(outputs: Vec<Output<F>>, answer: Result<Report, RunFault>) -> Settled
     requires { length outputs.items ≤ 8 }
-    ensures whole { IfOk result (λ report. answer ≡ Ok report) }
-    ensures cause { IfErr answer (λ fault. answer_of result ≡ Err fault.cause) }
-    ensures lowered { AreLowered (report_of answer).ports.items (report_of result).ports.items }
+    ensures whole { IfOk result.answer (λ report. answer ≡ Ok report) }
+    ensures cause { IfErr answer (λ fault. answer_of result.answer ≡ Err fault.cause) }
+    ensures lowered { AreLowered (report_of answer).ports.items (report_of result.answer).ports.items }
+    ensures why { IfOk answer (λ _. IsErr result.answer → IsSome result.failure) }
 {
     match answer {
         Ok(report) => {
             let mut report = report;
-            match write_out_all(outputs, report.ports.as_mut_slice()) {
-                None => Ok(report),
-                Some(port) => Err(RunFault {
-                    cause: RunCause::Out(port),
-                    report,
-                }),
+            match write_out_all(outputs, report.ports.as_mut_slice(), None) {
+                None => Settled {
+                    answer: Ok(report),
+                    failure: None,
+                },
+                Some(Failed { port, failure }) => Settled {
+                    answer: Err(RunFault {
+                        cause: RunCause::Out(port),
+                        report,
+                    }),
+                    failure: Some(failure),
+                },
             }
         }
         Err(fault) => {
             let RunFault { cause, report } = fault;
             let mut report = report;
-            let _failed = write_out_all(outputs, report.ports.as_mut_slice());
-            Err(RunFault { cause, report })
+            let stopped = stopped_at(cause);
+            let failed = write_out_all(outputs, report.ports.as_mut_slice(), stopped);
+            Settled {
+                answer: Err(RunFault { cause, report }),
+                failure: failure_at(failed, stopped),
+            }
         }
     }
 }

@@ -115,7 +115,7 @@ const CASES: [Case; 10] = [
         rows: &[],
         status: 3,
         printed: "",
-        told: "fault: pipeline 6 Asm port 0 line 2 cause 5\n",
+        told: "fault: pipeline 6 Asm port 0 line 2 cause 5\n  because: line 2: an operand is no number, or one out of its range\n",
     },
 ];
 
@@ -246,7 +246,12 @@ fn pipelines_are_explained(rt: HostRuntime) -> Result<(), Fail> {
             2,
             "error: the pipeline has no port 3\n",
         ),
-        ("region", Entry::Port(0), 3, "fault: pipeline 1 NotToml\n"),
+        (
+            "region",
+            Entry::Port(0),
+            3,
+            "fault: pipeline 1 NotToml\n  because: the text is no TOML\n",
+        ),
     ];
     for (text, which, status, printed) in cases {
         let (ended, told) = explained(alloc, text, Some(which))?;

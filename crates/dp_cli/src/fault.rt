@@ -1,10 +1,12 @@
 //! What is told of a fault, and the status that the program ends with.
 
-ghost use Rattle.std.specs.Prelude.{◌≡◌, ◌≢◌, ◌⊎◌, IfSome, OnErr, OnOk};
+ghost use Rattle.std.specs.Prelude.{◌≡◌, ◌≢◌, ◌⊎◌, ◌++◌, ◌∷◌, [], IfSome, OnErr, OnOk};
 ghost use Rattle.std.specs.Fmt.{with_newline};
 ghost use Rattle.std.specs.Io.KnownBytes.{Appends};
-ghost use Rattle.dp_cli.specs.Told.{IsTold, TellsMemory, status_of, status_of_fault};
+ghost use Rattle.dp_cli.specs.Told.{IsTold, TellsMemory, finding_of, lines_behind, lines_of_fault, status_of, status_of_fault, text_of_fault};
 
+use crate::why::{Finding, Reason, reason_of, write_finding};
+use dp_pcap::PcapError;
 use dp_pipe::PipeError;
 use std::fmt::Display;
 use std::io::Write;
@@ -26,25 +28,47 @@ pub const FAULT: u8 = 3;
 pub const MEMORY: u8 = 4;
 
 /// What went wrong. Ports and nodes are named by their numbers, lines count from 1.
-#[derive(Clone, Copy, Debug, PartialEq, Eq)]
+#[derive(Clone, Copy, Debug)]
 pub enum Fault<'a> {
     /// There is not enough memory.
     Memory,
-    /// A file that cannot be opened, made or read, or is too long.
-    File(&'a str),
+    /// A file that cannot be opened, made or read, is too long, or is not to be made, with the reason.
+    File(&'a str, Reason),
     /// A pipeline that is not loaded, with its cause: one of the first seven.
     Pipeline(PipeError),
     /// A pipeline's region that is smaller than it needs.
     Region,
     /// An input that is no capture, or whose reader failed.
-    Input { port: u8, cause: u8 },
+    Input {
+        port: u8,
+        cause: PcapError,
+        found: Finding<'a>,
+    },
     /// An output whose writer failed.
-    Output { port: u8 },
+    Output {
+        port: u8,
+        found: Finding<'a>,
+    },
     /// A line of a heap script that is no command.
     Line(u64),
 }
 
-impl Fault<'_> {
+impl<'a> Fault<'a> {
+    /// What is told behind its line.
+    fn finding(self) -> Option<Finding<'a>>
+        ensures { result ≡ finding_of self.entry }
+    {
+        match self {
+            Fault::File(_, reason) => Some(Finding { file: None, reason }),
+            Fault::Pipeline(error) => {
+                reason_of(error).map(|reason| Finding { file: None, reason })
+            }
+            Fault::Input { found, .. } => Some(found),
+            Fault::Output { found, .. } => Some(found),
+            Fault::Memory | Fault::Region | Fault::Line(_) => None,
+        }
+    }
+
     /// The status that the program ends with.
     pub fn status(self) -> u8
         ensures { result ≡ status_of_fault self.entry }
@@ -57,18 +81,21 @@ impl Fault<'_> {
 }
 
 impl fmt::Display for Fault<'_> {
+    ghost use Rattle.std.specs.Prelude.{Some};
     ghost use Rattle.dp_cli.specs.Told.{text_of_fault};
 
-    ghost output = { text_of_fault };
+    ghost output = { λ fault. Some (text_of_fault fault) };
 
     fn fmt<W: fmt::Write>(&self, f: &mut fmt::Formatter<W>) -> fmt::Result {
         match self {
             Fault::Memory => write!(f, "fault: memory"),
-            Fault::File(name) => write!(f, "fault: file {name}"),
+            Fault::File(name, _) => write!(f, "fault: file {name}"),
             Fault::Pipeline(error) => write!(f, "fault: pipeline {error}"),
             Fault::Region => write!(f, "fault: region"),
-            Fault::Input { port, cause } => write!(f, "fault: input {port} cause {cause}"),
-            Fault::Output { port } => write!(f, "fault: output {port}"),
+            Fault::Input { port, cause, .. } => {
+                write!(f, "fault: input {port} cause {}", cause.number())
+            }
+            Fault::Output { port, .. } => write!(f, "fault: output {port}"),
             Fault::Line(line) => write!(f, "fault: line {line} bad command"),
         }
     }
@@ -94,12 +121,37 @@ pub fn tell<W: Write, T: Display + Drop>(to: &mut W, text: T, status: u8) -> u8
     status_of_write(writeln!(to, "{text}"), status)
 }
 
-/// Writes a fault as a line, and answers its status, or 3 where it cannot be written. So with 4 it was told that memory ran out.
+/// Writes the lines behind that of a fault, where there are any.
+fn write_behind<W: Write>(to: &mut W, finding: Option<Finding<'_>>) -> io::Result<()>
+    ensures { OnOk result (IfSome (lines_behind finding.entry) (Appends (W.contents to.old) (W.contents to.new))) }
+{
+    match finding {
+        Some(finding) => write_finding(to, finding),
+        None => Ok(()),
+    }
+}
+
+/// Writes the line of a fault.
+fn write_line<W: Write>(to: &mut W, fault: Fault<'_>) -> io::Result<()>
+    ensures { OnOk result (Appends (W.contents to.old) (W.contents to.new) (text_of_fault fault.entry ++ 10 ∷ [])) }
+{
+    writeln!(to, "{fault}")
+}
+
+/// Writes the line of a fault, and behind it the file and the reason.
+fn write_fault<W: Write>(to: &mut W, fault: Fault<'_>) -> io::Result<()>
+    ensures { OnOk result (IfSome (lines_of_fault fault.entry) (Appends (W.contents to.old) (W.contents to.new))) }
+{
+    write_line(to, fault)?;
+    write_behind(to, fault.finding())
+}
+
+/// Writes a fault with its reason, and answers its status, or 3 where that cannot be written. So with 4 it was told that memory ran out.
 pub fn tell_fault<W: Write>(to: &mut W, fault: Fault<'_>) -> u8
     ensures status { IsTold (status_of_fault fault.entry) result }
     ensures memory { result ≡ MEMORY → TellsMemory (W.contents to.old) (W.contents to.new) }
 {
-    match writeln!(to, "{fault}") {
+    match write_fault(to, fault) {
         Ok(()) => fault.status(),
         Err(_) => FAULT,
     }

@@ -1,8 +1,12 @@
 //! Files of bounded length, read whole; and what stands in for standard streams that are closed.
 
+ghost use Rattle.std.specs.Prelude.{◌≡◌, ◌≢◌};
+ghost use Rattle.dp_cli.specs.Told.{finding_of, read_finding, read_text, text_of_fault};
+
 use crate::fault::Fault;
+use crate::why::Reason;
 use std::alloc::{AllocError, Global};
-use std::io::Read;
+use std::io::{ErrorKind, Read};
 use std::rt::Files;
 use std::{fs, io};
 
@@ -10,29 +14,39 @@ use std::{fs, io};
 pub const LONGEST: u64 = 1_048_576;
 
 /// Why a file was not read.
-#[derive(Clone, Copy, Debug, PartialEq, Eq)]
+#[derive(Clone, Copy, Debug)]
 pub enum ReadFault {
     /// There is not enough memory.
     Memory,
-    /// It cannot be opened or read, or is longer than 1,048,576 bytes.
-    File,
+    /// It cannot be opened or read, or is longer than 1,048,576 bytes, with the reason.
+    File(Reason),
 }
 
 impl ReadFault {
     /// What is told of it.
-    pub fn of_file<'a>(self, name: &'a str) -> Fault<'a> {
+    pub fn of_file<'a>(self, name: &'a str) -> Fault<'a>
+        ensures line { text_of_fault result ≡ read_text self name.now }
+        ensures reason { finding_of result ≡ read_finding self }
+    {
         match self {
             ReadFault::Memory => Fault::Memory,
-            ReadFault::File => Fault::File(name),
+            ReadFault::File(reason) => Fault::File(name, reason),
         }
     }
 }
 
 impl From<io::Error> for ReadFault {
+    ghost use Rattle.std.specs.IoError.{error_kind};
+    ghost use Rattle.std.specs.declared.io.ErrorKind.TheVariants.{OutOfMemory};
+    ghost use Rattle.dp_cli.specs.declared.files.ReadFault.TheVariants.{File};
+    ghost use Rattle.dp_cli.specs.declared.why.Reason.TheVariants.{System};
+
+    ghost from_gives = { λ error fault. error_kind error ≢ OutOfMemory → fault ≡ File (System error) };
+
     fn from(error: io::Error) -> ReadFault {
         match error.kind() {
-            io::ErrorKind::OutOfMemory => ReadFault::Memory,
-            _ => ReadFault::File,
+            ErrorKind::OutOfMemory => ReadFault::Memory,
+            _ => ReadFault::File(Reason::System(error)),
         }
     }
 }
@@ -43,7 +57,7 @@ pub fn read<R: Files>(rt: &R, alloc: Global, name: &str) -> Result<Vec<u8>, Read
     let mut bytes = Vec::new(alloc);
     file.take(LONGEST + 1).read_to_end(&mut bytes)?;
     if bytes.len() as u64 > LONGEST {
-        return Err(ReadFault::File);
+        return Err(ReadFault::File(Reason::TooLong));
     }
     Ok(bytes)
 }
@@ -55,7 +69,7 @@ const NOTHING: &str = "/dev/null";
 fn open_nothing<R: Files>(rt: &R) -> Result<Option<R::File>, AllocError> {
     match fs::open(rt, NOTHING) {
         Ok(file) => Ok(Some(file)),
-        Err(error) if error.kind() == io::ErrorKind::OutOfMemory => Err(AllocError),
+        Err(error) if error.kind() == ErrorKind::OutOfMemory => Err(AllocError),
         Err(_) => Ok(None),
     }
 }

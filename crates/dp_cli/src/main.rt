@@ -1,11 +1,13 @@
 //! The program `dpv`: words, files, and what is told of a run.
 #![tactic(auto)]
 
+mod apart;
 mod captures;
 mod certifying;
 mod explain;
 mod fault;
 mod files;
+mod findings;
 mod graph;
 mod guarded;
 mod judged;
@@ -18,20 +20,27 @@ mod report;
 mod rows;
 mod run;
 mod script;
+mod seen;
 mod show;
+mod trace;
+mod tracer;
+mod watched;
+mod why;
 mod words;
 
-ghost use Rattle.std.specs.Prelude.{IfOk};
+ghost use Rattle.std.specs.Prelude.{◌≤◌, IfOk};
 ghost use Rattle.dp_engine.specs.Engines.{IsAscending};
 
-use captures::{create_outputs, open_inputs, settle};
+use apart::keep_apart;
+use captures::{Settled, create_outputs, open_inputs, settle};
 use certifying::infer_node;
 use clap::ArgMatches;
 use clap::error::ErrorKind;
 use dp_model::Entry;
-use dp_pipe::{How, Pipeline, run};
+use dp_pipe::{How, Pipeline, Traced, run};
 use explain::{explain_line, explain_node};
 use fault::{DONE, FAULT, Fault, USAGE, tell_fault, tell_usage};
+use findings::{finding_of, names_of};
 use judged::Asked;
 use mem::mem_line;
 use one::{Naming, ONE_PORT, OneFiles, one_env};
@@ -42,7 +51,8 @@ use std::alloc::Global;
 use std::io;
 use std::process::ExitCode;
 use std::rt::Files;
-use words::{node_named, numbers_in};
+use trace::{print_trace, tell_trace};
+use words::{node_named, numbers_in, port_in, records_in};
 
 /// Tells of an error of the command line, or shows the help that was asked for, and answers the status.
 fn wrong_words<R: Print + Eprint, E: io::Write>(rt: &R, error: &clap::Error, err: &mut E) -> u8 {
@@ -78,8 +88,9 @@ fn load_text<R: Files + Print, E: io::Write>(
     how: How,
     err: &mut E,
 ) -> Result<Pipeline, u8> {
-    let mut files = HostFiles { rt, naming };
-    load_line(alloc, text, &mut files, how, &mut io::writer(rt), err)
+    let mut files = HostFiles::new(rt, naming);
+    let loaded = load_line(alloc, text, &mut files, how, &mut io::writer(rt), err);
+    loaded.map_err(|status| files.tell_unfetched(status, err))
 }
 
 /// The pipeline of a file; or the status, once the first fault is told.
@@ -150,17 +161,12 @@ fn explain_file<R: Files + Print, E: io::Write>(
     };
     let file = word(words, "FILE");
     match files::read(rt, alloc, file) {
-        Ok(text) => explain_line(
-            alloc,
-            text.as_slice(),
-            &mut HostFiles {
-                rt,
-                naming: Naming::AsTheyStand,
-            },
-            which,
-            &mut io::writer(rt),
-            err,
-        ),
+        Ok(text) => {
+            let mut files = HostFiles::new(rt, Naming::AsTheyStand);
+            let out = &mut io::writer(rt);
+            let status = explain_line(alloc, text.as_slice(), &mut files, which, out, err);
+            files.tell_unfetched(status, err)
+        }
         Err(fault) => tell_fault(err, fault.of_file(file)),
     }
 }
@@ -172,18 +178,17 @@ fn infer_program<R: Files + Print, E: io::Write>(
     words: &ArgMatches<'_>,
     err: &mut E,
 ) -> u8 {
-    infer_node(
+    let mut files = HostFiles::new(rt, Naming::AsTheyStand);
+    let status = infer_node(
         alloc,
-        &mut HostFiles {
-            rt,
-            naming: Naming::AsTheyStand,
-        },
+        &mut files,
         &one_env(),
         Entry::Port(0),
         word(words, "NODE"),
         &mut io::writer(rt),
         err,
-    )
+    );
+    files.tell_unfetched(status, err)
 }
 
 /// A program by itself, for the one port of `dpv one`.
@@ -202,17 +207,16 @@ fn explain_one<R: Files + Print, E: io::Write>(
     words: &ArgMatches<'_>,
     err: &mut E,
 ) -> u8 {
-    explain_node(
+    let mut files = HostFiles::new(rt, Naming::AsTheyStand);
+    let status = explain_node(
         alloc,
-        &mut HostFiles {
-            rt,
-            naming: Naming::AsTheyStand,
-        },
+        &mut files,
         &one_env(),
         asked_one(words),
         &mut io::writer(rt),
         err,
-    )
+    );
+    files.tell_unfetched(status, err)
 }
 
 /// How a program is to be shown.
@@ -237,18 +241,12 @@ fn show_file<R: Files + Print, E: io::Write>(
     };
     let file = word(words, "FILE");
     match files::read(rt, alloc, file) {
-        Ok(text) => show_line(
-            alloc,
-            text.as_slice(),
-            &mut HostFiles {
-                rt,
-                naming: Naming::AsTheyStand,
-            },
-            node,
-            form_in(words),
-            &mut io::writer(rt),
-            err,
-        ),
+        Ok(text) => {
+            let mut files = HostFiles::new(rt, Naming::AsTheyStand);
+            let (form, out) = (form_in(words), &mut io::writer(rt));
+            let status = show_line(alloc, text.as_slice(), &mut files, node, form, out, err);
+            files.tell_unfetched(status, err)
+        }
         Err(fault) => tell_fault(err, fault.of_file(file)),
     }
 }
@@ -260,18 +258,17 @@ fn show_one<R: Files + Print, E: io::Write>(
     words: &ArgMatches<'_>,
     err: &mut E,
 ) -> u8 {
-    show_node(
+    let mut files = HostFiles::new(rt, Naming::AsTheyStand);
+    let status = show_node(
         alloc,
-        &mut HostFiles {
-            rt,
-            naming: Naming::AsTheyStand,
-        },
+        &mut files,
         &one_env(),
         asked_one(words),
         form_in(words),
         &mut io::writer(rt),
         err,
-    )
+    );
+    files.tell_unfetched(status, err)
 }
 
 /// An operand of a command, which asks for it.
@@ -314,6 +311,12 @@ fn run_pipeline<R: Files + Print, E: io::Write>(
         Ok(inputs) => inputs,
         Err(fault) => return tell_fault(err, fault),
     };
+    let Ok(names) = names_of(alloc, &pipeline, naming) else {
+        return tell_fault(err, Fault::Memory);
+    };
+    if let Err(fault) = keep_apart(rt, alloc, names.as_slice()) {
+        return tell_fault(err, fault);
+    }
     let mut outputs = match create_outputs(rt, alloc, &pipeline, naming) {
         Ok(outputs) => outputs,
         Err(fault) => return tell_fault(err, fault),
@@ -325,7 +328,12 @@ fn run_pipeline<R: Files + Print, E: io::Write>(
         outputs.as_mut_slice(),
         pattern,
     );
-    tell_run(settle(outputs, answer), &mut io::writer(rt), err)
+    let Settled { answer, failure } = settle(outputs, answer);
+    let found = match &answer {
+        Ok(_) => None,
+        Err(fault) => finding_of(names.as_slice(), inputs, fault.cause, failure),
+    };
+    tell_run(answer, found, &mut io::writer(rt), err)
 }
 
 /// Runs the pipeline of a file.
@@ -341,6 +349,92 @@ fn run_file<R: Files + Print, E: io::Write>(
     };
     match load_file(rt, alloc, word(words, "FILE"), How::Given, err) {
         Ok(pipeline) => run_pipeline(rt, alloc, pipeline, Naming::AsTheyStand, pattern, err),
+        Err(status) => status,
+    }
+}
+
+/// Which records are to be traced: 10 where no number is given; or the status, once the fault is told.
+fn traced_in<E: io::Write>(words: &ArgMatches<'_>, err: &mut E) -> Result<Traced, u8>
+    ensures { IfOk result (λ which. which.records ≤ 134217728) }
+{
+    let count = words.get_str("records").unwrap_or("10");
+    let Some(records) = records_in(count) else {
+        return Err(tell_usage(
+            err,
+            format_args!("error: '{count}' is no number of records: from 1 to 134217728"),
+        ));
+    };
+    let Some(place) = words.get_str("port") else {
+        return Ok(Traced {
+            records,
+            port: None,
+        });
+    };
+    match port_in(place) {
+        Some(port) => Ok(Traced {
+            records,
+            port: Some(port),
+        }),
+        None => Err(tell_usage(
+            err,
+            format_args!("error: '{place}' is no port: a number from 0 to 7"),
+        )),
+    }
+}
+
+/// Traces a pipeline: opens the captures that it reads, and makes none.
+fn trace_pipeline<R: Files + Print, E: io::Write>(
+    rt: &R,
+    alloc: Global,
+    pipeline: Pipeline,
+    pattern: Vec<u64>,
+    which: Traced,
+    err: &mut E,
+) -> u8
+    requires pattern { IsAscending 0 pattern.items }
+    requires limit { which.records ≤ 134217728 }
+{
+    match which.port {
+        Some(port) if usize::from(port) >= pipeline.ports() => {
+            return explain::tell_no_node(Entry::Port(port), err);
+        }
+        _ => {}
+    }
+    let mut inputs = match open_inputs(rt, alloc, &pipeline, Naming::AsTheyStand) {
+        Ok(inputs) => inputs,
+        Err(fault) => return tell_fault(err, fault),
+    };
+    let Ok(names) = names_of(alloc, &pipeline, Naming::AsTheyStand) else {
+        return tell_fault(err, Fault::Memory);
+    };
+    let out = &mut io::writer(rt);
+    let Ok(run) = print_trace(alloc, pipeline, inputs.as_mut_slice(), pattern, which, out) else {
+        return tell_fault(err, Fault::Memory);
+    };
+    let found = match run.answer {
+        Ok(()) => None,
+        Err(cause) => finding_of(names.as_slice(), inputs, cause, None),
+    };
+    tell_trace(run, found, err)
+}
+
+/// Traces the pipeline of a file.
+fn trace_file<R: Files + Print, E: io::Write>(
+    rt: &R,
+    alloc: Global,
+    words: &ArgMatches<'_>,
+    err: &mut E,
+) -> u8 {
+    let which = match traced_in(words, err) {
+        Ok(which) => which,
+        Err(status) => return status,
+    };
+    let pattern = match refused_in(alloc, words.get_str("refuse"), err) {
+        Ok(pattern) => pattern,
+        Err(status) => return status,
+    };
+    match load_file(rt, alloc, word(words, "FILE"), How::Given, err) {
+        Ok(pipeline) => trace_pipeline(rt, alloc, pipeline, pattern, which, err),
         Err(status) => status,
     }
 }
@@ -381,6 +475,7 @@ fn run_command<R: Files + Print, E: io::Write>(
         Some(("show", words)) => show_file(rt, alloc, words, err),
         Some(("show-one", words)) => show_one(rt, alloc, words, err),
         Some(("run", words)) => run_file(rt, alloc, words, err),
+        Some(("trace", words)) => trace_file(rt, alloc, words, err),
         Some(("mem", words)) => run_script(rt, alloc, word(words, "FILE"), err),
         _ => USAGE,
     }
@@ -423,3 +518,7 @@ mod show_tests;
 mod testing;
 #[cfg(test)]
 mod tests;
+#[cfg(test)]
+mod trace_tests;
+#[cfg(test)]
+mod why_tests;

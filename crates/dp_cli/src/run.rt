@@ -1,32 +1,50 @@
 //! `dpv run`: a pipeline, from captures to captures.
 
-ghost use Rattle.std.specs.Prelude.{◌≡◌, length, map, IfOk};
+ghost use Rattle.std.specs.Prelude.{◌≡◌, length, map, None, IfOk, IfSome};
 ghost use Rattle.std.specs.Io.KnownBytes.{Appends};
 ghost use Rattle.dp_engine.specs.Engines.{IsAscending};
 ghost use Rattle.dp_cli.specs.Report.{report_text};
-ghost use Rattle.dp_cli.specs.Run.{IsRunTold, status_of_cause, status_of_run};
-ghost use Rattle.dp_cli.specs.Told.{IsTold, TellsMemory, status_of_fault};
+ghost use Rattle.dp_cli.specs.Run.{IsRunTold, status_of_cause, status_of_run, stop_text};
+ghost use Rattle.dp_cli.specs.Told.{IsTold, TellsMemory, finding_of, status_of_fault, text_of_fault};
 
 use crate::fault::{DONE, Fault, MEMORY, status_of_write, tell_fault, tell_if_memory};
 use crate::report::print_report;
+use crate::why::{Finding, Reason};
 use dp_engine::Report;
-use dp_pcap::{Feed, Sink};
+use dp_pcap::{Feed, PcapError, Sink};
 use dp_pipe::{Pipeline, RunCause, RunFault, run};
 use std::alloc::Global;
 use std::io::Write;
 
-/// What is told of a run that stopped.
-fn fault_of(cause: RunCause) -> Fault<'static>
-    ensures { status_of_fault result ≡ status_of_cause cause }
+/// What is told of a run that stopped, where nothing more is found.
+fn words_of<'a>(error: PcapError) -> Finding<'a>
+    ensures reason { result.reason ≡ Reason.Capture error }
+    ensures file { result.file ≡ None }
+{
+    Finding {
+        file: None,
+        reason: Reason::Capture(error),
+    }
+}
+
+/// What is told of a run that stopped, with what is found of the capture at which it did.
+pub fn fault_of<'a>(cause: RunCause, found: Option<Finding<'a>>) -> Fault<'a>
+    ensures status { status_of_fault result ≡ status_of_cause cause }
+    ensures line { text_of_fault result ≡ stop_text cause }
+    ensures found { IfSome (finding_of result) (λ f. IfSome found.entry (λ given. f ≡ given)) }
 {
     match cause {
         RunCause::Memory => Fault::Memory,
         RunCause::NoRoom => Fault::Region,
         RunCause::In(port, error) => Fault::Input {
             port,
-            cause: error.number(),
+            cause: error,
+            found: found.unwrap_or(words_of(error)),
         },
-        RunCause::Out(port) => Fault::Output { port },
+        RunCause::Out(port) => Fault::Output {
+            port,
+            found: found.unwrap_or(words_of(PcapError::Write)),
+        },
     }
 }
 
@@ -42,7 +60,12 @@ fn tell_report<O: Write, E: Write>(report: &Report, out: &mut O, err: &mut E) ->
 }
 
 /// Tells of a run that stopped, and answers the status: its report on `out`, but for want of memory, and then the fault on `err`.
-fn tell_stopped<O: Write, E: Write>(fault: RunFault, out: &mut O, err: &mut E) -> u8
+fn tell_stopped<O: Write, E: Write>(
+    fault: RunFault,
+    found: Option<Finding<'_>>,
+    out: &mut O,
+    err: &mut E,
+) -> u8
     ensures status { IsTold (status_of_cause fault.cause) result }
     ensures memory { result ≡ MEMORY → TellsMemory (E.contents err.old) (E.contents err.new) }
 {
@@ -53,12 +76,14 @@ fn tell_stopped<O: Write, E: Write>(fault: RunFault, out: &mut O, err: &mut E) -
             return status;
         }
     }
-    tell_fault(err, fault_of(cause))
+    tell_fault(err, fault_of(cause, found))
 }
 
-/// Tells what a run answered: prints the report, also of a run that stopped, and then tells why it did; answers the status.
+/// Tells what a run answered: prints the report, also of a run that stopped, and then tells why it did, with what is found of the
+/// capture at which it stopped; answers the status.
 pub fn tell_run<O: Write, E: Write>(
     answer: Result<Report, RunFault>,
+    found: Option<Finding<'_>>,
     out: &mut O,
     err: &mut E,
 ) -> u8
@@ -69,7 +94,7 @@ pub fn tell_run<O: Write, E: Write>(
 {
     match answer {
         Ok(report) => tell_report(&report, out, err),
-        Err(fault) => tell_stopped(fault, out, err),
+        Err(fault) => tell_stopped(fault, found, out, err),
     }
 }
 
@@ -91,5 +116,5 @@ pub fn run_line<R: Feed, W: Sink, O: Write, E: Write>(
     ensures silent { result ≡ DONE → err.new ≡ err.old }
     ensures memory { result ≡ MEMORY → TellsMemory (E.contents err.old) (E.contents err.new) }
 {
-    tell_run(run(alloc, pipeline, ins, outs, pattern), out, err)
+    tell_run(run(alloc, pipeline, ins, outs, pattern), None, out, err)
 }

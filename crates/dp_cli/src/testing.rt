@@ -25,11 +25,13 @@ pub struct Ended {
 }
 
 impl Ended {
-    /// Whether it ended so.
+    /// Whether it ended so. Behind a line of a fault the reason may stand.
     pub fn is(&self, status: u8, printed: &str, told: &str) -> bool {
+        let (line, behind) = split_at(self.told.as_slice(), told.len());
         self.status == status
             && self.printed.as_slice() == printed.as_bytes()
-            && self.told.as_slice() == told.as_bytes()
+            && line == told.as_bytes()
+            && (behind.is_empty() || !told.is_empty() && behind.starts_with(b"  because: "))
     }
 }
 
@@ -84,6 +86,15 @@ pub fn cert_text(alloc: Global, rows: &[&str]) -> Result<Vec<u8>, AllocError> {
         text.push(b'\n')?;
     }
     Ok(text)
+}
+
+/// The first n bytes and the rest, or all where there are fewer.
+fn split_at(bytes: &[u8], n: usize) -> (&[u8], &[u8]) {
+    if n <= bytes.len() {
+        (&bytes[..n], &bytes[n..])
+    } else {
+        (bytes, &[])
+    }
 }
 
 /// The first n bytes, or all where there are fewer.

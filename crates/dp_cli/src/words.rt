@@ -1,6 +1,6 @@
 //! The command line, from words to values.
 
-ghost use Rattle.std.specs.Prelude.{◌≡◌, ◌<◌, map, Some, IfSome, IfOk, option_map};
+ghost use Rattle.std.specs.Prelude.{◌≡◌, ◌<◌, ◌≤◌, map, Some, IfSome, IfOk, option_map};
 ghost use Rattle.std.specs.Char.{is_ascii_digit};
 ghost use Rattle.std.specs.List.{list_all};
 ghost use Rattle.dp_engine.specs.Engines.{IsAscending};
@@ -135,6 +135,34 @@ fn run<'a>(alloc: Global) -> Result<Command<'a>, AllocError> {
         .arg(refuse)
 }
 
+/// The option `--refuse`.
+fn refuse<'a>(alloc: Global) -> Arg<'a> {
+    Arg::new(alloc, "refuse")
+        .long("refuse")
+        .value_name("LIST")
+        .help("the allocation calls that are refused, as 3 or 1,5,9")
+}
+
+/// `dpv trace FILE [--records N] [--port P] [--refuse LIST]`.
+fn trace<'a>(alloc: Global) -> Result<Command<'a>, AllocError> {
+    let records = Arg::new(alloc, "records")
+        .long("records")
+        .value_name("N")
+        .help("how many records are traced, from 1 on; else 10");
+    let port = Arg::new(alloc, "port")
+        .long("port")
+        .value_name("P")
+        .help("the port whose records alone come in; else all");
+    Command::new(alloc, "trace")
+        .about(
+            "Prints the first records of a pipeline instruction by instruction, and writes no capture",
+        )
+        .arg(file(alloc, "the pipeline file"))?
+        .arg(records)?
+        .arg(port)?
+        .arg(refuse(alloc))
+}
+
 /// `dpv mem FILE`.
 fn mem<'a>(alloc: Global) -> Result<Command<'a>, AllocError> {
     Command::new(alloc, "mem")
@@ -158,6 +186,7 @@ pub fn command<'a>(alloc: Global) -> Result<Command<'a>, AllocError> {
         .subcommand(show(alloc)?)?
         .subcommand(show_one(alloc)?)?
         .subcommand(run(alloc)?)?
+        .subcommand(trace(alloc)?)?
         .subcommand(mem(alloc)?)
 }
 
@@ -188,6 +217,27 @@ fn number_in(word: &str) -> Option<u64>
         word.parse().ok()
     } else {
         None
+    }
+}
+
+/// The number of records that a word is: from 1 to 134,217,728.
+pub fn records_in(word: &str) -> Option<u32>
+    ensures number { result ≡ spec.records_in word.now }
+    ensures range { IfSome result (λ records. (1 ≤ records) × (records ≤ 134217728)) }
+{
+    match number_in(word) {
+        Some(number @ 1..=134_217_728) => Some(number as u32),
+        _ => None,
+    }
+}
+
+/// The port that a word is: a number from 0 to 7.
+pub fn port_in(word: &str) -> Option<u8>
+    ensures { result ≡ spec.port_in word.now }
+{
+    match number_in(word) {
+        Some(port @ 0..=7) => Some(port as u8),
+        _ => None,
     }
 }
 

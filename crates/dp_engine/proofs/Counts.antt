@@ -184,7 +184,7 @@ refs_counted [] n = refl
 refs_counted (s ∷ xs) n = omega (arith, refs-cons s xs n, refs_counted xs n, once_if (same_number s.buffer n))
 
 -- lists that count the same have the same references
-refs_same : (a b : List Segment) (n : Number) → CountSame a b → refs a n ≡ refs b n
+pub refs_same : (a b : List Segment) (n : Number) → CountSame a b → refs a n ≡ refs b n
 refs_same a b n same = refs_counted a n ∙ same (λ s. same_number s.buffer n) ∙ sym (refs_counted b n)
 
 pub head_sole : (a b : List Segment) (k : Packet) → CountSame a b → IsHeadSole a k → IsHeadSole b k

@@ -9,6 +9,7 @@ pub mod Queues
 pub mod Reports
 pub mod Schemes
 pub mod Serving
+pub mod Shapes
 pub mod Spaces
 pub mod Stacks
 pub mod Steps

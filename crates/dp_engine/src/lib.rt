@@ -2,6 +2,7 @@
 //! stand in one region.
 #![tactic(auto)]
 
+mod control;
 mod engine;
 mod machine;
 mod names;
@@ -16,7 +17,11 @@ mod run;
 mod serving;
 mod space;
 mod stack;
+mod view;
+mod watch;
 
 pub use engine::{Engine, OpenFault, Outcome, Turn, WriteFault};
 pub use needs::need;
 pub use report::{InputState, PoolReport, PortReport, Report};
+pub use view::{PacketShape, SegmentView, View};
+pub use watch::Watch;

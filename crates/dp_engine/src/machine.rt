@@ -9,7 +9,7 @@ ghost use Rattle.dp_model.specs.Packets.{needed};
 ghost use Rattle.dp_model.specs.Machine.{is_denied};
 ghost use Rattle.dp_model.specs.Runs.{between, first_state, first_waiting, Waiting};
 ghost use Rattle.dp_engine.specs.Handles.{moved};
-ghost use Rattle.dp_engine.specs.Steps.{setting_of, routes_of, with_numbers, ShiftsWithin};
+ghost use Rattle.dp_engine.specs.Steps.{setting_of, routes_of, with_numbers, ShiftsWithin, label_after};
 ghost use Rattle.std.specs.Prelude.{◌↔◌, false};
 ghost use Rattle.dp_engine.specs.Turns.{IsReceived, with_one_call};
 ghost use Rattle.std.specs.Prelude.{slice_get, replicate};
@@ -27,8 +27,10 @@ ghost use Rattle.dp_pcap.specs.Text.{AppendsPart, record_text, failed_pushes};
 ghost use Rattle.dp_engine.specs.Drains.{record_of, AtPacket, Written, WrotePart, whole_of, IsCalledFor};
 
 mod calls;
+mod looks;
 mod register;
 
+use crate::control::Control;
 use crate::numbers::calculate;
 use crate::put::put_packet;
 use crate::queues::Queues;
@@ -107,6 +109,7 @@ impl Machine {
     }
 
     // Receives bytes into the first register, with the port's number beside it; or the call is refused.
+    #[inline(always)]
     pub(crate) fn receive(
         &mut self,
         env: &Env,
@@ -215,13 +218,12 @@ impl Machine {
         self.numbers[r.number() as usize] = n;
     }
 
-    // An instruction that handles no packet. The label of the next.
+    // An instruction that handles no packet.
     #[inline(always)]
-    pub(crate) fn calculate(&mut self, tables: &[Lpm], instr: Instr, label: u16) -> u16
+    pub(crate) fn calculate(&mut self, tables: &[Lpm], instr: Instr, label: usize) -> Control
         requires some { (after : ℕ × List ℕ) × (calculated (routes_of tables.now) label self.old.state.numbers instr ≡ Some after) }
         requires shifts { ShiftsWithin instr }
-        requires few { label < 1024 }
-        ensures after { calculated (routes_of tables.now) label self.old.state.numbers instr ≡ Some (result, self.new.state.numbers) }
+        ensures after { calculated (routes_of tables.now) label self.old.state.numbers instr ≡ Some (label_after label result, self.new.state.numbers) }
         ensures rest { self.new ≡ moved (with_numbers self.new.state.numbers self.old.state) self.old }
     {
         calculate(&mut self.numbers, tables, instr, label)
@@ -307,6 +309,7 @@ impl Machine {
     }
 
     // Gives up the first packet of a transmit list that has one.
+    #[inline(always)]
     pub(crate) fn drop_sent(&mut self, port: u8)
         requires there { port < length self.old.frames.outboxes }
         requires some { (packets : List Packet) × (k : Packet) × (slice_get self.old.state.world.outboxes port ≡ Some (k ∷ packets)) }

@@ -3,19 +3,11 @@ ghost use Rattle.std.specs.Prelude.{◌≡◌, ℕ, ◌+◌, ◌%◌, ◌^◌, �
 ghost use Rattle.dp_model.specs.Prefixes.{hop_for};
 ghost use Rattle.dp_model.specs.Arithmetic.{value};
 ghost use Rattle.dp_model.specs.Machine.{calculated};
-ghost use Rattle.dp_engine.specs.Steps.{ShiftsWithin, routes_of};
+ghost use Rattle.dp_engine.specs.Steps.{ShiftsWithin, routes_of, label_after};
 
+use crate::control::{Control, branch};
 use dp_lpm::Lpm;
 use dp_model::{Instr, NumberRegister, Operand};
-
-// To that label where the test passes, and else on.
-#[inline(always)]
-pub(crate) fn branch(test: bool, to: u16, label: u16) -> u16
-    requires { label < 1024 }
-    ensures { result ≡ (if test then to else label + 1) }
-{
-    if test { to } else { label + 1 }
-}
 
 // The number of a register.
 #[inline(always)]
@@ -44,13 +36,17 @@ fn hop_in(tables: &[Lpm], table: u8, n: u64) -> Option<u32>
     tables[table as usize].lookup((n % 4294967296) as u32)
 }
 
-// An instruction that handles no packet. The label of the next.
+// An instruction that handles no packet.
 #[inline(always)]
-pub(crate) fn calculate(numbers: &mut [u64; 8], tables: &[Lpm], instr: Instr, label: u16) -> u16
+pub(crate) fn calculate(
+    numbers: &mut [u64; 8],
+    tables: &[Lpm],
+    instr: Instr,
+    label: usize,
+) -> Control
     requires some { (after : ℕ × List ℕ) × (calculated (routes_of tables.now) label numbers.old instr ≡ Some after) }
     requires shifts { ShiftsWithin instr }
-    requires few { label < 1024 }
-    ensures { calculated (routes_of tables.now) label numbers.old instr ≡ Some (result, numbers.new) }
+    ensures { calculated (routes_of tables.now) label numbers.old instr ≡ Some (label_after label result, numbers.new) }
 {
     let (into, n) = match instr {
         Instr::Set { into, value } => (into, value),
@@ -62,7 +58,7 @@ pub(crate) fn calculate(numbers: &mut [u64; 8], tables: &[Lpm], instr: Instr, la
         Instr::Xor { into, by } => (into, number(numbers, into) ^ value(numbers, by)),
         Instr::Shl { into, by } => (into, number(numbers, into) << by),
         Instr::Shr { into, by } => (into, number(numbers, into) >> by),
-        Instr::Jmp { to } => return to,
+        Instr::Jmp { to } => return Control::To(to),
         Instr::Jeq { left, right, equal } => {
             return branch(number(numbers, left) == value(numbers, right), equal, label);
         }
@@ -76,10 +72,10 @@ pub(crate) fn calculate(numbers: &mut [u64; 8], tables: &[Lpm], instr: Instr, la
             missed,
         } => match hop_in(tables, table, number(numbers, address)) {
             Some(hop) => (into, hop as u64),
-            None => return missed,
+            None => return Control::To(missed),
         },
         _ => unreachable!(),
     };
     numbers[into.number() as usize] = n;
-    label + 1
+    Control::On
 }

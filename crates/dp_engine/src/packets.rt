@@ -2,20 +2,25 @@
 ghost use Rattle.std.specs.Prelude.{◌≡◌, ℕ, ◌+◌, ◌^◌, ◌<◌, ◌≤◌, Bool, List, [], slice_index};
 ghost use Rattle.dp_model.specs.Packets.{Packet, first_len};
 ghost use Rattle.dp_model.specs.Machine.{Move, Acts, Holds};
-ghost use Rattle.dp_engine.specs.Steps.{setting_of, move_to, Takes, Asks, Reads, Writes, Edits, MayAct, ActsTo};
+ghost use Rattle.dp_engine.specs.Steps.{setting_of, move_to, Takes, Asks, Reads, Writes, Edits, MayAct, ActsTo, label_after};
 
+use crate::control::{Control, branch};
 use crate::machine::Machine;
-use crate::numbers::branch;
 use dp_model::{Env, Instr, NumberRegister, PacketRegister};
 
 // Takes buffers for a packet, or goes where the instruction says for a refused call.
-pub(crate) fn take(m: &mut Machine, env: &Env, pattern: &[u64], instr: Instr, label: u16) -> u16
+pub(crate) fn take(
+    m: &mut Machine,
+    env: &Env,
+    pattern: &[u64],
+    instr: Instr,
+    label: usize,
+) -> Control
     requires has { (move : Move) × Acts (setting_of env.now [] pattern.now) label m.old.state instr move }
     requires takes { Takes instr }
-    requires label { label < 1024 }
     requires few { m.old.state.world.calls + 1 < 2 ^ 64 }
     requires pools { m.old.pools ≡ env.now.pools }
-    ensures acts { (told : List Bool) × Acts (setting_of env.now [] pattern.now) label m.old.state instr (move_to (Some result) told m.new.state) }
+    ensures acts { (told : List Bool) × Acts (setting_of env.now [] pattern.now) label m.old.state instr (move_to (Some (label_after label result)) told m.new.state) }
     ensures pools { m.new.pools ≡ m.old.pools }
     ensures frames { m.new.frames ≡ m.old.frames }
 {
@@ -26,9 +31,9 @@ pub(crate) fn take(m: &mut Machine, env: &Env, pattern: &[u64], instr: Instr, la
             refused,
         } => {
             if m.alloc(env, pattern, into, pool) {
-                label + 1
+                Control::On
             } else {
-                refused
+                Control::To(refused)
             }
         }
         Instr::Clone {
@@ -38,9 +43,9 @@ pub(crate) fn take(m: &mut Machine, env: &Env, pattern: &[u64], instr: Instr, la
             refused,
         } => {
             if m.clone_of(env, pattern, into, from, pool) {
-                label + 1
+                Control::On
             } else {
-                refused
+                Control::To(refused)
             }
         }
         _ => unreachable!(),
@@ -49,11 +54,10 @@ pub(crate) fn take(m: &mut Machine, env: &Env, pattern: &[u64], instr: Instr, la
 
 // Asks for a room or a length.
 #[inline(always)]
-pub(crate) fn ask(m: &Machine, instr: Instr, label: u16) -> u16
+pub(crate) fn ask(m: &Machine, instr: Instr, label: usize) -> Control
     requires has { MayAct m.now label instr }
     requires asks { Asks instr }
-    requires label { label < 1024 }
-    ensures { ActsTo m.now label instr result m.now.state }
+    ensures { ActsTo m.now label instr (label_after label result) m.now.state }
 {
     match instr {
         Instr::IfHead {
@@ -93,11 +97,10 @@ fn place_of(m: &Machine, packet: PacketRegister, index: NumberRegister, offset: 
 
 // Reads a number from a packet.
 #[inline(always)]
-pub(crate) fn read(m: &mut Machine, instr: Instr, label: u16) -> u16
+pub(crate) fn read(m: &mut Machine, instr: Instr, label: usize) -> Control
     requires has { MayAct m.old label instr }
     requires reads { Reads instr }
-    requires label { label < 1024 }
-    ensures acts { ActsTo m.old label instr result m.new.state }
+    ensures acts { ActsTo m.old label instr (label_after label result) m.new.state }
     ensures pools { m.new.pools ≡ m.old.pools }
     ensures frames { m.new.frames ≡ m.old.frames }
 {
@@ -124,16 +127,15 @@ pub(crate) fn read(m: &mut Machine, instr: Instr, label: u16) -> u16
         }
         _ => unreachable!(),
     }
-    label + 1
+    Control::On
 }
 
 // Writes a number into a packet.
 #[inline(always)]
-pub(crate) fn write(m: &mut Machine, instr: Instr, label: u16) -> u16
+pub(crate) fn write(m: &mut Machine, instr: Instr, label: usize) -> Control
     requires has { MayAct m.old label instr }
     requires writes { Writes instr }
-    requires label { label < 1024 }
-    ensures acts { ActsTo m.old label instr result m.new.state }
+    ensures acts { ActsTo m.old label instr (label_after label result) m.new.state }
     ensures pools { m.new.pools ≡ m.old.pools }
     ensures frames { m.new.frames ≡ m.old.frames }
 {
@@ -160,16 +162,15 @@ pub(crate) fn write(m: &mut Machine, instr: Instr, label: u16) -> u16
         }
         _ => unreachable!(),
     }
-    label + 1
+    Control::On
 }
 
 // Changes a packet's bounds, joins two or gives one up.
 #[inline(always)]
-pub(crate) fn edit(m: &mut Machine, instr: Instr, label: u16) -> u16
+pub(crate) fn edit(m: &mut Machine, instr: Instr, label: usize) -> Control
     requires has { MayAct m.old label instr }
     requires edits { Edits instr }
-    requires label { label < 1024 }
-    ensures acts { ActsTo m.old label instr result m.new.state }
+    ensures acts { ActsTo m.old label instr (label_after label result) m.new.state }
     ensures pools { m.new.pools ≡ m.old.pools }
     ensures frames { m.new.frames ≡ m.old.frames }
 {
@@ -182,5 +183,5 @@ pub(crate) fn edit(m: &mut Machine, instr: Instr, label: u16) -> u16
         Instr::Chain { front, back } => m.chain(front, back),
         _ => unreachable!(),
     }
-    label + 1
+    Control::On
 }

@@ -11,7 +11,9 @@ use crate::engine::Outcome;
 use crate::machine::Machine;
 use crate::plan::Plan;
 use crate::run::{NodeRun, run};
-use dp_model::PoolSpec;
+use crate::view::View;
+use crate::watch::Watch;
+use dp_model::{Entry, PoolSpec};
 
 // How many segments bytes need in a pool: parts of its data room behind 128 bytes of headroom, and one where there are no bytes.
 fn needed(pools: &[PoolSpec], pool: u32, len: usize) -> usize
@@ -30,7 +32,13 @@ fn needed(pools: &[PoolSpec], pool: u32, len: usize) -> usize
 const NO_RUN: NodeRun = NodeRun { steps: 0, cuts: 0 };
 
 // What becomes of a record at a port, and the node run on it if it is received.
-pub(crate) fn arrive(plan: &Plan, m: &mut Machine, port: u8, bytes: &[u8]) -> (Outcome, NodeRun)
+pub(crate) fn arrive<W: Watch>(
+    plan: &Plan,
+    m: &mut Machine,
+    port: u8,
+    bytes: &[u8],
+    watch: &mut W,
+) -> (Outcome, NodeRun)
     requires exists { port < length plan.now.setting.env.ports }
     requires size { length bytes.now ≤ 262144 }
     requires rests { Rests plan.now m.old }
@@ -54,15 +62,16 @@ pub(crate) fn arrive(plan: &Plan, m: &mut Machine, port: u8, bytes: &[u8]) -> (O
     if !m.receive(env, plan.pattern(), spec.pool, bytes, port) {
         return (Outcome::NoBuffer, NO_RUN);
     }
+    watch.begin(Entry::Port(port), View::of(m));
     let program = plan.port_program(port);
     (
         Outcome::Got,
-        run(m, env, plan.tables(), plan.pattern(), program),
+        run(m, env, plan.tables(), plan.pattern(), program, watch),
     )
 }
 
 // The node run on the front packet of the first ring that has one, if there is one.
-fn serve_one(plan: &Plan, m: &mut Machine) -> Option<NodeRun>
+fn serve_one<W: Watch>(plan: &Plan, m: &mut Machine, watch: &mut W) -> Option<NodeRun>
     requires rests { Rests plan.now m.old }
     requires few { m.old.state.world.calls + 263168 < 2 ^ 64 }
     requires few_cuts { m.old.state.world.cuts + 1 < 2 ^ 64 }
@@ -74,8 +83,9 @@ fn serve_one(plan: &Plan, m: &mut Machine) -> Option<NodeRun>
     ensures frames { m.new.frames ≡ m.old.frames }
 {
     let ring = m.take_waiting()?;
+    watch.begin(Entry::Ring(ring), View::of(m));
     let program = plan.ring_program(ring);
-    Some(run(m, plan.env(), plan.tables(), plan.pattern(), program))
+    Some(run(m, plan.env(), plan.tables(), plan.pattern(), program, watch))
 }
 
 /// Node runs on packets that waited in rings.
@@ -90,7 +100,7 @@ pub(crate) struct Served {
 }
 
 // Up to 32 node runs, each on the front packet of the first ring that has one.
-pub(crate) fn serve(plan: &Plan, m: &mut Machine) -> Served
+pub(crate) fn serve<W: Watch>(plan: &Plan, m: &mut Machine, watch: &mut W) -> Served
     requires rests { Rests plan.now m.old }
     requires few { m.old.state.world.calls + 32 * 263168 < 2 ^ 64 }
     requires few_cuts { m.old.state.world.cuts + 32 < 2 ^ 64 }
@@ -110,7 +120,7 @@ pub(crate) fn serve(plan: &Plan, m: &mut Machine) -> Served
         cuts: 0,
     };
     for i in 0..32u8 {
-        let Some(NodeRun { steps, cuts }) = serve_one(plan, m) else {
+        let Some(NodeRun { steps, cuts }) = serve_one(plan, m, watch) else {
             return served;
         };
         served.runs += 1;

@@ -2,7 +2,8 @@
 use Rattle.std.proofs.Common.{◌≡◌, ℕ, ◌+◌, ◌-◌, ◌<◌, ◌≤◌, Bool, true, false, cond, ◌||◌, List, [], ◌∷◌, ◌++◌, refl, sym, ap, subst, ◌∙◌, arith, inr}
 use Rattle.std.proofs.lemmas.Bool.{lt-ltb, le-ltb, true≢false}
 use Rattle.dp_region.specs.Spans.{Span, IsUnlent, is_span, listed, with_span, without_span}
-use Rattle.dp_region.proofs.Spans.{by_test, is_span-true}
+use Rattle.dp_region.specs.Laws.{is_span-true}
+use Rattle.dp_heap.proofs.ByTest.{by_test}
 use Rattle.dp_heap.specs.declared.elements.Element.{Element}
 use Rattle.dp_heap.specs.declared.elements.State.{State}
 use Rattle.dp_heap.specs.declared.elements.State.TheVariants.{Free}

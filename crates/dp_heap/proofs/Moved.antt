@@ -2,7 +2,7 @@
 use Rattle.std.proofs.Common.{◌≡◌, ℕ, ◌+◌, ◌<◌, ◌≤◌, false, eqb, ltb, List, [], ◌∷◌, ◌++◌, length, refl, sym, ap, subst, ◌∙◌, arith, inl, inr}
 use Rattle.std.specs.Prelude.{slice_index, not}
 use Rattle.std.proofs.lemmas.Bool.{ltb-true, ltb-false, true≢false, and_parts, not-true}
-use Rattle.dp_region.proofs.Spans.{by_test}
+use Rattle.dp_heap.proofs.ByTest.{by_test}
 use Rattle.dp_region.specs.Region.{RegionView}
 use Rattle.dp_heap.specs.declared.elements.Element.{Element}
 use Rattle.dp_heap.specs.Elements.{is_free, end_of, data_of, freed, both}

@@ -17,6 +17,7 @@ pub mod Opening
 pub mod Order
 pub mod Ordering
 pub mod Ranges
+pub mod Removing
 pub mod Replacing
 pub mod Settling
 pub mod SettlingIn

@@ -1,7 +1,7 @@
 -- Entries that become another one, place by place.
 use Rattle.std.proofs.Common.{◌≡◌, ◌≢◌, ℕ, ◌+◌, ◌/◌, ◌%◌, ◌<◌, ◌≤◌, Bool, true, false, List, length, refl, sym, ◌∙◌, ap, subst, arith, ⊎_elim}
-use Rattle.std.specs.Prelude.{◌==◌, slice_set, slice_index_or, if◌then◌else◌}
-use Rattle.std.proofs.lemmas.Bool.{eqb-true, le-leb, lt-leb, cases_eq}
+use Rattle.std.specs.Prelude.{◌==◌, nat_lt, slice_set, slice_index_or, if◌then◌else◌}
+use Rattle.std.proofs.lemmas.Bool.{eqb-true, ltb-false, le-leb, lt-leb, cases_eq}
 use Rattle.std.proofs.lemmas.List.{get_or-set_same, get_or-set_other}
 use Rattle.dp_lpm.specs.declared.cell.Cell.{Cell}
 use Rattle.dp_lpm.specs.declared.cell.Entry.{Entry}
@@ -14,14 +14,22 @@ pub record SettledUpTo (from k depth : ℕ) (to : Entry) (old new : List Cell) :
   pub below : (i : ℕ) → i < from → at new i ≡ at old i
   pub above : (i : ℕ) → k ≤ i → at new i ≡ at old i
 
--- the highest byte is the depth
-pub depth_in : (c : Cell) → depth_of (entry_in c) ≡ c.bits / 16777216
-depth_in c = kinds (c.bits / 16777216 == 0) (c.bits / 16777216 == 255) refl refl
+-- the highest byte tells what is at most so deep: it is the depth, or at least 128
+pub shallow_in : (c : Cell) (depth : ℕ) → c.bits / 16777216 ≤ depth → depth ≤ 32 → depth_of (entry_in c) ≤ depth
+shallow_in c depth shallow most = kinds (c.bits == 0) (nat_lt c.bits 2147483648) refl
   where
-    kinds : (none group : Bool) → (c.bits / 16777216 == 0) ≡ none → (c.bits / 16777216 == 255) ≡ group → depth_of (if none then Empty else if group then Group (c.bits % 256) else Hop (c.bits % 16777216) (c.bits / 16777216)) ≡ c.bits / 16777216
-    kinds true group is _ = sym (eqb-true (c.bits / 16777216) 0 is)
-    kinds false true _ is = sym (eqb-true (c.bits / 16777216) 255 is)
-    kinds false false _ _ = refl
+    kinds : (none hop : Bool) → nat_lt c.bits 2147483648 ≡ hop → depth_of (if none then Empty else if hop then Hop (c.bits % 16777216) (c.bits / 16777216) else Group (c.bits % 256)) ≤ depth
+    kinds true hop _ = omega arith
+    kinds false true _ = shallow
+    kinds false false is = absurd (let large = ltb-false c.bits 2147483648 is in omega (arith, large, shallow, most))
+
+pub deep_in : (c : Cell) (depth : ℕ) → depth < c.bits / 16777216 → depth ≤ 32 → depth < depth_of (entry_in c)
+deep_in c depth deeper most = kinds (c.bits == 0) (nat_lt c.bits 2147483648) refl
+  where
+    kinds : (none hop : Bool) → (c.bits == 0) ≡ none → depth < depth_of (if none then Empty else if hop then Hop (c.bits % 16777216) (c.bits / 16777216) else Group (c.bits % 256))
+    kinds true hop is = let zero_bits = eqb-true c.bits 0 is in absurd (omega (arith, zero_bits, deeper))
+    kinds false true _ = deeper
+    kinds false false _ = omega (arith, most)
 
 -- an entry that is set, and the others
 pub at-set_same : (cells : List Cell) (k : ℕ) (c : Cell) → k < length cells → at (slice_set cells k c) k ≡ entry_in c
@@ -37,8 +45,8 @@ settled_no : (depth : ℕ) (to e : Entry) → depth < depth_of e → settled dep
 settled_no depth to e lt = ap (λ b. if b then to else e) (lt-leb (depth_of e) depth lt)
 
 -- one more: it is shallow enough, and set
-pub settle_set : (from k depth : ℕ) (to : Cell) (old cells : List Cell) → SettledUpTo from k depth (entry_in to) old cells → from ≤ k → k < length cells → (slice_index_or cells k (record { bits = 0 })).bits / 16777216 ≤ depth → SettledUpTo from (k + 1) depth (entry_in to) old (slice_set cells k to)
-settle_set from k depth to old cells so after there shallow = record {
+pub settle_set : (from k depth : ℕ) (to : Cell) (old cells : List Cell) → SettledUpTo from k depth (entry_in to) old cells → from ≤ k → k < length cells → (slice_index_or cells k (record { bits = 0 })).bits / 16777216 ≤ depth → depth ≤ 32 → SettledUpTo from (k + 1) depth (entry_in to) old (slice_set cells k to)
+settle_set from k depth to old cells so after there shallow most = record {
   inside = λ i le lt. ⊎_elim (here i) (λ other. at-set_other cells k i to other ∙ so.inside i le (omega (arith, lt, other))) (cases_eq i k);
   below = λ i lt. at-set_other cells k i to (λ e. absurd (omega (arith, e, lt, after))) ∙ so.below i lt;
   above = λ i le. at-set_other cells k i to (λ e. absurd (omega (arith, e, le))) ∙ so.above i (omega (arith, le));
@@ -47,12 +55,13 @@ settle_set from k depth to old cells so after there shallow = record {
     here : (i : ℕ) → i ≡ k → at (slice_set cells k to) i ≡ settled depth (entry_in to) (at old i)
     here i is =
         let was : at cells i ≡ at old i = so.above i (omega (arith, is)) in
-        let deep : depth_of (at old i) ≡ (slice_index_or cells k (record { bits = 0 })).bits / 16777216 = ap depth_of (sym was ∙ ap (at cells) is) ∙ depth_in (slice_index_or cells k (record { bits = 0 })) in
-        ap (at (slice_set cells k to)) is ∙ (at-set_same cells k to there ∙ sym (settled_yes depth (entry_in to) (at old i) (omega (arith, deep, shallow))))
+        let same : depth_of (at old i) ≡ depth_of (at cells k) = ap depth_of (sym was ∙ ap (at cells) is) in
+        let few = shallow_in (slice_index_or cells k (record { bits = 0 })) depth shallow most in
+        ap (at (slice_set cells k to)) is ∙ (at-set_same cells k to there ∙ sym (settled_yes depth (entry_in to) (at old i) (omega (arith, same, few))))
 
 -- one more: it is deeper, and stays
-pub settle_keep : (from k depth : ℕ) (to : Entry) (old cells : List Cell) → SettledUpTo from k depth to old cells → depth < (slice_index_or cells k (record { bits = 0 })).bits / 16777216 → SettledUpTo from (k + 1) depth to old cells
-settle_keep from k depth to old cells so deeper = record {
+pub settle_keep : (from k depth : ℕ) (to : Entry) (old cells : List Cell) → SettledUpTo from k depth to old cells → depth < (slice_index_or cells k (record { bits = 0 })).bits / 16777216 → depth ≤ 32 → SettledUpTo from (k + 1) depth to old cells
+settle_keep from k depth to old cells so deeper most = record {
   inside = λ i le lt. ⊎_elim (here i) (λ other. so.inside i le (omega (arith, lt, other))) (cases_eq i k);
   below = so.below;
   above = λ i le. so.above i (omega (arith, le));
@@ -61,8 +70,9 @@ settle_keep from k depth to old cells so deeper = record {
     here : (i : ℕ) → i ≡ k → at cells i ≡ settled depth to (at old i)
     here i is =
         let was : at cells i ≡ at old i = so.above i (omega (arith, is)) in
-        let deep : depth_of (at old i) ≡ (slice_index_or cells k (record { bits = 0 })).bits / 16777216 = ap depth_of (sym was ∙ ap (at cells) is) ∙ depth_in (slice_index_or cells k (record { bits = 0 })) in
-        was ∙ sym (settled_no depth to (at old i) (omega (arith, deep, deeper)))
+        let same : depth_of (at old i) ≡ depth_of (at cells k) = ap depth_of (sym was ∙ ap (at cells) is) in
+        let many = deep_in (slice_index_or cells k (record { bits = 0 })) depth deeper most in
+        was ∙ sym (settled_no depth to (at old i) (omega (arith, same, many)))
 
 -- the same of lists that are those
 pub settled_between : (from k depth : ℕ) (to : Entry) (old old' new new' : List Cell) → old ≡ old' → new ≡ new' → SettledUpTo from k depth to old new → SettledUpTo from k depth to old' new'

@@ -1,5 +1,5 @@
 -- Entries of tables, and the four bytes that each takes.
-use Rattle.std.specs.Prelude.{ℕ, ◌/◌, ◌%◌, ◌<◌, ◌≤◌, ◌==◌, nat_le, if◌then◌else◌, List, Option, Some, None, slice_index_or}
+use Rattle.std.specs.Prelude.{ℕ, ◌/◌, ◌%◌, ◌<◌, ◌≤◌, ◌==◌, nat_le, nat_lt, if◌then◌else◌, List, Option, Some, None, slice_index_or}
 use Rattle.dp_lpm.specs.declared.cell.Entry.{Entry}
 use Rattle.dp_lpm.specs.declared.cell.Entry.TheVariants.{Empty, Hop, Group}
 use Rattle.dp_lpm.specs.declared.cell.Cell.{Cell}
@@ -7,9 +7,9 @@ use Rattle.dp_lpm.specs.declared.cell.Cell.{Cell}
 -- the entry of four bytes
 abbrev pub entry_in : Cell → Entry
 entry_in c =
-    if c.bits / 16777216 == 0 then Empty
-    else if c.bits / 16777216 == 255 then Group (c.bits % 256)
-    else Hop (c.bits % 16777216) (c.bits / 16777216)
+    if c.bits == 0 then Empty
+    else if nat_lt c.bits 2147483648 then Hop (c.bits % 16777216) (c.bits / 16777216)
+    else Group (c.bits % 256)
 
 -- whether four bytes can hold it
 abbrev pub IsStorable : Entry → Type 0

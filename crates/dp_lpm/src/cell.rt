@@ -14,7 +14,10 @@ pub enum Entry {
     Group(u8),
 }
 
-/// An entry in four bytes: a hop or a group in the lower three; in the highest 0, a depth, or 255 for a group.
+/// Four bytes from this number on name a group: their highest bit is set, which one test tells.
+const FIRST_GROUP: u32 = 0x8000_0000;
+
+/// An entry in four bytes: 0 where there is none, or a hop or a group in the lower three, and a depth or 255 for a group in the highest.
 #[derive(Clone, Copy, Debug)]
 pub struct Cell {
     pub bits: u32,
@@ -38,20 +41,19 @@ impl Cell {
     pub fn entry(self) -> Entry
         ensures { result ≡ entry_in self }
     {
-        let kind = self.bits / 0x100_0000;
-        if kind == 0 {
+        if self.bits != 0 && self.bits < FIRST_GROUP {
+            return Entry::Hop {
+                hop: self.bits % 0x100_0000,
+                depth: (self.bits / 0x100_0000) as u8,
+            };
+        }
+        if self.bits == 0 {
             return Entry::Empty;
         }
-        if kind == 255 {
-            return Entry::Group((self.bits % 256) as u8);
-        }
-        Entry::Hop {
-            hop: self.bits % 0x100_0000,
-            depth: kind as u8,
-        }
+        Entry::Group((self.bits % 256) as u8)
     }
 
-    /// The depth of its rule, 0 where there is none, and 255 for a group.
+    /// The depth of its rule, 0 where there is none, and at least 128 for a group.
     pub fn depth(self) -> u8
         ensures { result ≡ self.bits / 16777216 }
     {
@@ -63,6 +65,7 @@ impl Cell {
 pub fn settle(cells: &mut [Cell], from: usize, end: usize, depth: u8, to: Cell)
     requires order { from ≤ end }
     requires there { end ≤ length cells.old }
+    requires depth { depth ≤ 32 }
     ensures len { length cells.new ≡ length cells.old }
     ensures inside { (k : ℕ) → from ≤ k → k < end → at cells.new k ≡ settled depth (entry_in to) (at cells.old k) }
     ensures below { (k : ℕ) → k < from → at cells.new k ≡ at cells.old k }

@@ -1,10 +1,14 @@
 // The rules of a table, in order of depth, and of prefix where the depth is the same.
 
-ghost use Rattle.std.specs.Prelude.{◌≡◌, ℕ, ◌+◌, ◌*◌, ◌/◌, ◌-◌, ◌^◌, ◌<◌, ◌≤◌, List, ◌∷◌, ◌++◌, length, take, drop, nat_lt, vec_capacity, IfOk, IfErr};
+ghost use Rattle.std.specs.Prelude.{◌≡◌, ℕ, suc, ◌+◌, ◌*◌, ◌/◌, ◌-◌, ◌^◌, ◌<◌, ◌≤◌, List, ◌∷◌, ◌++◌, length, take, drop, nat_lt, vec_capacity, IfOk, IfErr};
+ghost use Rattle.std.specs.List.{copy_within};
 ghost use Rattle.dp_lpm.specs.Rules.{rank, rank_of, IsOrdered, IsLowerBound, IsFound, IsMissing, routes_of, entry_of};
 ghost use Rattle.dp_lpm.specs.Routes.{prefix_of, deepest_within};
 
 use crate::cell::Entry;
+
+/// How many rules go down at once: `memmove` is slow on a long run that goes down by a few bytes.
+const PART: usize = 512;
 
 /// Addresses that begin with these depth bits go to the hop.
 #[derive(Clone, Copy, Debug)]
@@ -98,4 +102,39 @@ pub fn insert(rules: &mut Vec<Rule>, place: usize, rule: Rule)
 {
     let _ = rules.push(rule);
     put_first(&mut rules[place..], rule);
+}
+
+/// The first rule is let go, and the others go one place down; what stands in the last place stays there too. The range is one
+/// that no other call here has, so that the compiler makes a `memmove` of this one.
+#[inline(never)]
+fn move_down(rules: &mut [Rule])
+    requires { 0 < length rules.old }
+    ensures { rules.new ≡ copy_within rules.old 1 (length rules.old) 0 }
+{
+    rules.copy_within(1.., 0);
+}
+
+/// The same, part by part.
+fn let_first_go(rules: &mut [Rule])
+    requires { 0 < length rules.old }
+    ensures len { length rules.new ≡ length rules.old }
+    ensures front { take (length rules.old - 1) rules.new ≡ drop 1 rules.old }
+{
+    let last = rules.len() - 1;
+    let mut at = 0;
+    while at < last {
+        let end = last.min(at + PART);
+        move_down(&mut rules[at..end + 1]);
+        at = end;
+    }
+}
+
+/// The rule at a place goes out, and those behind it go one place down.
+pub fn remove(rules: &mut Vec<Rule>, place: usize)
+    requires { place < length rules.old.items }
+    ensures items { rules.new.items ≡ take place rules.old.items ++ drop (suc place) rules.old.items }
+    ensures capacity { vec_capacity rules.new ≡ vec_capacity rules.old }
+{
+    let_first_go(&mut rules[place..]);
+    let _ = rules.pop();
 }

@@ -6,7 +6,7 @@ ghost use Rattle.dp_lpm.specs.Faults.{add_fault, delete_fault, added};
 
 use crate::cell::{Cell, Entry};
 use crate::error::{LpmError, Memory};
-use crate::rule::{Rule, entry_within, insert, prefix_of, search};
+use crate::rule::{Rule, entry_within, insert, prefix_of, remove, search};
 use crate::table::Table;
 use std::alloc::Global;
 
@@ -127,7 +127,7 @@ impl Store {
         ensures { TakesOut self.old self.new ip depth }
     {
         let next = entry_within(&self.rules, ip, depth - 1);
-        self.rules.remove(place);
+        remove(&mut self.rules, place);
         self.settle(ip, depth, next);
     }
 

@@ -131,31 +131,29 @@ module _ (ps : List PoolView) (v : Store) (h : ℕ) (e : shown ps ≡ v) (sound 
       let o = f.offset in
       omega (arith, fit, l, o)
 
-  pub prepended_done : (ps1 ps' : List PoolView) (x : Header) (n at : ℕ) → x ≡ header_at ps (numbered h) → IsLive v h → n ≤ x.offset → at ≡ x.offset - n → RoomWritten ps x.buffer at (replicate n 0) ps1 → HeaderSet ps1 (numbered h) (moved (header_at ps1 (numbered h)) at (x.len + n)) ps' → Sound ps' × Becomes v (shown ps') h (at_front (more_before n)) (zeroed_before n)
-  prepended_done ps1 ps' x n at ex live fit ea room done =
-      let d = settled ps1 (slots_of ps) (bytes_whole ps ps1 [] (slots_of ps) x.buffer at (replicate n 0) sound room) in
-      let all : (k : Packet) → Has v h k → Sound ps' × (slots_of ps' ≡ set (slots_of ps1) h (Some (at_front (more_before n) k))) =
+  pub prepended_done : (ps1 ps' : List PoolView) (x : Header) (n at : ℕ) → x ≡ header_at ps (numbered h) → IsLive v h → n ≤ x.offset → at ≡ x.offset - n → HeaderSet ps (numbered h) (moved (header_at ps (numbered h)) at (x.len + n)) ps1 → RoomWritten ps1 x.buffer at (replicate n 0) ps' → Sound ps' × Becomes v (shown ps') h (at_front (more_before n)) (zeroed_before n)
+  prepended_done ps1 ps' x n at ex live fit ea done room =
+      let all : (k : Packet) → Has v h k → Sound ps' × (slots_of ps' ≡ set (slots_of ps) h (Some (at_front (more_before n) k))) =
       λ k has. let f = first_part x k ex has in
       let fits = f.fits in
       let of = f.offset in
       let len = f.len in
       let b = ap (λ y. room_at (specs_of ps) y.pool) f.buffer in
-      let r = front_edited ps1 ps' h f.seg f.rest (more_before n) at (x.len + n) d.0 (ap (λ s. get_or s h None) d.1 ∙ f.slot) f.mbuf
-      (ap (λ y. record { mbuf = numbered h; buffer = y.buffer; offset = y.offset; len = y.len }) (room.headers (numbered h)) ∙ f.header)
-      done
+      let r = front_edited ps ps1 h f.seg f.rest (more_before n) at (x.len + n) sound f.slot f.mbuf f.header done
       (ap (λ y. record f.seg { offset = y; len = f.seg.len + n }) (sym (ea ∙ ap (λ y. y - n) of)) ∙ ap (λ y. record f.seg { offset = at; len = y + n }) (sym len))
-      (record { fits = subst (λ y. (f.seg.offset - n) + (f.seg.len + n) ≤ room_at y f.seg.buffer.pool) (sym room.specs) (omega (arith, fits, fit, of, len, b)); number = subst (λ y. IsNumber y f.seg.buffer) (sym room.specs) f.number }) in
-      (r.0, r.1 ∙ sym (ap (λ j. set (slots_of ps1) h (Some (at_front (more_before n) j))) f.is)) in (
+      (record { fits = omega (arith, fits, fit, of, len, b); number = f.number }) in
+      let d = settled ps' (slots_of ps1) (bytes_whole ps1 ps' [] (slots_of ps1) x.buffer at (replicate n 0) r.0 room) in
+      (d.0, d.1 ∙ (r.1 ∙ sym (ap (λ j. set (slots_of ps) h (Some (at_front (more_before n) j))) f.is))) in (
         (all live.0 live.1).0,
         λ k has. let f = first_part x k ex has in
-            seen ps ps' v (zeroed_before n k v.buffers) (slice_set v.slots h (Some (at_front (more_before n) k))) e (done.specs ∙ room.specs)
-            (done.buffers
-            ∙ (room.buffers
+            seen ps ps' v (zeroed_before n k v.buffers) (slice_set v.slots h (Some (at_front (more_before n) k))) e (room.specs ∙ done.specs)
+            (room.buffers
+            ∙ (ap (λ s. written s x.buffer at (replicate n 0)) done.buffers
             ∙ (ap (λ y. written (buffers_of ps) y at (replicate n 0)) f.buffer
             ∙ (ap (λ y. written (buffers_of ps) f.seg.buffer y (replicate n 0)) (ea ∙ ap (λ y. y - n) f.offset)
             ∙ (ap (λ s. written s.buffers f.seg.buffer (f.seg.offset - n) (replicate n 0)) e
             ∙ ap (λ j. zeroed_before n j v.buffers) (sym f.is))))))
-            ((all k has).1 ∙ (ap (λ s. set s h (Some (at_front (more_before n) k))) d.1 ∙ ap (λ s. set s.slots h (Some (at_front (more_before n) k))) e)),
+            ((all k has).1 ∙ ap (λ s. set s.slots h (Some (at_front (more_before n) k))) e),
       )
 
   -- ---- bytes behind
@@ -211,30 +209,28 @@ module _ (ps : List PoolView) (v : Store) (h : ℕ) (e : shown ps ≡ v) (sound 
       let fits = l.fits in
       (omega (arith, fit, t, b, o, len, fits), l.object, l.small)
 
-  pub appended_done : (ps1 ps' : List PoolView) (x : Header) (n at : ℕ) → x ≡ header_at ps (header_at ps (numbered h)).last → IsLive v h → x.offset + x.len + n ≤ room_at (specs_of ps) x.buffer.pool → at ≡ x.offset + x.len → RoomWritten ps x.buffer at (replicate n 0) ps1 → HeaderSet ps1 (header_at ps (numbered h)).last (moved (header_at ps1 (header_at ps (numbered h)).last) x.offset (x.len + n)) ps' → Sound ps' × Becomes v (shown ps') h (at_end (more_behind n)) (zeroed_behind n)
-  appended_done ps1 ps' x n at ex live fit ea room done =
-      let d = settled ps1 (slots_of ps) (bytes_whole ps ps1 [] (slots_of ps) x.buffer at (replicate n 0) sound room) in
-      let all : (k : Packet) → Has v h k → Sound ps' × (slots_of ps' ≡ set (slots_of ps1) h (Some (at_end (more_behind n) k))) =
+  pub appended_done : (ps1 ps' : List PoolView) (x : Header) (n at : ℕ) → x ≡ header_at ps (header_at ps (numbered h)).last → IsLive v h → x.offset + x.len + n ≤ room_at (specs_of ps) x.buffer.pool → at ≡ x.offset + x.len → HeaderSet ps (header_at ps (numbered h)).last (moved (header_at ps (header_at ps (numbered h)).last) x.offset (x.len + n)) ps1 → RoomWritten ps1 x.buffer at (replicate n 0) ps' → Sound ps' × Becomes v (shown ps') h (at_end (more_behind n)) (zeroed_behind n)
+  appended_done ps1 ps' x n at ex live fit ea done room =
+      let all : (k : Packet) → Has v h k → Sound ps' × (slots_of ps' ≡ set (slots_of ps) h (Some (at_end (more_behind n) k))) =
       λ k has. let l = last_part x k ex has in
       let of = l.offset in
       let len = l.len in
       let b = ap (λ y. room_at (specs_of ps) y.pool) l.buffer in
-      let set' : HeaderSet ps1 l.seg.mbuf (moved (header_at ps1 l.seg.mbuf) x.offset (x.len + n)) ps' =
-      subst (λ m. HeaderSet ps1 m (moved (header_at ps1 m) x.offset (x.len + n)) ps') l.mbuf done in
-      let r = end_edited ps1 ps' h l.before l.seg (more_behind n) x.offset (x.len + n) d.0 (ap (λ s. get_or s h None) d.1 ∙ l.slot)
-      (ap (λ y. record { mbuf = l.seg.mbuf; buffer = y.buffer; offset = y.offset; len = y.len }) (room.headers l.seg.mbuf) ∙ l.header)
-      set'
+      let set' : HeaderSet ps l.seg.mbuf (moved (header_at ps l.seg.mbuf) x.offset (x.len + n)) ps1 =
+      subst (λ m. HeaderSet ps m (moved (header_at ps m) x.offset (x.len + n)) ps1) l.mbuf done in
+      let r = end_edited ps ps1 h l.before l.seg (more_behind n) x.offset (x.len + n) sound l.slot l.header set'
       (ap (λ y. record l.seg { offset = y; len = l.seg.len + n }) (sym of) ∙ ap (λ y. record l.seg { offset = x.offset; len = y + n }) (sym len))
-      (record { fits = subst (λ y. l.seg.offset + (l.seg.len + n) ≤ room_at y l.seg.buffer.pool) (sym room.specs) (omega (arith, fit, of, len, b)); number = subst (λ y. IsNumber y l.seg.buffer) (sym room.specs) l.number }) in
-      (r.0, r.1 ∙ ap (λ j. set (slots_of ps1) h (Some j)) (sym (ap (at_end (more_behind n)) l.is ∙ at_end_is l.seg (more_behind n) l.before))) in (
+      (record { fits = omega (arith, fit, of, len, b); number = l.number }) in
+      let d = settled ps' (slots_of ps1) (bytes_whole ps1 ps' [] (slots_of ps1) x.buffer at (replicate n 0) r.0 room) in
+      (d.0, d.1 ∙ (r.1 ∙ ap (λ j. set (slots_of ps) h (Some j)) (sym (ap (at_end (more_behind n)) l.is ∙ at_end_is l.seg (more_behind n) l.before)))) in (
         (all live.0 live.1).0,
         λ k has. let l = last_part x k ex has in
-            seen ps ps' v (zeroed_behind n k v.buffers) (slice_set v.slots h (Some (at_end (more_behind n) k))) e (done.specs ∙ room.specs)
-            (done.buffers
-            ∙ (room.buffers
+            seen ps ps' v (zeroed_behind n k v.buffers) (slice_set v.slots h (Some (at_end (more_behind n) k))) e (room.specs ∙ done.specs)
+            (room.buffers
+            ∙ (ap (λ s. written s x.buffer at (replicate n 0)) done.buffers
             ∙ (ap (λ y. written (buffers_of ps) y at (replicate n 0)) l.buffer
             ∙ (ap (λ y. written (buffers_of ps) l.seg.buffer y (replicate n 0)) (ea ∙ (ap (λ y. y + x.len) l.offset ∙ ap (λ y. l.seg.offset + y) l.len))
             ∙ (ap (λ s. written s.buffers l.seg.buffer (l.seg.offset + l.seg.len) (replicate n 0)) e
             ∙ sym (ap (λ j. zeroed_behind n j v.buffers) l.is ∙ zeroed_is l.seg n l.before v.buffers))))))
-            ((all k has).1 ∙ (ap (λ s. set s h (Some (at_end (more_behind n) k))) d.1 ∙ ap (λ s. set s.slots h (Some (at_end (more_behind n) k))) e)),
+            ((all k has).1 ∙ ap (λ s. set s.slots h (Some (at_end (more_behind n) k))) e),
       )

@@ -1,12 +1,14 @@
 -- One field of a header written, with the others as they were.
-use Rattle.std.proofs.Common.{◌≡◌, ℕ, ◌+◌, ◌-◌, ◌/◌, ◌%◌, ◌<◌, ◌≤◌, List, [], ◌++◌, length, take, drop, refl, ◌∙◌, ap, subst, arith, get_or, set}
-use Rattle.std.proofs.lemmas.List.{length-take-le, get_or_append_left, get_or-append_right, get_or-take, get_or-drop}
+use Rattle.std.proofs.Common.{◌≡◌, ℕ, zero, suc, ◌+◌, ◌-◌, ◌/◌, ◌%◌, ◌<◌, ◌≤◌, ltb, List, [], ◌∷◌, ◌++◌, length, take, drop, refl, sym, ◌∙◌, ap, subst, arith, inl, inr, get_or, set}
+use Rattle.std.specs.Int.{to_le_bytes, w32}
+use Rattle.std.proofs.lemmas.Bool.{ltb-true, ltb-false, cases_Bool}
+use Rattle.std.proofs.lemmas.List.{length-take-le, get_or_append_left, get_or-append_right, get_or-take, get_or-drop, ext_get_or}
 use Rattle.dp_model.specs.Buffers.{Number, overwritten}
 use Rattle.dp_mbuf.specs.declared.header.Header.{Header}
 use Rattle.dp_mbuf.specs.Headers.{header_of, header_bytes, word, place, then_word}
 use Rattle.dp_pool.specs.Pools.{PoolView, object_in, with_written}
 use Rattle.dp_mbuf.specs.Objects.{pool_in, header_at, header_with, HasObject, ArePools, HeaderSet}
-use Rattle.dp_mbuf.proofs.PoolLemmas.{Small}
+use Rattle.dp_mbuf.proofs.PoolLemmas.{Small, length_overwritten}
 use Rattle.dp_mbuf.proofs.ObjectLemmas.{number_eq, header_eq, header_back, word_back, place_back, object_pool, object_long, front_set}
 
 -- ---- bytes written over others
@@ -51,6 +53,75 @@ module _ (old : List ℕ) (at : ℕ) (new : List ℕ) (fits : at + length new �
 
   place_behind : (a : ℕ) → at + length new ≤ a → place (overwritten old at new) a ≡ place old a
   place_behind a b = number_eq _ _ (word_behind a b) (word_behind (a + 2) (omega arith))
+
+-- ---- two numbers written, one behind the other
+
+two_small : (x : ℕ) (rest : List ℕ) → x < 65536 → Small rest → Small (then_word x rest)
+two_small x rest b s zero = omega arith
+two_small x rest b s (suc zero) = omega (arith, b)
+two_small x rest b s (suc (suc k)) = s k
+
+none_small : Small []
+none_small k = omega arith
+
+pub small_word : (x : ℕ) → x < 65536 → Small (then_word x [])
+small_word x a = two_small x [] a none_small
+
+pub small_words : (x y : ℕ) → x < 65536 → y < 65536 → Small (then_word x (then_word y []))
+small_words x y a b = two_small x (then_word y []) a (two_small y [] b none_small)
+
+pub words_written : (o : List ℕ) (at x y : ℕ) → at + 4 ≤ length o → overwritten (overwritten o at (then_word x [])) (at + 2) (then_word y []) ≡ overwritten o at (then_word x (then_word y []))
+words_written o at x y fits =
+    let a : List ℕ = then_word x [] in
+    let b : List ℕ = then_word y [] in
+    let both : List ℕ = then_word x (then_word y []) in
+    let mid : List ℕ = overwritten o at a in
+    let fits_a : at + length a ≤ length o = omega arith in
+    let fits_both : at + length both ≤ length o = omega arith in
+    let long = length_overwritten o at a fits_a in
+    let fits_b : at + 2 + length b ≤ length mid = omega (arith, long) in
+    let left = length_overwritten mid (at + 2) b fits_b in
+    let right = length_overwritten o at both fits_both in
+    ext_get_or 0 (overwritten mid (at + 2) b) (overwritten o at both) (left ∙ (long ∙ sym right)) (λ k h.
+    elim (cases_Bool (ltb k at)) [
+      | inl before ↦
+          let l = ltb-true k at before in
+          byte_before mid (at + 2) b fits_b k (omega (arith, l)) ∙ (byte_before o at a fits_a k l ∙ sym (byte_before o at both fits_both k l))
+      | inr past ↦
+          let g = ltb-false k at past in
+          elim (cases_Bool (ltb k (at + 2))) [
+            | inl first ↦
+                let l = ltb-true k (at + 2) first in
+                byte_before mid (at + 2) b fits_b k l
+                ∙ (byte_in o at a fits_a k (k - at) (omega (arith, g)) (omega (arith, l, g))
+                ∙ (sym (get_or_append_left a b 0 (k - at) (omega (arith, l, g)))
+                ∙ sym (byte_in o at both fits_both k (k - at) (omega (arith, g)) (omega (arith, l, g)))))
+            | inr more ↦
+                let m = ltb-false k (at + 2) more in
+                elim (cases_Bool (ltb k (at + 4))) [
+                  | inl second ↦
+                      let l = ltb-true k (at + 4) second in
+                      let d : k - at - 2 ≡ k - (at + 2) = omega (arith, m) in
+                      byte_in mid (at + 2) b fits_b k (k - (at + 2)) (omega (arith, m)) (omega (arith, l, m))
+                      ∙ (ap (λ j. get_or b j 0) (sym d)
+                      ∙ (sym (get_or-append_right a b 2 (k - at) 0 refl (omega (arith, m)))
+                      ∙ sym (byte_in o at both fits_both k (k - at) (omega (arith, g)) (omega (arith, l, g)))))
+                  | inr behind ↦
+                      let f = ltb-false k (at + 4) behind in
+                      byte_behind mid (at + 2) b fits_b k (omega (arith, f))
+                      ∙ (byte_behind o at a fits_a k (omega (arith, f)) ∙ sym (byte_behind o at both fits_both k (omega (arith, f))))
+                ]
+          ]
+    ])
+
+-- the four bytes of a number of references
+pub refs_bytes : (x : ℕ) → x < 4294967296 → to_le_bytes w32 x ≡ then_word (x % 65536) (then_word (x / 65536) [])
+refs_bytes x small =
+    let b1 : x / 256 % 256 ≡ x % 65536 / 256 = omega arith in
+    let b0 : x % 256 ≡ x % 65536 % 256 = omega arith in
+    let b2 : x / 65536 % 256 ≡ x / 65536 % 256 = refl in
+    let b3 : x / 16777216 % 256 ≡ x / 65536 / 256 = omega (arith, small) in
+    (λ i. b0 i ∷ b1 i ∷ b2 i ∷ b3 i ∷ [])
 
 -- ---- a field written over a header's
 

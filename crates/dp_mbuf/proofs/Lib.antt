@@ -20,4 +20,5 @@ pub mod Reading
 pub mod Filling
 pub mod Receiving
 pub mod Owned
+pub mod Hooking
 pub mod Parting

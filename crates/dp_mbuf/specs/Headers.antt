@@ -1,6 +1,6 @@
 -- What stands in the first bytes of each object.
 use Rattle.std.specs.Prelude.{ℕ, ◌+◌, ◌*◌, ◌/◌, ◌%◌, List, [], ◌∷◌, slice_index}
-use Rattle.dp_model.specs.Buffers.{Number}
+use Rattle.dp_model.specs.Buffers.{Number, overwritten}
 use Rattle.dp_mbuf.specs.declared.header.Header.{Header}
 
 -- two bytes as a number, the lower one first
@@ -19,6 +19,10 @@ header_of o =
 -- the two bytes of a number, and then more
 abbrev pub then_word : ℕ → List ℕ → List ℕ
 then_word x rest = x % 256 ∷ x / 256 ∷ rest
+
+-- an object whose header also tells how many segments the packet has and which mbuf is its last
+abbrev pub with_hook : List ℕ → ℕ → Number → List ℕ
+with_hook o segs last = overwritten (overwritten o 0 (then_word segs [])) 14 (then_word last.pool (then_word last.index []))
 
 -- the bytes of a header
 abbrev pub header_bytes : Header → List ℕ

@@ -47,8 +47,7 @@ pub(crate) fn hook(objects: &mut Objects, n: Place, segs: u16, last: Place)
     requires { HasObject objects.old n }
     ensures { HeaderSet objects.old n (record (header_at objects.old n) { segs = segs; last = last }) objects.new }
 {
-    objects.set_segs(n, segs);
-    objects.set_last(n, last);
+    objects.set_hook(n, segs, last);
 }
 
 /// Sets the mbuf that comes next.

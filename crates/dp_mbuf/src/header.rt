@@ -1,8 +1,8 @@
 // What stands in the first bytes of each object.
 
 ghost use Rattle.std.specs.Prelude.{◌≡◌, ◌<◌, ◌≤◌, ◌+◌, ◌/◌, ◌%◌, [], length};
-ghost use Rattle.dp_model.specs.Buffers.{same_number};
-ghost use Rattle.dp_mbuf.specs.Headers.{header_of, word, then_word, header_bytes};
+ghost use Rattle.dp_model.specs.Buffers.{same_number, overwritten};
+ghost use Rattle.dp_mbuf.specs.Headers.{header_of, word, then_word, with_hook, header_bytes};
 
 use byteorder::{ByteOrder, LittleEndian};
 use std::marker::Model;
@@ -114,13 +114,43 @@ pub(crate) fn bytes_of_word(x: u16) -> [u8; 2]
     [low(x), high(x)]
 }
 
-/// The bytes of two numbers, one behind the other.
+// Writes a number over two bytes, the lower one first.
 #[inline(always)]
-pub(crate) fn bytes_of_words(x: u16, y: u16) -> [u8; 4]
-    ensures bytes { result ≡ then_word x (then_word y []) }
+fn write_word(bytes: &mut [u8], at: usize, x: u16)
+    requires { at + 2 ≤ length bytes.old }
+    ensures { bytes.new ≡ overwritten bytes.old at (then_word x []) }
+{
+    bytes[at..at + 2].copy_from_slice(&bytes_of_word(x));
+}
+
+/// Writes two numbers over bytes, one behind the other.
+#[inline(always)]
+pub(crate) fn write_words(bytes: &mut [u8], at: usize, x: u16, y: u16)
+    requires { at + 4 ≤ length bytes.old }
+    ensures { bytes.new ≡ overwritten bytes.old at (then_word x (then_word y [])) }
+{
+    write_word(bytes, at, x);
+    write_word(bytes, at + 2, y);
+}
+
+/// Writes how many segments a packet has and which mbuf is its last, into its first mbuf's object.
+#[inline(always)]
+pub(crate) fn write_hook(object: &mut [u8], segs: u16, last: Place)
+    requires { 128 ≤ length object.old }
+    ensures object { object.new ≡ with_hook object.old segs last }
+    ensures small { (last.pool < 65536) × (last.index < 65536) }
+{
+    write_word(object, 0, segs);
+    write_words(object, 14, last.pool(), last.index());
+}
+
+/// The bytes of a buffer's number of references, the lowest first.
+#[inline(always)]
+pub(crate) fn bytes_of_refs(refs: u32) -> [u8; 4]
+    ensures bytes { result ≡ then_word (refs % 65536) (then_word (refs / 65536) []) }
     ensures many { length result ≡ 4 }
 {
-    [low(x), high(x), low(y), high(y)]
+    refs.to_le_bytes()
 }
 
 /// The bytes of a header.

@@ -1,12 +1,17 @@
 // Mbufs as the layer of packets that an engine stands on.
 
-ghost use Rattle.std.specs.Prelude.{◌≡◌};
+ghost use Rattle.std.specs.Prelude.{◌≡◌, List};
+ghost use Rattle.dp_pool.specs.Pools.{PoolZones};
 
 use crate::mbufs::Mbufs;
 use dp_model::{Packet, PacketLayer, Width};
 
 impl PacketLayer for Mbufs {
     ghost store = { λ m. m.store };
+
+    ghost Frame = { List PoolZones };
+
+    ghost frame = { λ m. m.zones };
 
     fn alloc(&mut self, pool: u32) -> Option<Packet> {
         Mbufs::alloc(self, pool)
@@ -82,5 +87,17 @@ impl PacketLayer for Mbufs {
 
     fn available(&self, pool: u32) -> u32 {
         Mbufs::available(self, pool)
+    }
+
+    fn park(&mut self, packet: Packet) -> u32 {
+        Mbufs::park(self, packet)
+    }
+
+    fn unpark(&mut self, number: u32) -> Packet {
+        Mbufs::unpark(self, number)
+    }
+
+    fn is_well_formed(&self) {
+        Mbufs::is_well_formed(self);
     }
 }

@@ -298,9 +298,9 @@ impl Mbufs {
     {
         let head = first_header(&self.objects, packet);
         let offset = head.offset - n;
-        self.objects.zero(head.buffer, offset as u32, n as u32);
         self.objects
             .set_bounds(place_of(packet), offset, head.len + n);
+        self.objects.zero(head.buffer, offset as u32, n as u32);
     }
 
     /// Makes the last segment `n` bytes longer; the new bytes are 0.
@@ -312,8 +312,8 @@ impl Mbufs {
     {
         let last = first_header(&self.objects, packet).last;
         let tail = self.objects.header(last);
-        self.objects.zero(tail.buffer, tail.offset as u32 + tail.len as u32, n as u32);
         self.objects.set_bounds(last, tail.offset, tail.len + n);
+        self.objects.zero(tail.buffer, tail.offset as u32 + tail.len as u32, n as u32);
     }
 
     /// Puts the second packet's segments behind the first's.

@@ -4,10 +4,14 @@ ghost use Rattle.std.specs.Prelude.{◌≡◌, ℕ, ◌<◌, ◌≤◌, ◌+◌,
 ghost use Rattle.std.specs.List.{list_all};
 ghost use Rattle.dp_model.specs.Buffers.{bytes_of};
 ghost use Rattle.dp_model.specs.Environments.{room_at};
-ghost use Rattle.dp_pool.specs.Pools.{PoolView, IsPool, object_in, with_written, put_back};
+ghost use Rattle.dp_pool.specs.Pools.{PoolView, IsPool, object_in, with_object, with_written, put_back};
+ghost use Rattle.dp_mbuf.specs.Headers.{then_word, with_hook};
 ghost use Rattle.dp_mbuf.specs.Objects.{present, pool_in, header_at, header_with, is_out, count_in, specs_of, buffers_of, HasObject, HasRooms, HeadersFirst, PoolsFirst, objects_in_all, ArePools, HeaderSet, RoomWritten, Taken, Given, SlotHas, SlotFits, SlotIsOut, SlotBecomes, SlotGives, slot_count, slot_whole, AreAllIn};
 
-use crate::header::{Header, Place, bytes_of_header, bytes_of_word, bytes_of_words, read_header};
+use crate::header::{
+    Header, Place, bytes_of_header, bytes_of_refs, bytes_of_word, read_header, write_hook,
+    write_words,
+};
 use dp_pool::Pool;
 use std::marker::Model;
 
@@ -54,14 +58,37 @@ fn write_in(slot: &mut Option<Pool>, index: u16, at: u32, bytes: &[u8])
     }
 }
 
+// Writes two numbers into an object of a place's pool, one behind the other.
+#[inline(always)]
+fn write_words_in(slot: &mut Option<Pool>, index: u16, at: usize, x: u16, y: u16)
+    requires { SlotFits slot.old index (at + 4) }
+    ensures { SlotBecomes (λ p. with_written p index at (then_word x (then_word y []))) slot.old slot.new }
+{
+    if let Some(pool) = slot {
+        write_words(pool.object_mut(index as u32), at, x, y);
+    }
+}
+
+// Writes how many segments a packet has and which mbuf is its last, into an object of a place's pool.
+#[inline(always)]
+fn write_hook_in(slot: &mut Option<Pool>, index: u16, segs: u16, last: Place)
+    requires { SlotFits slot.old index 128 }
+    ensures becomes { SlotBecomes (λ p. with_object p index (with_hook (object_in p index) segs last)) slot.old slot.new }
+    ensures small { (last.pool < 65536) × (last.index < 65536) }
+{
+    if let Some(pool) = slot {
+        write_hook(pool.object_mut(index as u32), segs, last);
+    }
+}
+
 // Writes zeros into an object of a place's pool.
 #[inline(always)]
-fn zero_in(slot: &mut Option<Pool>, index: u16, at: u32, len: u32)
+fn zero_in(slot: &mut Option<Pool>, index: u16, at: usize, len: usize)
     requires { SlotFits slot.old index (at + len) }
     ensures { SlotBecomes (λ p. with_written p index at (replicate len 0)) slot.old slot.new }
 {
     if let Some(pool) = slot {
-        pool.clear(index as u32, at, len);
+        pool.object_mut(index as u32)[at..at + len].fill(0);
     }
 }
 
@@ -223,6 +250,17 @@ impl Objects {
         write_in(&mut self.pools[n.pool() as usize], n.index(), at, bytes);
     }
 
+    // Writes two numbers over some of an object's first bytes, one behind the other.
+    #[inline(always)]
+    fn write_pair(&mut self, n: Place, at: usize, x: u16, y: u16)
+        requires object { HasObject self.old n }
+        requires front { at + 4 ≤ 128 }
+        ensures long { 128 ≤ length (object_in (pool_in self.old n.pool) n.index) }
+        ensures written { HeaderSet self.old n (header_with self.old n at (then_word x (then_word y []))) self.new }
+    {
+        write_words_in(&mut self.pools[n.pool() as usize], n.index(), at, x, y);
+    }
+
     /// Writes a header.
     #[inline(always)]
     pub fn set_header(&mut self, n: Place, h: Header)
@@ -247,7 +285,7 @@ impl Objects {
         requires { HasObject self.old n }
         ensures { HeaderSet self.old n (record (header_at self.old n) { refs = refs }) self.new }
     {
-        let bytes = bytes_of_words((refs % 65536) as u16, (refs / 65536) as u16);
+        let bytes = bytes_of_refs(refs);
         self.write_front(n, 2, &bytes);
     }
 
@@ -257,7 +295,7 @@ impl Objects {
         requires { HasObject self.old n }
         ensures { HeaderSet self.old n (record (header_at self.old n) { offset = offset; len = len }) self.new }
     {
-        self.write_front(n, 6, &bytes_of_words(offset, len));
+        self.write_pair(n, 6, offset, len);
     }
 
     /// Sets the mbuf that comes next.
@@ -266,16 +304,16 @@ impl Objects {
         requires { HasObject self.old n }
         ensures { HeaderSet self.old n (record (header_at self.old n) { next = next }) self.new }
     {
-        self.write_front(n, 10, &bytes_of_words(next.pool(), next.index()));
+        self.write_pair(n, 10, next.pool(), next.index());
     }
 
-    /// Sets the packet's last mbuf.
+    /// Sets how many segments the packet has, and its last mbuf.
     #[inline(always)]
-    pub fn set_last(&mut self, n: Place, last: Place)
+    pub fn set_hook(&mut self, n: Place, segs: u16, last: Place)
         requires { HasObject self.old n }
-        ensures { HeaderSet self.old n (record (header_at self.old n) { last = last }) self.new }
+        ensures { HeaderSet self.old n (record (header_at self.old n) { segs = segs; last = last }) self.new }
     {
-        self.write_front(n, 14, &bytes_of_words(last.pool(), last.index()));
+        write_hook_in(&mut self.pools[n.pool() as usize], n.index(), segs, last);
     }
 
     /// Writes bytes behind a header from a place on.
@@ -300,7 +338,8 @@ impl Objects {
         requires fits { at + len ≤ room_at (specs_of self.old) n.pool }
         ensures { RoomWritten self.old n at (replicate len 0) self.new }
     {
-        zero_in(&mut self.pools[n.pool() as usize], n.index(), 128 + at, len);
+        let slot = &mut self.pools[n.pool() as usize];
+        zero_in(slot, n.index(), 128 + at as usize, len as usize);
     }
 
     /// Hands out an object of a pool; `None` where none is in.

@@ -1,6 +1,7 @@
 -- What the helpers' asserts say of packets.
 use Rattle.std.proofs.Common.{◌≡◌, ℕ, zero, suc, ◌+◌, ◌<◌, ◌≤◌, false, List, [], ◌∷◌, length, Option, Some, None, refl, sym, ◌∙◌, ap, subst, arith, get_or}
-use Rattle.std.specs.Prelude.{replicate, slice_get}
+use Rattle.std.specs.Prelude.{replicate, slice_get, slice_set}
+use Rattle.std.proofs.lemmas.Option.{none-some}
 use Rattle.std.specs.List.{AllByRecursion}
 use Rattle.dp_model.specs.Environments.{room_at}
 use Rattle.dp_model.specs.Buffers.{Number, Buffers, ChangesOnly}
@@ -17,7 +18,7 @@ has_some v h P Q live of f = (live.0, live.1, f live.0 (of live.0 live.1))
 
 pub over_kept : (s s' : Store) → s'.pools ≡ s.pools → IsOver s → IsOver s'
 over_kept s s' e o = record {
-  two = ap length e ∙ o.two;
+  three = ap length e ∙ o.three;
   rooms = λ k b. let l = ap (λ p. room_at p k) e in let q = o.rooms k b in omega (arith, l, q);
 }
 
@@ -38,33 +39,34 @@ pub head_sole : (live : List Segment) (k : Packet) (r : ℕ) → ((s : Segment) 
 head_sole live [] r f one = tt
 head_sole live (s ∷ k) r f one = sym (f s refl) ∙ one
 
--- ---- two pools
+-- ---- three pools
 
 none_out : (n i : ℕ) → get_or (replicate n false) i false ≡ false
 none_out zero i = refl
 none_out (suc n) zero = refl
 none_out (suc n) (suc i) = none_out n i
 
-abbrev pub two_of : PoolView → PoolView → List (Option PoolView)
-two_of a b = Some a ∷ Some b ∷ None ∷ None ∷ None ∷ None ∷ None ∷ None ∷ []
+abbrev pub three_of : PoolView → PoolView → PoolView → List (Option PoolView)
+three_of a b c = Some a ∷ Some b ∷ Some c ∷ None ∷ None ∷ None ∷ None ∷ None ∷ []
 
-pub ready_two : (a b : PoolView) (m n x y : ℕ) (home home' : Home) → IsReadyPool m x home a → IsReadyPool n y home' b → m + n ≤ 65535 → AreReady (two_of a b)
-ready_two a b m n x y home home' ra rb few = record {
-  first = (let s = ra.size in omega (arith, s), (let s = rb.size in omega (arith, s), (refl, (refl, (refl, (refl, (refl, tt)))))));
+pub ready_three : (a b c : PoolView) (m n o x y z : ℕ) (ha hb hc : Home) → IsReadyPool m x ha a → IsReadyPool n y hb b → IsReadyPool o z hc c → m + n + o ≤ 65535 → AreReady (three_of a b c)
+ready_three a b c m n o x y z ha hb hc ra rb rc few = record {
+  first = (let s = ra.size in omega (arith, s), (let s = rb.size in omega (arith, s), (let s = rc.size in omega (arith, s), (refl, (refl, (refl, (refl, tt)))))));
   some = omega arith;
   few = omega arith;
-  mbufs = let c = ra.count in let d = rb.count in omega (arith, c, d, few);
+  mbufs = let d = ra.count in let e = rb.count in let f = rc.count in omega (arith, d, e, f, few);
   all_in = λ q. at q.pool q.index;
 }
   where
-    at : (k i : ℕ) → get_or (pool_in (a ∷ b ∷ []) k).out i false ≡ false
+    at : (k i : ℕ) → get_or (pool_in (a ∷ b ∷ c ∷ []) k).out i false ≡ false
     at zero i = ap (λ o. get_or o i false) ra.all_in ∙ none_out m i
     at (suc zero) i = ap (λ o. get_or o i false) rb.all_in ∙ none_out n i
-    at (suc (suc k)) i = refl
+    at (suc (suc zero)) i = ap (λ out. get_or out i false) rc.all_in ∙ none_out o i
+    at (suc (suc (suc k))) i = refl
 
-pub new_over : (a b : PoolView) (v : MbufsView) (m n x y : ℕ) (home home' : Home) → IsReadyPool m x home a → IsReadyPool n y home' b → 129 ≤ x → 129 ≤ y → IsNew (two_of a b) v → IsOver v.store
-new_over a b v m n x y home home' ra rb lx ly new = record {
-  two = ap length new.pools_are;
+pub new_over : (a b c : PoolView) (v : MbufsView) (m n x y : ℕ) (ha hb : Home) → IsReadyPool m x ha a → IsReadyPool n y hb b → 129 ≤ x → 129 ≤ y → IsNew (three_of a b c) v → IsOver v.store
+new_over a b c v m n x y ha hb ra rb lx ly new = record {
+  three = ap length new.pools_are;
   rooms = room;
 }
   where
@@ -73,8 +75,8 @@ new_over a b v m n x y home home' ra rb lx ly new = record {
     room (suc zero) h = let r = ap (λ p. room_at p 1) new.pools_are in let s = rb.size in omega (arith, r, s, ly)
     room (suc (suc k)) h = absurd (omega (arith, h))
 
-pub new_in : (a b : PoolView) (v : MbufsView) (m n x y : ℕ) (ha hb home : Home) → IsReadyPool m x ha a → IsReadyPool n y hb b → ha ≡ home → hb ≡ home → IsNew (two_of a b) v → AreIn home v.zones
-new_in a b v m n x y ha hb home ra rb ea eb new = subst (AreIn home) (sym new.zones) (ra.home ∙ ea, (rb.home ∙ eb, tt))
+pub new_in : (a b c : PoolView) (v : MbufsView) (m n o x y z : ℕ) (ha hb hc home : Home) → IsReadyPool m x ha a → IsReadyPool n y hb b → IsReadyPool o z hc c → ha ≡ home → hb ≡ home → hc ≡ home → IsNew (three_of a b c) v → AreIn home v.zones
+new_in a b c v m n o x y z ha hb hc home ra rb rc ea eb ec new = subst (AreIn home) (sym new.zones) (ra.home ∙ ea, (rb.home ∙ eb, (rc.home ∙ ec, tt)))
 
 -- the pools that come back stand where they stood
 pub slots_in : (home : Home) (pools : List (Option PoolView)) → PoolsFirst pools → AreIn home (zones_of (present pools)) → AllByRecursion (SlotIn home) pools
@@ -107,3 +109,17 @@ free_kept s s' h e = ap (λ x. x.pools) e
 
 pub chain_kept : (s s' : Store) (h t : ℕ) → IsLive s h → IsLive s t → Chains s h t s' → s'.pools ≡ s.pools
 chain_kept s s' h t live more c = ap (λ x. x.pools) (c live.0 live.1 more.0 more.1)
+
+-- ---- a packet that is taken is live
+
+set_is_there : {X : Type 0} (xs : List X) (h : ℕ) (x o : X) → slice_get xs h ≡ Some o → slice_get (slice_set xs h x) h ≡ Some x
+set_is_there [] h x o is = absurd (none-some o is)
+set_is_there (y ∷ xs) zero x o is = refl
+set_is_there (y ∷ xs) (suc h) x o is = set_is_there xs h x o is
+
+pub alloc_live : (s s' : Store) (pool h : ℕ) → Allocates s pool s' (Some h) → IsLive s' h
+alloc_live s s' pool h g =
+    (allocated s.pools g.2, ap (λ (x : Store). slice_get x.slots h) g.6 ∙ set_is_there s.slots h (Some (allocated s.pools g.2)) None g.1, tt)
+
+pub live_kept : (s s' : Store) (h h' : ℕ) → s' ≡ s → h' ≡ h → IsLive s h → IsLive s' h'
+live_kept s s' h h' same e live = subst (λ t. IsLive t h') (sym same) (subst (IsLive s) (sym e) live)

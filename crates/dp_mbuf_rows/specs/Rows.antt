@@ -6,9 +6,9 @@ use Rattle.dp_model.specs.Stores.{Store}
 use Rattle.dp_region.specs.Ownership.{Home}
 use Rattle.dp_pool.specs.Pools.{PoolZones, PoolView}
 
--- there are two pools, with room for received bytes
+-- there are three pools, and the first two have room for received bytes
 pub record IsOver (s : Store) : Type 0 where
-  pub two : length s.pools ≡ 2
+  pub three : length s.pools ≡ 3
   pub rooms : (k : ℕ) → k < 2 → 129 ≤ room_at s.pools k
 
 -- all zones are of one region

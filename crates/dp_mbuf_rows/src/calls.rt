@@ -30,7 +30,7 @@ pub(crate) fn receive(rt: &impl Abort, m: &mut Mbufs, pool: u32, bytes: &[u8]) -
 
 pub(crate) fn alloc(m: &mut Mbufs, pool: u32) -> Option<Packet>
     requires over { IsOver m.old.store }
-    requires pool { pool < 2 }
+    requires pool { pool < 3 }
     ensures over { IsOver m.new.store }
     ensures zones { m.new.zones ≡ m.old.zones }
 {
@@ -39,7 +39,7 @@ pub(crate) fn alloc(m: &mut Mbufs, pool: u32) -> Option<Packet>
 
 pub(crate) fn copy(rt: &impl Abort, m: &mut Mbufs, p: &Packet, pool: u32) -> Option<Packet>
     requires over { IsOver m.old.store }
-    requires pool { pool < 2 }
+    requires pool { pool < 3 }
     ensures over { IsOver m.new.store }
     ensures zones { m.new.zones ≡ m.old.zones }
 {
@@ -58,7 +58,7 @@ pub(crate) fn free(rt: &impl Abort, m: &mut Mbufs, p: Packet)
 
 pub(crate) fn free_count(m: &Mbufs, pool: u32) -> u32
     requires over { IsOver m.now.store }
-    requires pool { pool < 2 }
+    requires pool { pool < 3 }
 {
     m.available(pool)
 }

@@ -4,8 +4,12 @@
 #[cfg(test)]
 mod calls;
 #[cfg(test)]
+mod layers;
+#[cfg(test)]
 mod rows;
 #[cfg(test)]
 mod setup;
+#[cfg(test)]
+mod small;
 #[cfg(test)]
 mod walk;

@@ -1,4 +1,4 @@
-//! Mbufs over two pools, made and taken apart.
+//! Mbufs over three pools, made and taken apart.
 
 ghost use Rattle.std.specs.Prelude.{◌≡◌, ◌+◌, ◌*◌, ◌<◌, ◌≤◌, length};
 ghost use Rattle.dp_mbuf_rows.specs.Rows.{IsOver, AreIn, SlotIn, IsReadyPool};
@@ -11,7 +11,7 @@ use dp_zone::Zones;
 use std::alloc::Global;
 use std::process::Abort;
 
-/// Mbufs over two pools, and what these stand in.
+/// Mbufs over three pools, and what these stand in.
 pub(crate) struct Setup {
     pub heap: Heap,
     pub zones: Zones,
@@ -43,11 +43,34 @@ fn make(rt: &impl Abort, heap: &mut Heap, zones: &mut Zones, name: &str, sizes: 
     made.expect(rt, "a pool")
 }
 
-/// Mbufs over two pools of these sizes.
+/// Mbufs over two pools of these sizes, beside a third with one buffer without room.
 pub(crate) fn open(rt: &impl Abort, alloc: Global, first: Sizes, second: Sizes) -> Setup
     requires first { (1 ≤ first.count) × (129 ≤ first.room) × (first.room ≤ 4096) }
     requires second { (129 ≤ second.room) × (second.room ≤ 4096) }
-    requires few { first.count + second.count ≤ 65535 }
+    requires few { first.count + second.count ≤ 65534 }
+    ensures over { IsOver result.mbufs.store }
+    ensures home { AreIn result.heap.home result.mbufs.zones }
+{
+    let third = Sizes {
+        count: 1,
+        room: 0,
+        cache: 0,
+    };
+    open_beside(rt, alloc, first, second, third)
+}
+
+/// Mbufs over three pools of these sizes, of which the third may have any room.
+pub(crate) fn open_beside(
+    rt: &impl Abort,
+    alloc: Global,
+    first: Sizes,
+    second: Sizes,
+    third: Sizes,
+) -> Setup
+    requires first { (1 ≤ first.count) × (129 ≤ first.room) × (first.room ≤ 4096) }
+    requires second { (129 ≤ second.room) × (second.room ≤ 4096) }
+    requires third { third.room ≤ 4096 }
+    requires few { first.count + second.count + third.count ≤ 65535 }
     ensures over { IsOver result.mbufs.store }
     ensures home { AreIn result.heap.home result.mbufs.zones }
 {
@@ -56,7 +79,17 @@ pub(crate) fn open(rt: &impl Abort, alloc: Global, first: Sizes, second: Sizes) 
     let mut zones = Zones::new();
     let one = make(rt, &mut heap, &mut zones, "first", first);
     let two = make(rt, &mut heap, &mut zones, "second", second);
-    let pools = [Some(one), Some(two), None, None, None, None, None, None];
+    let three = make(rt, &mut heap, &mut zones, "third", third);
+    let pools = [
+        Some(one),
+        Some(two),
+        Some(three),
+        None,
+        None,
+        None,
+        None,
+        None,
+    ];
     let mbufs = Mbufs::over(pools);
     Setup { heap, zones, mbufs }
 }

@@ -4,7 +4,7 @@ ghost use Rattle.std.specs.Prelude.{◌≡◌, ◌≢◌, ℕ, ◌+◌, ◌*◌,
 ghost use Rattle.dp_model.specs.Arithmetic.{bytes_in};
 ghost use Rattle.dp_model.specs.Environments.{room_at};
 ghost use Rattle.dp_model.specs.Packets.{Segment, headroom, tailroom, first_len, last_len, segment_bytes, packet_bytes, needed, available, IsHeadSole, IsTailSole, at_front, at_end, more_before, less_before, more_behind, less_behind, zeroed_before, zeroed_behind, stored, loaded};
-ghost use Rattle.dp_model.specs.Stores.{Store, segments_of, HasSome, IsLive, Of, with_slot, Becomes, unwritten, Allocates, ReceivesInto, Clones, Chains};
+ghost use Rattle.dp_model.specs.Stores.{Store, segments_of, HasSome, IsLive, Of, with_slot, Becomes, unwritten, Allocates, ReceivesInto, Clones, Chains, IsWellFormedStore};
 
 use crate::registers::Width;
 use std::marker::Model;
@@ -46,53 +46,67 @@ pub trait PacketLayer {
     // The pools, the bytes of all buffers, and the packet of each handle.
     ghost store: { Self → Store };
 
+    // What else there is to a layer, as where its pools stand: no call changes it.
+    ghost Frame: { Type 0 };
+
+    ghost frame: { Self → Frame };
+
     /// A packet of one segment without bytes, or none where no buffer is free.
     fn alloc(&mut self, pool: u32) -> Option<Packet>
         requires { pool < length (store self.old).pools }
-        ensures { Allocates (store self.old) pool (store self.new) result };
+        ensures packets { Allocates (store self.old) pool (store self.new) result }
+        ensures kept { frame self.new ≡ frame self.old };
 
     /// A packet with these bytes, or none where too few buffers are free.
     fn receive(&mut self, pool: u32, bytes: &[u8]) -> Option<Packet>
         requires room { 129 ≤ room_at (store self.old).pools pool }
         requires fits { needed (store self.old).pools pool (length bytes.now) ≤ 64 }
-        ensures { ReceivesInto (store self.old) pool bytes.now (store self.new) result };
+        ensures packets { ReceivesInto (store self.old) pool bytes.now (store self.new) result }
+        ensures kept { frame self.new ≡ frame self.old };
 
     /// A packet that shares the buffers of another, or none where too few mbufs are free.
     fn clone_of(&mut self, packet: Packet, pool: u32) -> Option<Packet>
         requires live { IsLive (store self.old) packet }
         requires exists { pool < length (store self.old).pools }
-        ensures { Clones (store self.old) packet pool (store self.new) result };
+        ensures packets { Clones (store self.old) packet pool (store self.new) result }
+        ensures kept { frame self.new ≡ frame self.old };
 
     /// Gives the packet up.
     fn free(&mut self, packet: Packet)
         requires { IsLive (store self.old) packet }
-        ensures { store self.new ≡ with_slot packet None (store self.old) };
+        ensures packets { store self.new ≡ with_slot packet None (store self.old) }
+        ensures kept { frame self.new ≡ frame self.old };
 
     /// That many zero bytes in front.
     fn prepend(&mut self, packet: Packet, n: u16)
         requires { HasSome (store self.old) packet (λ k. (n ≤ headroom k) × IsHeadSole (segments_of (store self.old)) k) }
-        ensures { Becomes (store self.old) (store self.new) packet (at_front (more_before n)) (zeroed_before n) };
+        ensures packets { Becomes (store self.old) (store self.new) packet (at_front (more_before n)) (zeroed_before n) }
+        ensures kept { frame self.new ≡ frame self.old };
 
     /// That many bytes less in front.
     fn adj(&mut self, packet: Packet, n: u16)
         requires { HasSome (store self.old) packet (λ k. n ≤ first_len k) }
-        ensures { Becomes (store self.old) (store self.new) packet (at_front (less_before n)) unwritten };
+        ensures packets { Becomes (store self.old) (store self.new) packet (at_front (less_before n)) unwritten }
+        ensures kept { frame self.new ≡ frame self.old };
 
     /// That many zero bytes behind.
     fn append(&mut self, packet: Packet, n: u16)
         requires { HasSome (store self.old) packet (λ k. (n ≤ tailroom (store self.old).pools k) × IsTailSole (segments_of (store self.old)) k) }
-        ensures { Becomes (store self.old) (store self.new) packet (at_end (more_behind n)) (zeroed_behind n) };
+        ensures packets { Becomes (store self.old) (store self.new) packet (at_end (more_behind n)) (zeroed_behind n) }
+        ensures kept { frame self.new ≡ frame self.old };
 
     /// That many bytes less behind.
     fn trim(&mut self, packet: Packet, n: u16)
         requires { HasSome (store self.old) packet (λ k. n ≤ last_len k) }
-        ensures { Becomes (store self.old) (store self.new) packet (at_end (less_behind n)) unwritten };
+        ensures packets { Becomes (store self.old) (store self.new) packet (at_end (less_behind n)) unwritten }
+        ensures kept { frame self.new ≡ frame self.old };
 
     /// The second packet's segments behind the first's.
     fn chain(&mut self, head: Packet, tail: Packet)
         requires two { head ≢ tail }
         requires few { HasSome (store self.old) head (λ k. HasSome (store self.old) tail (λ t. length k + length t ≤ 64)) }
-        ensures { Chains (store self.old) head tail (store self.new) };
+        ensures packets { Chains (store self.old) head tail (store self.new) }
+        ensures kept { frame self.new ≡ frame self.old };
 
     /// The number at a place of the first segment, the highest byte first.
     fn load(&self, packet: Packet, place: u64, width: Width) -> u64
@@ -102,7 +116,8 @@ pub trait PacketLayer {
     /// Writes the low bytes of a number at a place of the first segment.
     fn store_at(&mut self, packet: Packet, place: u64, width: Width, n: u64)
         requires { HasSome (store self.old) packet (λ k. (place + bytes_in width ≤ first_len k) × IsHeadSole (segments_of (store self.old)) k) }
-        ensures { Becomes (store self.old) (store self.new) packet (λ k. k) (stored place (bytes_in width) n) };
+        ensures packets { Becomes (store self.old) (store self.new) packet (λ k. k) (stored place (bytes_in width) n) }
+        ensures kept { frame self.new ≡ frame self.old };
 
     /// The room in front of the first segment's bytes.
     fn headroom(&self, packet: Packet) -> u16
@@ -144,4 +159,22 @@ pub trait PacketLayer {
     fn available(&self, pool: u32) -> u32
         requires { pool < length (store self.now).pools }
         ensures { result ≡ available (store self.now).pools (segments_of (store self.now)) pool };
+
+    /// Keeps a packet under a number, as for a ring; the packet is used again after `unpark`. Its segments stay.
+    fn park(&mut self, packet: Packet) -> u32
+        requires { IsLive (store self.old) packet }
+        ensures number { result ≡ packet }
+        ensures packets { store self.new ≡ store self.old }
+        ensures kept { frame self.new ≡ frame self.old };
+
+    /// The packet that was parked under this number.
+    fn unpark(&mut self, number: u32) -> Packet
+        requires { IsLive (store self.old) number }
+        ensures packet { result ≡ number }
+        ensures packets { store self.new ≡ store self.old }
+        ensures kept { frame self.new ≡ frame self.old };
+
+    /// What is true of every layer, a law: segments lie within their buffers, and each mbuf has one owner.
+    fn is_well_formed(&self)
+        ensures { IsWellFormedStore (store self.now) };
 }

@@ -1,5 +1,6 @@
 -- Counting whole records: what more bytes make of a count.
-use Rattle.std.proofs.Common.{◌≡◌, ℕ, zero, suc, ◌+◌, ◌-◌, ◌^◌, ◌<◌, ◌≤◌, List, [], ◌++◌, length, take, refl, sym, ap, ◌∙◌, subst, inl, inr, arith, length-append, length-take, append_assoc, append-nil, take_all}
+use Rattle.std.proofs.Common.{◌≡◌, ℕ, zero, suc, ◌+◌, ◌-◌, ◌^◌, ◌<◌, ◌≤◌, List, [], ◌++◌, length, take, refl, sym, ap, ◌∙◌, subst, inl, inr, arith, length-append, length-take, append_assoc, append-nil, take_all, drop}
+use Rattle.std.proofs.lemmas.List.{take-append-drop, take-take, length-take-le, length-drop}
 use Rattle.std.proofs.lemmas.Slice.{take-put_mid}
 use borrow.Rule.Slice.PartMut.{put_mid}
 use Rattle.dp_pcap.specs.declared.number.Order.TheVariants.{Little}
@@ -121,6 +122,46 @@ head_alone pieces head before more full says b = record {
   pieces = one_empty pieces head b.whole b.part before more b.pieces b.is_part b.split full says;
   is_part = inl (refl, omega arith, refl);
 }
+
+-- ---- a record that stands whole
+
+one_record : (n : ℕ) (whole part before more : List ℕ) → ArePieces n whole → IsPart n 0 [] part → before ≡ whole ++ part → 16 ≤ length more
+    → length (drop 16 more) ≡ captured Little (take 16 more) → ArePieces (suc n) (before ++ more)
+one_record zero whole part before more are (none, some, all) split full says = absurd (omega (arith, some))
+one_record (suc n) whole part before more are (inl (none, less, same)) split full says = (
+  whole,
+  take 16 more,
+  drop 16 more,
+  are,
+  (length-take-le 16 more full, says),
+  ap (λ l. l ++ more) (split ∙ (ap (λ l. whole ++ l) same ∙ append-nil whole)) ∙ ap (λ l. whole ++ l) (sym (take-append-drop 16 more)),
+)
+one_record (suc n) whole part before more are (inr (some, none, inside)) split full says = absurd (omega (arith, some))
+
+-- its head and all that its head says
+pub record_whole : (pieces : ℕ) (before more : List ℕ) → 16 ≤ length more → length (drop 16 more) ≡ captured Little (take 16 more)
+    → IsBehind (record { pieces = pieces; left = 0; head = [] }) before → IsBehind (record { pieces = suc pieces; left = 0; head = [] }) (before ++ more)
+record_whole pieces before more full says b = record {
+  whole = before ++ more;
+  part = [];
+  split = sym (append-nil (before ++ more));
+  pieces = one_record pieces b.whole b.part before more b.pieces b.is_part b.split full says;
+  is_part = inl (refl, omega arith, refl);
+}
+
+-- the same, with the numbers that a call leaves
+pub record_passed : (pieces none came pieces' size : ℕ) (xs before bytes : List ℕ) → none ≡ 0 → came ≡ 0 → pieces' ≡ suc pieces → size ≤ length bytes
+    → size ≡ 16 + captured Little (take 16 bytes) → IsBehind (record { pieces = pieces; left = none; head = take came xs }) before
+    → IsBehind (record { pieces = pieces'; left = none; head = take came xs }) (before ++ take size bytes)
+record_passed pieces none came pieces' size xs before bytes was begins more within says b =
+    let front : take 16 (take size bytes) ≡ take 16 bytes = take-take 16 size bytes (omega (arith, says)) in
+    let long : length (take size bytes) ≡ size = length-take-le size bytes within in
+    subst (λ n. IsBehind (record { pieces = pieces'; left = n; head = take came xs }) (before ++ take size bytes)) (sym was)
+    (subst (λ n. IsBehind (record { pieces = pieces'; left = 0; head = take n xs }) (before ++ take size bytes)) (sym begins)
+    (subst (λ n. IsBehind (record { pieces = n; left = 0; head = [] }) (before ++ take size bytes)) (sym more)
+    (record_whole pieces before (take size bytes) (omega (arith, long, says)) (omega (arith, length-drop 16 (take size bytes), long, says, ap (captured Little) front))
+    (subst (λ n. IsBehind (record { pieces = pieces; left = 0; head = take n xs }) before) begins
+    (subst (λ n. IsBehind (record { pieces = pieces; left = n; head = take came xs }) before) was b)))))
 
 -- the bytes of a head that is whole now, where those behind the first so many were written
 head_written : (came k n : ℕ) (xs ys bytes : List ℕ) → came + n ≡ 16 → n ≤ length bytes → came ≤ length xs → length (put_mid came k xs ys) ≡ 16 → ys ≡ take n bytes

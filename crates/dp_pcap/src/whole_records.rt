@@ -1,5 +1,6 @@
 //! How many records of a capture are whole in the bytes that went by.
 ghost use Rattle.std.specs.Prelude.{◌≡◌, ◌+◌, ◌<◌, ◌≤◌, ◌^◌, ◌++◌, ℕ, List, length, take};
+ghost use Rattle.dp_pcap.specs.Capture.{captured};
 ghost use Rattle.dp_pcap.specs.Counting.{none_yet, records_in, IsBehind};
 
 use crate::number::{Order, long_number};
@@ -32,6 +33,14 @@ impl Model for WholeRecords {
     ghost view = { λ c. record { pieces = c.pieces; left = c.left; head = take c.came c.head } };
 
     ghost invariant = { λ c. (c.came < 16) × (length c.head ≡ 16) };
+}
+
+// How many bytes stand behind a record's head.
+fn body_length(head: &[u8]) -> u32
+    requires { length head.now ≡ 16 }
+    ensures { result ≡ captured Order.Little head.now }
+{
+    long_number(Order::Little, &head[8..])
 }
 
 impl WholeRecords {
@@ -75,10 +84,31 @@ impl WholeRecords {
             (before : List ℕ) → IsBehind self.old before → IsBehind self.new (before ++ take result bytes.now) }
     {
         if self.left == 0 {
-            self.take_head(bytes)
+            self.take_record(bytes)
         } else {
             self.skip(bytes)
         }
+    }
+
+    // Goes by a record in one step, where it begins here and stands whole at the front, and else by bytes of its head.
+    fn take_record(&mut self, bytes: &[u8]) -> usize
+        requires some { 0 < length bytes.now }
+        requires none { self.old.left ≡ 0 }
+        ensures some { 0 < result }
+        ensures most { result ≤ length bytes.now }
+        ensures pieces { self.new.pieces ≤ self.old.pieces + 1 }
+        ensures behind { self.old.pieces + 1 < 2 ^ 64 →
+            (before : List ℕ) → IsBehind self.old before → IsBehind self.new (before ++ take result bytes.now) }
+    {
+        if self.came > 0 || bytes.len() < HEAD {
+            return self.take_head(bytes);
+        }
+        let size = HEAD + body_length(&bytes[..HEAD]) as usize;
+        if bytes.len() < size {
+            return self.take_head(bytes);
+        }
+        self.pieces = self.pieces.saturating_add(1);
+        size
     }
 
     // Goes by bytes of the header, or of a record behind its head.

@@ -32,3 +32,4 @@ pub mod Rounding
 pub mod Through
 pub mod Regions
 pub mod Faring
+pub mod Halting

@@ -13,4 +13,5 @@ pub mod Running
 pub mod Headline
 pub mod Setup
 pub mod Surveys
+pub mod Tracing
 pub mod Views

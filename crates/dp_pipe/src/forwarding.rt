@@ -150,7 +150,7 @@ fn advance<R: Feed, W: Sink>(
 }
 
 // Whether an input has not ended.
-fn is_open(input: &Progress) -> bool
+pub(crate) fn is_open(input: &Progress) -> bool
     ensures { IsTrue result ↔ (input.now.state ≡ InputState.Open) }
 {
     input.state == InputState::Open

@@ -18,6 +18,7 @@ mod running;
 mod says;
 mod surveying;
 mod text;
+mod tracing;
 
 pub use error::{FetchFault, Part, PipeError, RouteError};
 pub use files::Files;
@@ -29,6 +30,7 @@ pub use pipeline::Pipeline;
 pub use running::{RunFault, run};
 pub use surveying::{Survey, survey_of};
 pub use text::NodeName;
+pub use tracing::{Traced, Tracer, trace};
 
 #[cfg(test)]
 mod node_tests;

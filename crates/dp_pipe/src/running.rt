@@ -26,7 +26,7 @@ use dp_region::Region;
 use std::alloc::Global;
 
 /// How many bytes of a record are read at once where the reader does not have it at hand.
-const BUFFER: usize = 262_144;
+pub(crate) const BUFFER: usize = 262_144;
 
 /// A run that stopped.
 #[derive(Drop)]
@@ -51,7 +51,10 @@ fn keep(inputs: &mut Vec<Progress>, input: Progress)
 }
 
 // Reads the headers of the inputs, in port order, and keeps a source for each that was read.
-fn read_headers<R: Feed>(ins: &mut [R], inputs: &mut Vec<Progress>) -> Result<(), RunCause>
+pub(crate) fn read_headers<R: Feed>(
+    ins: &mut [R],
+    inputs: &mut Vec<Progress>,
+) -> Result<(), RunCause>
     requires few { length ins.old ≤ 8 }
     requires none { (inputs.old.items ≡ []) × (vec_len inputs.old ≡ 0) }
     requires room { 8 ≤ vec_capacity inputs.old }

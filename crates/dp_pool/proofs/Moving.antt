@@ -1,5 +1,5 @@
 -- Indexes that move from the front of a list.
-use Rattle.std.proofs.Common.{◌≡◌, ℕ, zero, suc, ◌<◌, List, [], ◌∷◌, ◌++◌, length, take, drop, slice_get, Some, None, sym, ap, arith}
+use Rattle.std.proofs.Common.{◌≡◌, ℕ, zero, suc, ◌<◌, List, [], ◌∷◌, ◌++◌, length, take, drop, slice_get, Some, None, refl, sym, ap, arith}
 use Rattle.std.proofs.lemmas.Option.{none-some}
 use Rattle.std.specs.Prelude.{unwrap_or}
 
@@ -15,3 +15,9 @@ pub next_there : (xs : List ℕ) (i : ℕ) → i < length xs → slice_get (drop
 next_there [] i less is = absurd (omega (arith, less))
 next_there (y ∷ xs) zero less is = absurd (none-some y (sym is))
 next_there (y ∷ xs) (suc i) less is = next_there xs i (omega (arith, less)) is
+
+-- the others are left
+pub left_next : (from : List ℕ) (i : ℕ) → drop 1 (drop i from) ≡ drop (suc i) from
+left_next from zero = refl
+left_next [] (suc i) = refl
+left_next (y ∷ from) (suc i) = left_next from i

@@ -7,8 +7,7 @@ use Rattle.std.proofs.lemmas.Bool.{cases_Bool, ltb-true, ltb-false}
 use Rattle.std.proofs.lemmas.List.{ext_get_or}
 use Rattle.core.proofs.slots.Runs.{in_run, run_long, inside, outside}
 use Rattle.dp_region.specs.Spans.{bytes_in, with_bytes}
-use Rattle.dp_region.proofs.Numbers.{bytes_in-other}
-use Rattle.dp_region.proofs.Bytes.{length-with_bytes}
+use Rattle.dp_region.specs.Laws.{length-with_bytes, bytes_in-other}
 use Rattle.dp_pool.specs.Pools.{overwritten, stride_of, objects_from, object_place}
 
 pub stride_covers : (size : ℕ) → size ≤ stride_of size

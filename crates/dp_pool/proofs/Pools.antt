@@ -2,7 +2,7 @@
 use Rattle.std.proofs.Common.{◌≡◌, ℕ, zero, suc, ◌+◌, ◌*◌, ◌<◌, ◌≤◌, Bool, List, [], ◌∷◌, length, take, drop, sym, ap, ◌∙◌, arith}
 use Rattle.std.specs.Prelude.{slice_index, slice_index_or, slice_set}
 use Rattle.dp_region.specs.Spans.{bytes_in, with_bytes, overlaid}
-use Rattle.dp_region.proofs.Bytes.{length-bytes_in}
+use Rattle.dp_region.specs.Laws.{length-bytes_in}
 use Rattle.dp_zone.specs.Zones.{ZoneView}
 use Rattle.dp_pool.specs.Queues.{IndexView}
 use Rattle.dp_pool.specs.Pools.{PoolView, PoolZones, IsPool, object_in, overwritten, with_object, with_written, with_left, stride_of, objects_from, object_place}

@@ -2,16 +2,10 @@
 use Rattle.std.proofs.Common.{◌≡◌, ℕ, ◌+◌, ◌≤◌, Bool, false, cond, ltb, List, [], ◌∷◌, ◌++◌, length, drop, refl, sym, ap, ◌∙◌, arith, length-drop}
 use mathlib.Core.List.{append-nil}
 use Rattle.std.proofs.lemmas.Bool.{or_parts}
-use Rattle.core.proofs.slots.Runs.{run_long, spliced_long}
 use Rattle.dp_region.specs.Spans.{Span, is_span, listed, with_span, without_span, bytes_in, with_bytes}
 use Rattle.dp_region.specs.Region.{RegionView}
 use Rattle.dp_region.proofs.Spans.{by_test, is_span-same}
-
-pub length-bytes_in : (xs : List ℕ) (p n : ℕ) → p + n ≤ length xs → length (bytes_in xs p n) ≡ n
-length-bytes_in xs p n fits = run_long xs p n fits
-
-pub length-with_bytes : (xs : List ℕ) (p : ℕ) (ws : List ℕ) → p + length ws ≤ length xs → length (with_bytes xs p ws) ≡ length xs
-length-with_bytes xs p ws fits = spliced_long xs p (length ws) fits ws refl
+use Rattle.dp_region.specs.Laws.{length-bytes_in}
 
 none : (xs : List ℕ) → length xs ≡ 0 → xs ≡ []
 none [] e = refl

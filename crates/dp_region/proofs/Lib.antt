@@ -1,6 +1,5 @@
 pub mod Bytes
 pub mod Lodging
-pub mod Numbers
 pub mod Rights
 pub mod Rows
 pub mod Shared

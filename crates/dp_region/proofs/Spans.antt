@@ -1,15 +1,13 @@
 -- Spans that are added and removed.
-use Rattle.std.proofs.Common.{◌≡◌, ℕ, ◌+◌, ◌<◌, ◌≤◌, Bool, true, false, cond, ◌&&◌, ◌||◌, leb, ltb, eqb, List, [], ◌∷◌, refl, sym, ap, ap₂, subst, ◌∙◌, arith}
+use Rattle.std.proofs.Common.{◌≡◌, ℕ, ◌+◌, ◌<◌, ◌≤◌, Bool, true, false, cond, ◌&&◌, ◌||◌, leb, ltb, eqb, List, [], ◌∷◌, refl, sym, ap, subst, ◌∙◌, arith}
 use mathlib.Core.Logic.{⊎_elim}
-use Rattle.std.proofs.lemmas.Bool.{ltb-true, ltb-false, leb-true, eqb-true, lt-ltb, le-ltb, le-leb, lt-leb, eq-eqb, cases_lt, and_parts, and_from, and_left, and_right, or_parts, or_from, or_left, or_right, false_from_ne_true, both_ways, true≢false}
+use Rattle.std.proofs.lemmas.Bool.{ltb-true, ltb-false, leb-true, lt-ltb, le-leb, eq-eqb, cases_lt, and_parts, and_from, or_parts, or_from, or_left, or_right, false_from_ne_true, both_ways, true≢false}
 use Rattle.dp_region.specs.Spans.{Span, is_span, listed, covers, is_lent, IsUnlent, with_span, without_span, spaced, Spaced}
+use Rattle.dp_region.specs.Laws.{is_span-true, covers-below, covers-above}
 
 pub by_test : {X : Type 0} (t : Bool) → (t ≡ true → X) → (t ≡ false → X) → X
 by_test true y n = y refl
 by_test false y n = n refl
-
-pub is_span-true : (r s : Span) → is_span r s ≡ true → r ≡ s
-is_span-true r s e = let b = and_parts (eqb r.0 s.0) (eqb r.1 s.1) e in ap₂ (λ (x y : ℕ). (x, y)) (eqb-true r.0 s.0 b.0) (eqb-true r.1 s.1 b.1)
 
 pub is_span-same : (r : Span) → is_span r r ≡ true
 is_span-same r = and_from (eqb r.0 r.0) (eqb r.1 r.1) (eq-eqb r.0 r.0 refl) (eq-eqb r.1 r.1 refl)
@@ -22,12 +20,6 @@ or_swap false false z = refl
 
 pub covers-in : (r : Span) (k : ℕ) → r.0 ≤ k → k < r.0 + r.1 → covers r k ≡ true
 covers-in r k p q = and_from (leb r.0 k) (ltb k (r.0 + r.1)) (le-leb r.0 k p) (lt-ltb k (r.0 + r.1) q)
-
-pub covers-below : (r : Span) (k : ℕ) → k < r.0 → covers r k ≡ false
-covers-below r k p = and_left (leb r.0 k) (ltb k (r.0 + r.1)) (lt-leb r.0 k p)
-
-pub covers-above : (r : Span) (k : ℕ) → r.0 + r.1 ≤ k → covers r k ≡ false
-covers-above r k p = and_right (leb r.0 k) (ltb k (r.0 + r.1)) (le-ltb k (r.0 + r.1) p)
 
 pub listed-with : (q r : Span) (ls : List Span) → listed q (with_span r ls) ≡ (is_span q r || listed q ls)
 listed-with q r [] = refl

@@ -15,7 +15,8 @@ use denote.Steps.{nothing}
 use Rattle.core.proofs.slots.Runs.{unspliced, run_long}
 use Rattle.dp_region.specs.Spans.{Span, covers, listed, is_lent, IsUnlent, with_span, without_span, Spaced, bytes_in, with_bytes}
 use Rattle.dp_region.specs.Ownership.{run_owns, unless, unlent}
-use Rattle.dp_region.proofs.Spans.{covers-in, covers-below, covers-above, is_lent-with, lent_without, unlent_without}
+use Rattle.dp_region.specs.Laws.{covers-below, covers-above}
+use Rattle.dp_region.proofs.Spans.{covers-in, is_lent-with, lent_without, unlent_without}
 
 module _ {M : Type 1} {𝓤 : Ura M} (𝓛 : Logic 𝓤) (b : ℕ) where
   infix 26 ◌⊢◌

@@ -4,7 +4,7 @@ use Rattle.std.specs.Prelude.{◌⊎◌}
 use Rattle.std.proofs.lemmas.Bool.{ltb-true, ltb-false, cases_Bool}
 use Rattle.std.proofs.lemmas.Option.{slice_get_past}
 use Rattle.dp_region.specs.Region.{number_at, with_number}
-use Rattle.dp_region.proofs.Numbers.{number_at-same, number_at-other}
+use Rattle.dp_region.specs.Laws.{number_at-same, number_at-other}
 use Rattle.dp_ring.specs.Rings.{next_place, entries_from, place_behind}
 
 pub length_entries : (bytes : List ℕ) (count first n : ℕ) → length (entries_from bytes count first n) ≡ n

@@ -9,8 +9,7 @@ use Rattle.core.proofs.slots.Runs.{in_run, run_long, inside}
 use Rattle.byteorder.specs.Endian.{little_number}
 use Rattle.dp_region.specs.Spans.{bytes_in, with_bytes}
 use Rattle.dp_region.specs.Region.{number_at, with_number}
-use Rattle.dp_region.proofs.Bytes.{length-with_bytes}
-use Rattle.dp_region.proofs.Numbers.{number_at-same, number_at-other, number_at-kept}
+use Rattle.dp_region.specs.Laws.{length-with_bytes, number_at-same, number_at-other, number_at-kept}
 use Rattle.dp_ring.specs.Rings.{IsRun, Stores}
 
 -- a number of what was written

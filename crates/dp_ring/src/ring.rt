@@ -4,7 +4,7 @@ ghost use Rattle.std.specs.Prelude.{◌≡◌, ℕ, ◌+◌, ◌-◌, ◌*◌, �
 ghost use Rattle.std.specs.List.{list_any};
 ghost use Rattle.dp_ring.specs.Rings.{IsCount, empty_over, room_in, with_more, without_first, place_behind, next_place};
 
-use crate::runs::{load_run, store_run};
+use crate::runs::{load_one, load_run, store_one, store_run};
 use dp_zone::Zone;
 use std::marker::Model;
 
@@ -112,7 +112,7 @@ impl Ring {
             return None;
         }
         let place = place_behind(self.count, self.first, k);
-        Some(self.zone.load_u32(4 * place))
+        Some(load_one(&self.zone, place))
     }
 
     /// Whether a number is one of the entries. All of them are looked at.
@@ -137,9 +137,10 @@ impl Ring {
         requires { 0 < room_in self.old }
         ensures { self.new ≡ with_more self.old (value ∷ []) }
     {
-        let place = place_behind(self.count, self.first, self.used);
-        self.zone.store_u32(4 * place, value);
-        self.used += 1;
+        let used = self.used;
+        let place = place_behind(self.count, self.first, used);
+        store_one(&mut self.zone, place, value);
+        self.used = used + 1;
     }
 
     // Takes the first entry out.
@@ -149,7 +150,7 @@ impl Ring {
         ensures first { self.old.entries ≡ result ∷ self.new.entries }
         ensures rest { self.new ≡ without_first self.old 1 }
     {
-        let value = self.zone.load_u32(4 * self.first);
+        let value = load_one(&self.zone, self.first);
         self.first = next_place(self.count, self.first);
         self.used -= 1;
         value

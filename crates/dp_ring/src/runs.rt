@@ -1,4 +1,4 @@
-//! Runs of numbers in a zone, one behind the other.
+//! Numbers in the places of a zone: one alone, and runs of them, one behind the other.
 ghost use Rattle.std.specs.Prelude.{◌≡◌, ℕ, ◌+◌, ◌*◌, ◌<◌, ◌≤◌, length, slice_index};
 ghost use Rattle.dp_region.specs.Region.{number_at, with_number};
 ghost use Rattle.dp_ring.specs.Rings.{IsRun, Stores};
@@ -7,6 +7,7 @@ use byteorder::{ByteOrder, LittleEndian};
 use dp_zone::Zone;
 
 // Writes a number into the 4 bytes from a place on.
+#[inline(always)]
 fn write_number(bytes: &mut [u8], at: usize, number: u32)
     requires { at + 4 ≤ length bytes.old }
     ensures { bytes.new ≡ with_number bytes.old at 4 number }
@@ -23,6 +24,25 @@ fn write_numbers(bytes: &mut [u8], numbers: &[u32])
     for (k, number) in numbers.iter().enumerate() {
         write_number(bytes, 4 * k, *number);
     }
+}
+
+/// Writes a number into a place of a zone.
+#[inline(always)]
+pub(crate) fn store_one(zone: &mut Zone, place: u32, number: u32)
+    requires { 4 * place + 4 ≤ length zone.old.bytes }
+    ensures { zone.new ≡ record zone.old { bytes = with_number zone.old.bytes (4 * place) 4 number } }
+{
+    write_number(zone.bytes_mut(), 4 * place as usize, number);
+}
+
+/// The number in a place of a zone.
+#[inline(always)]
+pub(crate) fn load_one(zone: &Zone, place: u32) -> u32
+    requires { 4 * place + 4 ≤ length zone.now.bytes }
+    ensures { result ≡ number_at zone.now.bytes (4 * place) 4 }
+{
+    let at = 4 * place as usize;
+    LittleEndian::read_u32(&zone.bytes()[at..at + 4])
 }
 
 /// Writes numbers into the places of a zone from one on.

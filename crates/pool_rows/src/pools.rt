@@ -7,6 +7,8 @@ use dp_heap::{Element, Heap, State};
 use dp_pool::{Pool, PoolError};
 use dp_region::Region;
 use dp_zone::{ZoneError, Zones};
+use std::alloc::Global;
+use std::process::Abort;
 use std::test::Fail;
 
 // Why there is no pool of these. If there is one, it is taken apart at once.
@@ -306,4 +308,124 @@ fn causes(rt: HostRuntime) -> Result<(), Fail> {
         [1, 2, 3, 4]
     );
     Ok(())
+}
+
+// How many are in after a get, and after a put.
+fn after_get(pool: &mut Pool) -> u32
+    ensures { pool.new.zones ≡ pool.old.zones }
+{
+    pool.get();
+    pool.available()
+}
+
+fn after_put(pool: &mut Pool, index: u32) -> u32
+    ensures { pool.new.zones ≡ pool.old.zones }
+{
+    put(pool, index);
+    pool.available()
+}
+
+// How many of six are in after each get, of which the last finds none, and after each put.
+fn counts(rt: &impl Abort, alloc: Global, cache: u32) -> ([u32; 7], [u32; 6]) {
+    let mut heap = Heap::new(Region::new(alloc, 4096).expect(rt, "memory"));
+    let mut zones = Zones::new();
+    let mut pool = Pool::make(&mut heap, &mut zones, "p", 6, 64, cache).expect(rt, "a pool");
+    let gets = [
+        after_get(&mut pool),
+        after_get(&mut pool),
+        after_get(&mut pool),
+        after_get(&mut pool),
+        after_get(&mut pool),
+        after_get(&mut pool),
+        after_get(&mut pool),
+    ];
+    let puts = [
+        after_put(&mut pool, 3),
+        after_put(&mut pool, 0),
+        after_put(&mut pool, 5),
+        after_put(&mut pool, 1),
+        after_put(&mut pool, 4),
+        after_put(&mut pool, 2),
+    ];
+    pool.unmake(&mut heap, &mut zones);
+    heap.close().close();
+    (gets, puts)
+}
+
+#[test]
+fn what_the_cache_holds_is_in(rt: HostRuntime) {
+    for cache in 0..5u32 {
+        let (gets, puts) = counts(&rt, rt.alloc(), cache);
+        assert_eq!(rt; gets, [5, 4, 3, 2, 1, 0, 0], "cache {cache}");
+        assert_eq!(rt; puts, [1, 2, 3, 4, 5, 6], "cache {cache}");
+    }
+}
+
+// The number that an object is given.
+fn number_of(index: u32, round: u32) -> u32 {
+    index.wrapping_mul(1_000_003).wrapping_add(round)
+}
+
+// Writes a number at the end of each of 40 objects, if there are so many, of 100 bytes.
+fn number_all(pool: &mut Pool, round: u32) -> bool
+    ensures { pool.new.zones ≡ pool.old.zones }
+{
+    for index in 0..40u32 {
+        if pool.count() != 40 || pool.size() != 100 {
+            return false;
+        }
+        pool.write(index, 96, &number_of(index, round).to_le_bytes());
+    }
+    true
+}
+
+// Whether each of them has its number.
+fn are_numbered(pool: &Pool, round: u32) -> bool {
+    for index in 0..40u32 {
+        if pool.count() != 40 || pool.size() != 100 {
+            return false;
+        }
+        let number = number_of(index, round).to_le_bytes();
+        if pool.object(index).get(96..100) != Some(&number[..]) {
+            return false;
+        }
+    }
+    true
+}
+
+// Takes so many objects in one call and puts them back in another, and says whether there were so many.
+fn in_and_out(pool: &mut Pool, indexes: &mut [u32]) -> bool
+    ensures { pool.new.zones ≡ pool.old.zones }
+{
+    if !pool.get_bulk(indexes) {
+        return false;
+    }
+    pool.put_bulk(indexes);
+    true
+}
+
+#[test]
+fn numbers_in_objects_are_read_back(rt: HostRuntime) {
+    let mut heap = Heap::new(Region::new(rt.alloc(), 8192).expect(&rt, "memory"));
+    let mut zones = Zones::new();
+    let mut pool = Pool::make(&mut heap, &mut zones, "p", 40, 100, 8).expect(&rt, "a pool");
+    let (mut few, mut all, mut more) = ([0; 5], [0; 40], [7; 41]);
+    let first = (number_all(&mut pool, 1), are_numbered(&pool, 1));
+    let some = (in_and_out(&mut pool, &mut few), state(&pool));
+    let whole = (in_and_out(&mut pool, &mut all), state(&pool));
+    let too_many = (in_and_out(&mut pool, &mut more), state(&pool));
+    let kept = (are_numbered(&pool, 1), are_numbered(&pool, 2));
+    let again = (number_all(&mut pool, 2), are_numbered(&pool, 2));
+    pool.unmake(&mut heap, &mut zones);
+    heap.close().close();
+    assert_eq!(rt;
+        (first, kept, again),
+        ((true, true), (true, false), (true, true))
+    );
+    assert_eq!(rt; (some.0, some.1.1), (true, 40));
+    assert_eq!(rt; (whole.0, whole.1.1), (true, 40));
+    assert_eq!(rt; (too_many, more), ((false, whole.1), [7; 41]));
+    for index in 0..40u32 {
+        assert_eq!(rt; all.iter().filter(|i| **i == index).count(), 1);
+    }
 }

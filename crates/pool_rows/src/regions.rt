@@ -1,7 +1,10 @@
 //! What the loads and stores answer, on bytes and numbers worked out by hand.
 ghost use Rattle.std.specs.Prelude.{◌≡◌, ◌≤◌, [], length};
+ghost use Rattle.dp_region.specs.Region.{IsRegionSize};
 
 use dp_region::{Block, Memory, Region};
+use std::alloc::Global;
+use std::process::Abort;
 use std::test::Fail;
 
 fn write_low(low: &mut Block)
@@ -85,5 +88,36 @@ fn want_of_memory_is_told(rt: HostRuntime) {
     match Region::new(rt.alloc(), 4096) {
         Ok(region) => region.close(),
         Err(error) => assert_eq!(rt; error, Memory),
+    }
+}
+
+// What is read back of a number at the end of a new region, and of one in a part of it that is lent, which comes back. The
+// region is closed.
+fn used(rt: &impl Abort, alloc: Global, size: u32, number: u32) -> (u32, u32)
+    requires { IsRegionSize size }
+{
+    let mut region = Region::new(alloc, size).expect(rt, "memory");
+    region.store_u32(size - 4, number);
+    let mut block = region.lend(64, 128);
+    block.store_u32(60, number);
+    let inside = block.load_u32(60);
+    region.reclaim(block);
+    let outside = region.load_u32(size - 4);
+    region.close();
+    (inside, outside)
+}
+
+// All is given back, so as many regions as one likes may follow one another.
+#[test]
+fn ten_thousand_regions_follow_one_another(rt: HostRuntime) {
+    for k in 0..2500u32 {
+        for size in [4096u32, 8192, 12_288, 16_384] {
+            let number = k * 1000 + size % 1000;
+            assert_eq!(rt;
+                used(&rt, rt.alloc(), size, number),
+                (number, number),
+                "{k} {size}"
+            );
+        }
     }
 }

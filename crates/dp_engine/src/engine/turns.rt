@@ -8,6 +8,8 @@ ghost use Rattle.dp_engine.specs.Outcomes.{outcome_of};
 use crate::engine::{Engine, Outcome, Turn};
 use crate::report::Tallies;
 use crate::serving::{arrive, serve};
+use crate::view::View;
+use crate::watch::{Silent, Watch};
 
 // One record more at a port, of which that became.
 fn count(tallies: &mut [Tallies; 8], port: u8, outcome: Outcome)
@@ -38,18 +40,43 @@ impl Engine {
         ensures lists { length self.new.world.outboxes ≡ length self.new.setting.env.ports }
         ensures rest { self.new ≡ record self.old { world = self.new.world; turns = self.old.turns + 1; tallies = counted_at port (outcome_of result.outcome) self.old.tallies } }
     {
+        self.watched_turn(port, bytes, &mut Silent)
+    }
+
+    /// A turn, as [`turn`](Engine::turn) takes it, at which somebody looks on: at the beginning of each node run, and behind each
+    /// instruction.
+    #[inline(always)]
+    pub fn watched_turn<W: Watch>(&mut self, port: u8, bytes: &[u8], watch: &mut W) -> Turn
+        requires exists { port < length self.old.setting.env.ports }
+        requires limit { self.old.turns < 134217728 }
+        requires size { length bytes.now ≤ 262144 }
+        ensures turn { (told : List Bool) × IsTurn self.old.setting self.old.nodes port bytes.now self.old.world (outcome_of result.outcome) result.runs told self.new.world }
+        ensures never_stuck { (b : Beginning) → IsOfTurn self.old.setting self.old.nodes port bytes.now self.old.world b → NeverStuck self.old.setting b.program b.packet b.number b.world }
+        ensures took { Took self.old.world self.new.world result.steps result.cuts }
+        ensures few { result.steps ≤ result.runs * 263168 }
+        // Each port has its transmit list.
+        ensures lists { length self.new.world.outboxes ≡ length self.new.setting.env.ports }
+        ensures rest { self.new ≡ record self.old { world = self.new.world; turns = self.old.turns + 1; tallies = counted_at port (outcome_of result.outcome) self.old.tallies } }
+    {
         // It tells that the nodes are checked.
         let _env = self.plan.env();
         self.turns += 1;
-        let (outcome, own) = arrive(&self.plan, &mut self.machine, port, bytes);
+        let (outcome, own) = arrive(&self.plan, &mut self.machine, port, bytes, watch);
         count(&mut self.tallies, port, outcome);
-        let served = serve(&self.plan, &mut self.machine);
+        let served = serve(&self.plan, &mut self.machine, watch);
         Turn {
             outcome,
             runs: runs_of(outcome) + served.runs,
             cuts: own.cuts + served.cuts,
             steps: own.steps + served.steps,
         }
+    }
+
+    /// The machine as it is between two turns.
+    pub fn view(&self) -> View<'_>
+        ensures { result.state.world ≡ self.now.world }
+    {
+        View::of(&self.machine)
     }
 }
 

@@ -12,7 +12,7 @@ use Rattle.dp_engine.proofs.Served.{setting_is, at_port, received_with, received
 use Rattle.dp_engine.proofs.serving.arrive.Goals as goal
 
 pub returns-then-needed-spec-clause-arrives : goal.returns-then-needed-spec-clause-arrives
-returns-then-needed-spec-clause-arrives c =
+returns-then-needed-spec-clause-arrives g c =
     let p = c.args.plan.now in
     let port = c.args.port in
     let bytes = c.args.bytes.now in
@@ -26,7 +26,7 @@ returns-then-needed-spec-clause-arrives c =
     ([], (spec, at.program, at.spec_is, at.program_is, (omega (arith, need, c.if-needed-spec.true), refl, refl)))
 
 pub receive-requires-clause-has_room : goal.receive-requires-clause-has_room
-receive-requires-clause-has_room c =
+receive-requires-clause-has_room g c =
     let p = c.args.plan.now in
     let port = c.args.port in
     let d : PortSpec = record { pool = 0; segs = 0; queue = 0 } in
@@ -37,7 +37,7 @@ receive-requires-clause-has_room c =
     subst (λ (e : Environment). 129 ≤ room_at e.pools spec.pool) (sym same) at.room
 
 pub receive-requires-clause-fits : goal.receive-requires-clause-fits
-receive-requires-clause-fits c =
+receive-requires-clause-fits g c =
     let p = c.args.plan.now in
     let port = c.args.port in
     let bytes = c.args.bytes.now in
@@ -50,7 +50,7 @@ receive-requires-clause-fits c =
     omega (arith, need, c.if-needed-spec.false, at.segs)
 
 pub returns-then-not-receive-clause-arrives : goal.returns-then-not-receive-clause-arrives
-returns-then-not-receive-clause-arrives c =
+returns-then-not-receive-clause-arrives g c =
     let p = c.args.plan.now in
     let port = c.args.port in
     let bytes = c.args.bytes.now in
@@ -66,7 +66,7 @@ returns-then-not-receive-clause-arrives c =
     (false ∷ [], (spec, at.program, at.spec_is, at.program_is, (omega (arith, need, c.if-needed-spec.false), sym denied, refl, world)))
 
 pub run-requires-clause-sound : goal.run-requires-clause-sound
-run-requires-clause-sound c =
+run-requires-clause-sound g c =
     let p = c.args.plan.now in
     let port = c.args.port in
     let bytes = c.args.bytes.now in
@@ -88,7 +88,7 @@ run-requires-clause-sound c =
     subst (λ (x : Setting). CanRun x program s) (sym setting) r.can_run
 
 pub returns-clause-arrives : goal.returns-clause-arrives
-returns-clause-arrives c =
+returns-clause-arrives g c =
     let p = c.args.plan.now in
     let port = c.args.port in
     let bytes = c.args.bytes.now in
@@ -113,7 +113,7 @@ returns-clause-arrives c =
     (told, (spec, program, at.spec_is, c.port_program-program.ensures.same, receives))
 
 pub returns-clause-rests : goal.returns-clause-rests
-returns-clause-rests c =
+returns-clause-rests g c =
     let p = c.args.plan.now in
     let port = c.args.port in
     let bytes = c.args.bytes.now in

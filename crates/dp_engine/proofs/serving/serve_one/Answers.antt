@@ -6,7 +6,7 @@ use Rattle.dp_engine.proofs.Served.{setting_is, next_is, next_runs, next_serves,
 use Rattle.dp_engine.proofs.serving.serve_one.Goals as goal
 
 pub ring_program-program-requires : goal.ring_program-program-requires
-ring_program-program-requires c =
+ring_program-program-requires g c =
     let p = c.args.plan.now in
     let m0 = c.args.m.now in
     let m1 = c.take_waiting.new.self in
@@ -14,7 +14,7 @@ ring_program-program-requires c =
     (next_is p.setting p.nodes m0 m1 ring c.requires.rests.rest c.in_ok-ring.ensures).there
 
 pub run-requires-clause-sound : goal.run-requires-clause-sound
-run-requires-clause-sound c =
+run-requires-clause-sound g c =
     let p = c.args.plan.now in
     let m0 = c.args.m.now in
     let m1 = c.take_waiting.new.self in
@@ -26,7 +26,7 @@ run-requires-clause-sound c =
     (next_runs p.setting p.nodes program m0 m1 ring c.env.ensures.pipeline c.ring_program-program.ensures.same c.requires.rests.rest n)
 
 pub returns-clause-serves : goal.returns-clause-serves
-returns-clause-serves c =
+returns-clause-serves g c =
     let p = c.args.plan.now in
     let m0 = c.args.m.now in
     let m1 = c.take_waiting.new.self in
@@ -38,7 +38,7 @@ returns-clause-serves c =
     next_serves p program m0 m1 c.run.new.m ring c.run.result c.ring_program-program.ensures.same n runs c.run.ensures.took
 
 pub returns-clause-packets : goal.returns-clause-packets
-returns-clause-packets c =
+returns-clause-packets g c =
     let p = c.args.plan.now in
     let m0 = c.args.m.now in
     let m1 = c.take_waiting.new.self in
@@ -48,7 +48,7 @@ returns-clause-packets c =
     omega (arith, calls, c.run.ensures.packets, next_count p.setting p.nodes m0 m1 ring c.requires.rests.idle n)
 
 pub returns-clause-rests : goal.returns-clause-rests
-returns-clause-rests c =
+returns-clause-rests g c =
     let p = c.args.plan.now in
     let m0 = c.args.m.now in
     let m1 = c.take_waiting.new.self in

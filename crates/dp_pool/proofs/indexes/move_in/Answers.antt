@@ -1,8 +1,7 @@
 -- The next index goes from the queue to the cache.
 use Rattle.std.proofs.Common.{◌≡◌, suc, ◌+◌, ◌∷◌, [], ◌++◌, take, drop, slice_get, sym, ap, ◌∙◌, arith, append_assoc}
 use Rattle.dp_ring.specs.Rings.{without_first}
-use Rattle.dp_ring.proofs.Taking.{left_next}
-use Rattle.dp_pool.proofs.Moving.{take_next, next_there}
+use Rattle.dp_pool.proofs.Moving.{take_next, next_there, left_next}
 use Rattle.dp_pool.proofs.indexes.move_in.Goals.{in-Some, in_default}
 use Rattle.dp_pool.proofs.indexes.move_in.Goals as goal
 

@@ -1,4 +1,5 @@
-use Rattle.std.proofs.Common.{refl, arith}
+use Rattle.std.proofs.Common.{refl, ap, arith}
+use Rattle.dp_model.specs.Environments.{room_at}
 use Rattle.dp_mbuf.proofs.Live.{same_store}
 use Rattle.dp_mbuf.proofs.Live.{live_object}
 use Rattle.dp_mbuf.proofs.InHand.{object_after}
@@ -12,13 +13,15 @@ pub overflow_sub-offset : goal.overflow_sub-offset
 overflow_sub-offset c = before_first _ _ c.args.packet.now (same_store c.self.view_is) c.self.invariant _ c.args.n c.first_header-head.ensures (c.requires.0, c.requires.1, c.requires.2.0)
 
 pub zero-requires-clause-object : goal.zero-requires-clause-object
-zero-requires-clause-object c = (first_part _ _ c.args.packet.now (same_store c.self.view_is) c.self.invariant _ c.requires.0 c.first_header-head.ensures c.requires.1).object
+zero-requires-clause-object c =
+    object_after _ _ _ c.set_bounds.ensures.specs (first_part _ _ c.args.packet.now (same_store c.self.view_is) c.self.invariant _ c.requires.0 c.first_header-head.ensures c.requires.1).object
 
 pub zero-requires-clause-fits : goal.zero-requires-clause-fits
 zero-requires-clause-fits c =
     let b = before_first _ _ c.args.packet.now (same_store c.self.view_is) c.self.invariant _ c.args.n c.first_header-head.ensures (c.requires.0, c.requires.1, c.requires.2.0) in
     let f = (first_part _ _ c.args.packet.now (same_store c.self.view_is) c.self.invariant _ c.requires.0 c.first_header-head.ensures c.requires.1).fits in
-    omega (arith, b, f)
+    let same = ap (λ s. room_at s c.first_header-head.result.buffer.pool) c.set_bounds.ensures.specs in
+    omega (arith, b, f, same)
 
 pub overflow_add-head : goal.overflow_add-head
 overflow_add-head c =
@@ -28,16 +31,16 @@ overflow_add-head c =
 
 pub set_bounds-requires : goal.set_bounds-requires
 set_bounds-requires c =
-    rw c.place_of.ensures (object_after _ _ _ c.zero.ensures.specs (live_object _ _ c.args.packet.now (same_store c.self.view_is) c.self.invariant (c.requires.0, c.requires.1, tt)))
+    rw c.place_of.ensures (live_object _ _ c.args.packet.now (same_store c.self.view_is) c.self.invariant (c.requires.0, c.requires.1, tt))
 
 pub invariant_of-self : goal.invariant_of-self
 invariant_of-self c =
     let b = before_first _ _ c.args.packet.now (same_store c.self.view_is) c.self.invariant _ c.args.n c.first_header-head.ensures (c.requires.0, c.requires.1, c.requires.2.0) in
     let set = rw c.place_of.ensures at c.set_bounds.ensures in
-    (prepended_done _ _ c.args.packet.now (same_store c.self.view_is) c.self.invariant _ _ _ c.args.n _ c.first_header-head.ensures (c.requires.0, c.requires.1, tt) b refl c.zero.ensures set).0
+    (prepended_done _ _ c.args.packet.now (same_store c.self.view_is) c.self.invariant _ _ _ c.args.n _ c.first_header-head.ensures (c.requires.0, c.requires.1, tt) b refl set c.zero.ensures).0
 
 pub returns-clause-packets : goal.returns-clause-packets
 returns-clause-packets c =
     let b = before_first _ _ c.args.packet.now (same_store c.self.view_is) c.self.invariant _ c.args.n c.first_header-head.ensures (c.requires.0, c.requires.1, c.requires.2.0) in
     let set = rw c.place_of.ensures at c.set_bounds.ensures in
-    (prepended_done _ _ c.args.packet.now (same_store c.self.view_is) c.self.invariant _ _ _ c.args.n _ c.first_header-head.ensures (c.requires.0, c.requires.1, tt) b refl c.zero.ensures set).1
+    (prepended_done _ _ c.args.packet.now (same_store c.self.view_is) c.self.invariant _ _ _ c.args.n _ c.first_header-head.ensures (c.requires.0, c.requires.1, tt) b refl set c.zero.ensures).1

@@ -2,7 +2,7 @@ use Rattle.std.proofs.Common.{◌≡◌, ℕ, true, List, length, sym, ap, ◌�
 use Rattle.dp_region.specs.Spans.{Span, listed, Spaced, with_bytes}
 use Rattle.dp_region.specs.Ownership.{place_in}
 use Rattle.dp_region.proofs.Spans.{listed_bounds}
-use Rattle.dp_region.proofs.Bytes.{length-with_bytes}
+use Rattle.dp_region.specs.Laws.{length-with_bytes}
 use Rattle.dp_region.proofs.region.Region.reclaim.Goals as goal
 
 -- bytes that come back are as many as were lent

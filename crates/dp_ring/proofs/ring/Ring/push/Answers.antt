@@ -1,7 +1,7 @@
 -- One more entry is stored behind the others.
 use Rattle.std.proofs.Common.{◌≡◌, ◌+◌, ◌*◌, ◌<◌, ◌≤◌, ◌++◌, [], ◌∷◌, length, sym, ap, ◌∙◌, subst, arith}
 use Rattle.dp_region.specs.Region.{with_number}
-use Rattle.dp_region.proofs.Numbers.{length-with_number}
+use Rattle.dp_region.specs.Laws.{length-with_number}
 use Rattle.dp_ring.specs.Rings.{room_in, with_more, entries_from}
 use Rattle.dp_ring.specs.contracts.ring.Ring.{the_view}
 use Rattle.dp_ring.proofs.Entries.{counted, entries_pushed}
@@ -18,8 +18,8 @@ few c =
 fits : (c : goal.After-self-1) → 4 * c.place_behind-place.result + 4 ≤ length c.self.inside.zone.bytes
 fits c = let small = c.place_behind-place.ensures.bound in let room = c.self.invariant.3 in omega (arith, small, room)
 
-long : (c : goal.After-self-1) → length c.store_u32.new.self.bytes ≡ length c.self.inside.zone.bytes
-long c = ap (λ z. length z.bytes) c.store_u32.ensures ∙ length-with_number c.self.inside.zone.bytes (4 * c.place_behind-place.result) c.args.value (fits c)
+long : (c : goal.After-self-1) → length c.store_one.new.zone.bytes ≡ length c.self.inside.zone.bytes
+long c = ap (λ z. length z.bytes) c.store_one.ensures ∙ length-with_number c.self.inside.zone.bytes (4 * c.place_behind-place.result) c.args.value (fits c)
 
 pub invariant_of-self : goal.invariant_of-self
 invariant_of-self c = (c.self.invariant.0, few c, c.self.invariant.2, let is = long c in let room = c.self.invariant.3 in omega (arith, is, room))
@@ -27,13 +27,13 @@ invariant_of-self c = (c.self.invariant.0, few c, c.self.invariant.2, let is = l
 pub returns : goal.returns
 returns c =
     let bytes = c.self.inside.zone.bytes in
-    let stands : entries_from c.store_u32.new.self.bytes c.self.inside.count c.self.inside.first (c.self.inside.used + 1) ≡ entries_from bytes c.self.inside.count c.self.inside.first c.self.inside.used ++ c.args.value ∷ [] =
-    ap (λ z. entries_from z.bytes c.self.inside.count c.self.inside.first (c.self.inside.used + 1)) c.store_u32.ensures
+    let stands : entries_from c.store_one.new.zone.bytes c.self.inside.count c.self.inside.first (c.self.inside.used + 1) ≡ entries_from bytes c.self.inside.count c.self.inside.first c.self.inside.used ++ c.args.value ∷ [] =
+    ap (λ z. entries_from z.bytes c.self.inside.count c.self.inside.first (c.self.inside.used + 1)) c.store_one.ensures
     ∙ (ap (λ p. entries_from (with_number bytes (4 * p) 4 c.args.value) c.self.inside.count c.self.inside.first (c.self.inside.used + 1)) c.place_behind-place.ensures.value
     ∙ entries_pushed bytes c.self.inside.count c.self.inside.first c.self.inside.used c.args.value c.self.invariant.0 (few c) c.self.invariant.3 c.ranges.value.fits) in
-    let name = ap (λ z. z.name) c.store_u32.ensures in
-    let home = ap (λ z. z.home) c.store_u32.ensures in
-    let place = ap (λ z. z.place) c.store_u32.ensures in
+    let name = ap (λ z. z.name) c.store_one.ensures in
+    let home = ap (λ z. z.home) c.store_one.ensures in
+    let place = ap (λ z. z.place) c.store_one.ensures in
     let len = long c in
     (λ i. record { count = c.self.inside.count; entries = stands i; name = name i; home = home i; place = place i; len = len i })
     ∙ ap (λ r. with_more r (c.args.value ∷ [])) c.self.view_is

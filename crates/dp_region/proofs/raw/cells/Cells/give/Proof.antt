@@ -2,7 +2,7 @@
 use Rattle.dp_region.proofs.Steps.{◌≡◌, ◌+◌, ◌^◌, ◌<◌, true, [], ◌∷◌, length, refl, sym, subst, arith, ftrue, full_share, fact, ‵, raw, ◌⊛◌, given, ◌$◌, ◌∵◌, !, qed, done, move, keep, use1, use2, split, join, fsplit, fjoin, learn, rewrite, suffices, group, agg, enter, returns, no_more, alloc_all, pass_all, free_all, look_at, sets, yes, bytes, plain, nothing, heard, Stays, stay_dropped, says, walk_of, ends_at, Goes-blank, proved}
 use Rattle.dp_region.specs.Spans.{listed, without_span, Spaced, with_bytes}
 use Rattle.dp_region.specs.Ownership.{place_in, run_owns, unlent, tickets_but, ticket, cells_own}
-use Rattle.dp_region.proofs.Bytes.{length-with_bytes}
+use Rattle.dp_region.specs.Laws.{length-with_bytes}
 use Rattle.dp_region.proofs.Rights.{ticket_known, ticket_in}
 use Rattle.dp_region.proofs.Spans.{listed_bounds, spaced_without}
 use Rattle.dp_region.proofs.Unlent.{given_back, run_out}

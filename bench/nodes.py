@@ -1,0 +1,143 @@
+#!/usr/bin/env python3
+"""Counts the machine instructions that the nodes of examples/ take for a record, beside the same nodes in C over DPDK and in eBPF.
+
+Usage: bench/nodes.py [PROGRAM]   (the built program; by default the one that ./dpv builds and runs; needs DPDK's headers and libraries)
+Each example's captures are written over and over until there are some thousand records, and run through `dpv run` and through
+bench/nodes/nodes.c, compiled by cc -O3 over DPDK's mbufs, with the same number of buffers and no cache; where clang can make eBPF, three nodes
+run in librte_bpf too, interpreted and compiled by it (bench/nodes/programs.c). A count is the difference of two runs, of which one has twice
+as many records, as perf or valgrind count them. Prints one table: a record from capture to capture, and below what the node
+itself adds to a record that is only sent. Exits with 1 where two of them write different captures.
+"""
+import pathlib
+import shutil
+import struct
+import subprocess
+import sys
+import tempfile
+import tomllib
+from typing import NamedTuple
+
+from timing import dpdk, instructions
+
+TOP = pathlib.Path(__file__).resolve().parent.parent
+sys.path.insert(0, str(TOP / "tests"))
+from program import built  # noqa: E402
+
+HERE = TOP / "bench" / "nodes"
+RECORDS = 2_000
+NODES = ["strip", "vlan_pop", "vlan_push", "ttl", "router", "acl", "mirror", "splitter", "gre", "stages"]
+IN_EBPF = ["ttl", "acl", "splitter"]
+SENT = "tx p0,r0,drop\nexit\ndrop: free p0\nexit\n"
+HEAD = 24
+
+
+class Counted(NamedTuple):
+    """What a record takes, and the captures of the shorter run."""
+
+    each: float
+    written: list[bytes]
+
+
+def records_of(capture: bytes) -> list[bytes]:
+    """The records of a capture, each with its header."""
+    found, at = [], HEAD
+    while at < len(capture):
+        end = at + 16 + struct.unpack_from("<I", capture, at + 8)[0]
+        found.append(capture[at:end])
+        at = end
+    return found
+
+
+def repeat(source: bytes, path: pathlib.Path, count: int) -> None:
+    """A capture of so many records, those of another over and over."""
+    records = records_of(source)
+    with open(path, "wb") as out:
+        out.write(source[:HEAD])
+        out.writelines(records[k % len(records)] for k in range(count if records else 0))
+
+
+def counted(command: list[str], folder: pathlib.Path, sources: dict[str, bytes], outs: list[str]) -> Counted:
+    """The instructions of a record: the inputs hold RECORDS of them, then twice as many."""
+    counts, written = [], []
+    for times in (1, 2):
+        for name, source in sources.items():
+            repeat(source, folder / name, times * RECORDS // len(sources))
+        counts.append(instructions(command))
+        written = written or [(folder / name).read_bytes() for name in outs]
+    if None in counts:
+        sys.exit(f"{' '.join(command)} failed, or neither perf nor valgrind can count it")
+    return Counted((counts[1] - counts[0]) / RECORDS, written)
+
+
+def compiled(folder: pathlib.Path) -> str:
+    """The program of the nodes in C."""
+    flags = dpdk()
+    if flags is None:
+        sys.exit("bench/nodes.py: DPDK's headers and libraries are wanted")
+    program = folder / "nodes"
+    subprocess.run(["cc", "-O3", str(HERE / "nodes.c"), "-o", str(program), *flags, "-lrte_bpf"], check=True)
+    return str(program)
+
+
+def in_ebpf(name: str, folder: pathlib.Path) -> pathlib.Path | None:
+    """A node's eBPF instructions, where they can be made."""
+    copier = shutil.which("llvm-objcopy")
+    if name not in IN_EBPF or not shutil.which("clang") or copier is None:
+        return None
+    made, plain = folder / f"{name}.o", folder / f"{name}.bpf"
+    words = ["clang", "-target", "bpf", "-ffreestanding", "-mcpu=v2", "-O2", f"-D{name.upper()}", "-c", str(HERE / "programs.c"), "-o", str(made)]
+    subprocess.run(words, check=True)
+    subprocess.run([copier, "-O", "binary", "--only-section=.text", str(made), str(plain)], check=True)
+    return plain
+
+
+def example(name: str, folder: pathlib.Path) -> pathlib.Path:
+    """A copy of an example's folder; `sent` is that of ttl with a program that only sends."""
+    shutil.copytree(TOP / "examples", folder / name)
+    pipeline = folder / name / ("ttl" if name == "sent" else name)
+    if name == "sent":
+        (pipeline / "ttl.dpv").write_text(SENT)
+    if name == "strip":
+        shutil.copy(folder / name / "ttl" / "ttl.toml", pipeline / "strip.toml")
+        (pipeline / "strip.toml").write_text((pipeline / "strip.toml").read_text().replace("ttl.dpv", "strip.dpv"))
+    return next(pipeline.glob("*.toml"))
+
+
+def row(name: str, program: str, nodes: str, folder: pathlib.Path) -> dict[str, Counted]:
+    """What each way of running a node takes."""
+    pipeline = example(name, folder)
+    ports = tomllib.loads(pipeline.read_text())["port"]
+    home = pipeline.parent
+    sources = {port["in"]: (home / port["in"]).read_bytes() for port in ports if "none" not in port["in"]}
+    outs = [port["out"] for port in ports]
+    files = [*(str(home / it) for it in sources), "--", *(str(home / it) for it in outs)]
+    ways = {"dpv": [program, "run", str(pipeline)], "C": [nodes, name, "-", *files]}
+    plain = in_ebpf(name, folder)
+    if plain is not None:
+        ways |= {"eBPF": [nodes, name, str(plain), *files], "its JIT": [nodes, name, f"jit:{plain}", *files]}
+    return {way: counted(command, home, sources, outs) for way, command in ways.items()}
+
+
+def main() -> int:
+    program = str(pathlib.Path(sys.argv[1]).resolve() if len(sys.argv) > 1 else built())
+    ways, same, rows = ["dpv", "C", "eBPF", "its JIT"], True, {}
+    with tempfile.TemporaryDirectory() as name:
+        folder = pathlib.Path(name)
+        nodes = compiled(folder)
+        print(f"{'a record':<12}" + "".join(f"{way:>10}" for way in ways) + f"{'dpv/C':>8}  same captures")
+        for node in ["sent", *NODES]:
+            rows[node] = row(node, program, nodes, folder)
+            agree = all(it.written == rows[node]["dpv"].written for it in rows[node].values())
+            same = same and agree
+            shown = "".join(f"{rows[node][way].each:>10.0f}" if way in rows[node] else f"{'-':>10}" for way in ways)
+            print(f"{node:<12}{shown}{rows[node]['dpv'].each / rows[node]['C'].each:>8.2f}  {'yes' if agree else 'NO'}", flush=True)
+    print(f"\n{'the node':<12}" + "".join(f"{way:>10}" for way in ways))
+    for node in NODES:
+        base = {way: rows["sent"]["dpv" if way == "dpv" else "C"].each for way in ways}
+        shown = "".join(f"{rows[node][way].each - base[way]:>10.0f}" if way in rows[node] else f"{'-':>10}" for way in ways)
+        print(f"{node:<12}{shown}")
+    return 0 if same else 1
+
+
+if __name__ == "__main__":
+    sys.exit(main())

@@ -1,0 +1,138 @@
+//! Why a file, a capture or a pipeline is at fault, in words.
+
+ghost use Rattle.std.specs.Prelude.{◌≡◌, IfSome, OnOk, option_map};
+ghost use Rattle.std.specs.Io.KnownBytes.{Appends};
+ghost use Rattle.dp_cli.specs.Why.{file_line, finding_lines, reason_of};
+
+use dp_lang::Cause;
+use dp_pcap::PcapError;
+use dp_pipe::{PipeError, RouteError};
+use std::io::Write;
+use std::{fmt, io};
+
+/// Why something is at fault.
+#[derive(Clone, Copy, Debug)]
+pub enum Reason {
+    /// What the system says.
+    System(io::Error),
+    /// A file that has more bytes than are read.
+    TooLong,
+    /// A file to be made that the same run reads.
+    IsInput,
+    /// What is wrong with a capture.
+    Capture(PcapError),
+    /// An input in another format, which can be turned into a capture.
+    IsPcapng,
+    /// What is wrong with a pipeline.
+    Pipeline(PipeError),
+}
+
+impl fmt::Display for Reason {
+    ghost use Rattle.dp_cli.specs.Why.{reason_text};
+
+    ghost output = { reason_text };
+
+    fn fmt<W: fmt::Write>(&self, f: &mut fmt::Formatter<W>) -> fmt::Result {
+        match self {
+            Reason::System(error) => write!(f, "{error}"),
+            Reason::TooLong => write!(f, "it is longer than 1048576 bytes"),
+            Reason::IsInput => write!(f, "it is an input too"),
+            Reason::Capture(error) => write!(f, "{error}"),
+            Reason::IsPcapng => write!(
+                f,
+                "it is a pcapng file, of which editcap -F pcap IN OUT makes a capture"
+            ),
+            Reason::Pipeline(error) => PipeWords(*error).fmt(f),
+        }
+    }
+}
+
+/// What is wrong with a line of a program.
+fn line_words(cause: Cause) -> &'static str {
+    match cause {
+        Cause::BadByte => "there is a byte that no program has",
+        Cause::BadWord => "no instruction has this name",
+        Cause::BadOperands => "there are too few or too many operands",
+        Cause::BadRegister => "an operand is no register: p0 to p7 for a packet, r0 to r7 for a number",
+        Cause::BadNumber => "an operand is no number, or one out of its range",
+        Cause::BadLabel => "a label is no name",
+        Cause::LabelTwice => "the label was given before",
+        Cause::LabelUnknown => "the label is not given, or no instruction follows it",
+        Cause::Size => "there is no instruction, or there are more than 1024",
+    }
+}
+
+/// What is wrong with a pipeline.
+#[derive(Clone, Copy)]
+struct PipeWords(PipeError);
+
+impl fmt::Display for PipeWords {
+    fn fmt<W: fmt::Write>(&self, f: &mut fmt::Formatter<W>) -> fmt::Result {
+        match self.0 {
+            PipeError::Memory => write!(f, "out of memory"),
+            PipeError::NotToml => write!(f, "the text is no TOML"),
+            PipeError::BadKey { .. } => write!(
+                f,
+                "a key is missing, unknown, of the wrong type or out of its range"
+            ),
+            PipeError::BadEnv(error) => write!(f, "{error}"),
+            PipeError::BadTable { cause, .. } => match cause {
+                RouteError::Refused(error) => write!(f, "{error}"),
+                RouteError::Unreadable => write!(f, "the route is not written A.B.C.D/DEPTH HOP"),
+            },
+            PipeError::File(_) => write!(f, "the file cannot be fetched"),
+            PipeError::Asm(_, fault) if fault.line == 0 => {
+                let words = line_words(fault.cause);
+                write!(f, "{words}")
+            }
+            PipeError::Asm(_, fault) => {
+                let line = fault.line;
+                let words = line_words(fault.cause);
+                write!(f, "line {line}: {words}")
+            }
+            PipeError::BadCert(_, fault) => write!(f, "{fault}"),
+            PipeError::NotInferred { .. } => write!(f, "no certificate is inferred"),
+            PipeError::Refused { .. } => write!(f, "the program is refused"),
+        }
+    }
+}
+
+/// The words for a pipeline's fault; but none for a file, of which the files themselves tell.
+pub fn reason_of(error: PipeError) -> Option<Reason>
+    ensures { result ≡ reason_of error }
+{
+    match error {
+        PipeError::File(_) => None,
+        _ => Some(Reason::Pipeline(error)),
+    }
+}
+
+/// Why something is at fault, and the file that is.
+#[derive(Clone, Copy, Debug)]
+pub struct Finding<'a> {
+    /// The file's name, where it is to be told.
+    pub file: Option<&'a str>,
+    /// Why.
+    pub reason: Reason,
+}
+
+/// Writes a line with a file's name, where it is to be told.
+fn write_file<W: Write>(to: &mut W, file: Option<&str>) -> io::Result<()>
+    ensures { OnOk result (Appends (W.contents to.old) (W.contents to.new) (file_line (option_map (λ name. name.now) file.entry))) }
+{
+    match file {
+        Some(name) => writeln!(to, "  file: {name}"),
+        None => Ok(()),
+    }
+}
+
+/// Writes the lines that stand behind the line of a fault.
+#[tactic(auto, using(crate::proofs::Behind::told_behind_both))]
+pub fn write_finding<W: Write>(to: &mut W, finding: Finding<'_>) -> io::Result<()>
+    ensures { OnOk result (IfSome (finding_lines finding.entry) (Appends (W.contents to.old) (W.contents to.new))) }
+{
+    write_file(to, finding.file)?;
+    let reason = finding.reason;
+    write!(to, "  because: ")?;
+    writeln!(to, "{reason}")
+}

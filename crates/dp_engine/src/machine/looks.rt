@@ -1,0 +1,68 @@
+//! What can be seen of a machine.
+ghost use Rattle.std.specs.Prelude.{◌≡◌, ◌<◌, ◌≤◌, false, length, slice_get, Some, IsTrue};
+ghost use Rattle.dp_model.specs.Packets.{Packet, Segment, refs, packet_bytes, segment_bytes};
+ghost use Rattle.dp_model.specs.Machine.{Holds, IsEmpty, live};
+
+use crate::machine::Machine;
+use crate::machine::calls::{handle_in, is_held_in};
+use dp_model::PacketRegister;
+
+impl Machine {
+    // Whether a register holds a packet.
+    pub(crate) fn holds(&self, p: PacketRegister) -> bool
+        ensures some { IsTrue result → (k : Packet) × Holds self.now.state p k }
+        ensures none { result ≡ false → IsEmpty self.now.state p }
+    {
+        is_held_in(&self.registers, p)
+    }
+
+    // How many segments the packet has.
+    pub(crate) fn segments(&self, p: PacketRegister) -> u32
+        requires { (k : Packet) × Holds self.now.state p k }
+        ensures { (k : Packet) → Holds self.now.state p k → result ≡ length k }
+    {
+        let packet = handle_in(&self.registers, p);
+        self.mbufs.segments(&packet)
+    }
+
+    // How many bytes the packet has.
+    pub(crate) fn length(&self, p: PacketRegister) -> u32
+        requires { (k : Packet) × Holds self.now.state p k }
+        ensures { (k : Packet) → Holds self.now.state p k → result ≡ length (packet_bytes self.now.state.world.buffers k) }
+    {
+        let packet = handle_in(&self.registers, p);
+        self.mbufs.length(&packet)
+    }
+
+    // The bytes of a segment.
+    pub(crate) fn segment_bytes(&self, p: PacketRegister, index: u32) -> &[u8]
+        requires { (k : Packet) × Holds self.now.state p k × (index < length k) }
+        ensures { (k : Packet) (s : Segment) → Holds self.now.state p k → slice_get k index ≡ Some s → result.now ≡ segment_bytes self.now.state.world.buffers s }
+    {
+        let packet = handle_in(&self.registers, p);
+        self.mbufs.segment_bytes(&packet, index)
+    }
+
+    // How many segments of all packets have a segment's buffer.
+    pub(crate) fn segment_refs(&self, p: PacketRegister, index: u32) -> u32
+        requires { (k : Packet) × Holds self.now.state p k × (index < length k) }
+        ensures { (k : Packet) (s : Segment) → Holds self.now.state p k → slice_get k index ≡ Some s → result ≡ refs (live self.now.state) s.buffer }
+    {
+        let packet = handle_in(&self.registers, p);
+        self.mbufs.refs(&packet, index)
+    }
+
+    // How many rings there are.
+    pub(crate) fn rings(&self) -> usize
+        ensures { result ≡ length self.now.frames.rings }
+    {
+        self.rings.len()
+    }
+
+    // How many transmit lists there are.
+    pub(crate) fn lists(&self) -> usize
+        ensures { result ≡ length self.now.frames.outboxes }
+    {
+        self.outboxes.len()
+    }
+}

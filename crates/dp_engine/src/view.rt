@@ -1,0 +1,124 @@
+//! What a machine shows of itself between two instructions.
+ghost use Rattle.std.specs.Prelude.{◌≡◌, ◌<◌, ◌≤◌, ℕ, List, length, slice_get, slice_index, Some, IfSome, IfNone};
+ghost use Rattle.dp_model.specs.Packets.{Packet};
+ghost use Rattle.dp_model.specs.Machine.{Holds, IsEmpty};
+ghost use Rattle.dp_engine.specs.Shapes.{IsShapeOf, IsSegmentOf, AreWaiting};
+
+use crate::machine::Machine;
+use dp_model::{NumberRegister, PacketRegister};
+use std::marker::Model;
+
+/// A packet, but for its bytes.
+#[derive(Clone, Copy, Debug, PartialEq, Eq)]
+pub struct PacketShape {
+    /// How many segments it has, 1 to 64.
+    pub segments: u32,
+    /// How many bytes it has in all.
+    pub length: u32,
+    /// The room in front of the first segment's bytes.
+    pub headroom: u16,
+    /// The room behind the last segment's bytes.
+    pub tailroom: u16,
+}
+
+/// A segment of a packet.
+#[derive(Clone, Copy, Debug)]
+pub struct SegmentView<'a> {
+    /// Its bytes.
+    pub bytes: &'a [u8],
+    /// How many segments of all packets have its buffer.
+    pub refs: u32,
+}
+
+/// A machine as it is between two instructions, or between two node runs.
+#[derive(Drop)]
+pub struct View<'a> {
+    machine: &'a Machine,
+}
+
+impl<'a> Model for View<'a> {
+    ghost use Rattle.dp_engine.specs.Handles.{Core};
+
+    ghost Value = { Core };
+
+    ghost view = { λ v. v.machine.now };
+}
+
+impl<'a> View<'a> {
+    // The machine as it is.
+    #[inline(always)]
+    pub(crate) fn of(machine: &'a Machine) -> View<'a>
+        ensures { result ≡ machine.now }
+    {
+        View { machine }
+    }
+
+    /// The number in a register.
+    pub fn number(&self, r: NumberRegister) -> u64
+        ensures { result ≡ slice_index self.now.state.numbers r }
+    {
+        self.machine.number(r)
+    }
+
+    /// How many allocation calls there were.
+    pub fn calls(&self) -> u64
+        ensures { result ≡ self.now.state.world.calls }
+    {
+        self.machine.calls()
+    }
+
+    /// The packet in a register, if there is one.
+    pub fn packet(&self, p: PacketRegister) -> Option<PacketShape>
+        ensures some { IfSome result (λ shape. (k : Packet) × Holds self.now.state p k × IsShapeOf self.now k shape) }
+        ensures none { IfNone result (IsEmpty self.now.state p) }
+    {
+        if self.machine.holds(p) {
+            Some(PacketShape {
+                segments: self.machine.segments(p),
+                length: self.machine.length(p),
+                headroom: self.machine.headroom(p),
+                tailroom: self.machine.tailroom(p),
+            })
+        } else {
+            None
+        }
+    }
+
+    /// The segment of this number, from 0, of the packet in a register, if there is one.
+    pub fn segment(&self, p: PacketRegister, index: u32) -> Option<SegmentView<'a>>
+        ensures some { IfSome result (λ s. (k : Packet) × Holds self.now.state p k × IsSegmentOf self.now k index s.bytes.now s.refs) }
+        ensures none { IfNone result ((k : Packet) → Holds self.now.state p k → length k ≤ index) }
+    {
+        if !self.machine.holds(p) || self.machine.segments(p) <= index {
+            return None;
+        }
+        Some(SegmentView {
+            bytes: self.machine.segment_bytes(p, index),
+            refs: self.machine.segment_refs(p, index),
+        })
+    }
+
+    /// How many packets wait in a ring, if there is one of this number.
+    pub fn waiting(&self, ring: u8) -> Option<u32>
+        ensures some { IfSome result (AreWaiting self.now.state.world.rings ring) }
+        ensures none { IfNone result (length self.now.frames.rings ≤ ring) }
+    {
+        if usize::from(ring) < self.machine.rings() {
+            Some(self.machine.waiting(ring))
+        } else {
+            None
+        }
+    }
+
+    /// How many packets wait in the transmit list of a port, if there is one of this number.
+    pub fn queued(&self, port: u8) -> Option<u32>
+        ensures some { IfSome result (AreWaiting self.now.state.world.outboxes port) }
+        ensures none { IfNone result (length self.now.frames.outboxes ≤ port) }
+    {
+        if usize::from(port) < self.machine.lists() {
+            Some(self.machine.queued(port))
+        } else {
+            None
+        }
+    }
+}

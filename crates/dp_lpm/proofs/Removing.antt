@@ -1,0 +1,110 @@
+-- A rule has been taken out where those behind it went one place down and the last place was let go.
+use Rattle.std.proofs.Common.{◌≡◌, ℕ, suc, ◌+◌, ◌-◌, ◌<◌, List, ◌++◌, length, take, drop, sym, ◌∙◌, ap, arith, take_all, append_assoc, length-take}
+use Rattle.std.proofs.lemmas.List.{take-append-le, take-append-drop, take_at, drop_at, length-take-le, length-append, length-drop, drop-drop, drop-take}
+use Rattle.std.proofs.lemmas.Slice.{between_to_end}
+use Rattle.std.proofs.Math.Seq.{paste, take-paste, drop-paste, take-add, take-append-add}
+use borrow.Rule.Slice.PartMut.{put_mid, mid_of, post_of}
+use Rattle.dp_lpm.specs.declared.rule.Rule.{Rule}
+
+-- those from a place on
+from_place : (place : ℕ) (rules : List Rule) → mid_of place (length rules - place) rules ≡ drop place rules
+from_place place rules = between_to_end rules place (length rules) (omega arith)
+
+part_length : (place : ℕ) (rules part : List Rule) → place < length rules → length part ≡ length (mid_of place (length rules - place) rules) → length part ≡ length rules - place
+part_length place rules part there size = size ∙ (ap length (from_place place rules) ∙ length-drop place rules)
+
+-- the rules in front, and what stands from the place on now, but for the last
+pub left_out : (place : ℕ) (rules part : List Rule) → place < length rules → length part ≡ length (mid_of place (length rules - place) rules)
+    → take (length (mid_of place (length rules - place) rules) - 1) part ≡ drop 1 (mid_of place (length rules - place) rules)
+    → take (length rules - 1) (put_mid place (length rules - place) rules part) ≡ take place rules ++ drop (suc place) rules
+left_out place rules part there size moved =
+    let k = length rules - place in
+    let long = part_length place rules part there size in
+    let front : length (take place rules) ≡ place = length-take-le place rules (omega (arith, there)) in
+    let n : length rules - 1 ≡ length (take place rules) + (length part - 1) = omega (arith, there, long, front) in
+    let one : place + 1 ≡ suc place = omega arith in
+    let same : length part - 1 ≡ length (mid_of place k rules) - 1 = omega (arith, size) in
+    ap (λ i. take i (put_mid place k rules part)) n
+    ∙ (take-append-add (take place rules) (part ++ post_of place k rules) (length part - 1)
+    ∙ (ap (λ l. take place rules ++ l) (take-append-le (length part - 1) part (post_of place k rules) (omega arith))
+    ∙ (ap (λ i. take place rules ++ take i part) same
+    ∙ (ap (λ l. take place rules ++ l) (moved ∙ ap (drop 1) (from_place place rules))
+    ∙ ap (λ l. take place rules ++ l) (drop-drop 1 place rules ∙ ap (λ i. drop i rules) one)))))
+
+-- ---- part by part
+
+-- so many went one place down, and the others are as they were
+pub record GoneDown (old : List Rule) (at : ℕ) (rules : List Rule) : Type 0 where
+  pub within : at < length old
+  pub is : rules ≡ take at (drop 1 old) ++ drop at old
+
+gone_length : (old : List Rule) (at : ℕ) → at < length old → length (take at (drop 1 old)) ≡ at
+gone_length old at within = length-take-le at (drop 1 old) (omega (arith, within, length-drop 1 old))
+
+pub down_length : (old : List Rule) (at : ℕ) (rules : List Rule) → GoneDown old at rules → length rules ≡ length old
+down_length old at rules down =
+    omega (arith, down.within, ap length down.is, length-append (take at (drop 1 old)) (drop at old), gone_length old at down.within, length-drop at old)
+
+-- the next part
+pub part_down : (old : List Rule) (at n : ℕ) (rules : List Rule) → at + n < length old → GoneDown old at rules → GoneDown old (at + n) (paste rules at (drop (at + 1) rules) n)
+part_down old at n rules fits down = record {
+  within = fits;
+  is = sym (take-append-drop (at + n) (paste rules at (drop (at + 1) rules) n))
+      ∙ (ap (λ l. l ++ drop (at + n) (paste rules at (drop (at + 1) rules) n)) front
+      ∙ ap (λ l. take (at + n) (drop 1 old) ++ l) back);
+}
+  where
+    long : length rules ≡ length old
+    long = down_length old at rules down
+
+    behind : (k : ℕ) → drop (at + k) rules ≡ drop (at + k) old
+    behind k = sym (drop-drop k at rules)
+        ∙ (ap (drop k) (ap (drop at) down.is ∙ drop_at (take at (drop 1 old)) (drop at old) at (gone_length old at down.within))
+        ∙ drop-drop k at old)
+
+    before : take at rules ≡ take at (drop 1 old)
+    before = ap (take at) down.is ∙ take_at (take at (drop 1 old)) (drop at old) at (gone_length old at down.within)
+
+    next : drop (at + 1) rules ≡ drop at (drop 1 old)
+    next = behind 1 ∙ (ap (λ i. drop i old) (omega arith) ∙ sym (drop-drop at 1 old))
+
+    front : take (at + n) (paste rules at (drop (at + 1) rules) n) ≡ take (at + n) (drop 1 old)
+    front = take-paste rules at (drop (at + 1) rules) n (omega (arith, fits, long)) (omega (arith, fits, long, length-drop (at + 1) rules))
+        ∙ (ap (λ l. l ++ take n (drop (at + 1) rules)) before
+        ∙ (ap (λ l. take at (drop 1 old) ++ take n l) next
+        ∙ sym (take-add at n (drop 1 old))))
+
+    back : drop (at + n) (paste rules at (drop (at + 1) rules) n) ≡ drop (at + n) old
+    back = drop-paste rules at (drop (at + 1) rules) n (omega (arith, fits, long)) (omega (arith, fits, long, length-drop (at + 1) rules)) ∙ behind n
+
+-- a part of which the first is let go, in its list
+pub part_put : (now : List Rule) (at n : ℕ) → at + n < length now
+    → put_mid at (n + 1) now (paste (mid_of at (n + 1) now) 0 (drop 1 (mid_of at (n + 1) now)) (length (mid_of at (n + 1) now) - 1)) ≡ paste now at (drop (at + 1) now) n
+part_put now at n fits =
+    ap (λ l. take at now ++ ((l ++ drop (0 + (length mid - 1)) mid) ++ drop (n + 1) rest)) moved
+    ∙ (ap (λ l. take at now ++ ((some ++ l) ++ drop (n + 1) rest)) stays
+    ∙ (ap (λ l. take at now ++ ((some ++ take 1 (drop n rest)) ++ l)) (sym (drop-drop 1 n rest))
+    ∙ (ap (λ l. take at now ++ l) (append_assoc some (take 1 (drop n rest)) (drop 1 (drop n rest)))
+    ∙ (ap (λ l. take at now ++ (some ++ l)) (take-append-drop 1 (drop n rest) ∙ drop-drop n at now)
+    ∙ sym (append_assoc (take at now) some (drop (at + n) now))))))
+  where
+    rest : List Rule
+    rest = drop at now
+
+    mid : List Rule
+    mid = mid_of at (n + 1) now
+
+    some : List Rule
+    some = take n (drop (at + 1) now)
+
+    size : length mid - 1 ≡ n
+    size = omega (arith, fits, length-take (n + 1) rest, length-drop at now)
+
+    behind : drop 1 mid ≡ some
+    behind = ap (λ i. drop 1 (take i rest)) (omega arith) ∙ (drop-take 1 n rest ∙ ap (take n) (drop-drop 1 at now))
+
+    moved : take (length mid - 1) (drop 1 mid) ≡ some
+    moved = ap (take (length mid - 1)) behind ∙ (ap (λ i. take i some) size ∙ take_all n some (omega (arith, length-take n (drop (at + 1) now))))
+
+    stays : drop (0 + (length mid - 1)) mid ≡ take 1 (drop n rest)
+    stays = ap (λ i. drop i mid) (omega (arith, size)) ∙ drop-take n 1 rest

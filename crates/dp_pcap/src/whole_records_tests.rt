@@ -1,0 +1,45 @@
+//! A capture that goes by in two pieces, cut at each of its places.
+use crate::WholeRecords;
+
+// How many bytes the capture has: a header, a record of 3 bytes, one of none, one of 2, and the head of one more.
+const LEN: usize = 24 + 16 + 3 + 16 + 16 + 2 + 16;
+
+// Where each whole record ends.
+const ENDS: [usize; 3] = [43, 59, 77];
+
+// Its bytes: all are 0 but the lengths, and those of the records, which are 9.
+fn capture() -> [u8; LEN] {
+    let mut bytes = [0; LEN];
+    bytes[32] = 3;
+    bytes[40] = 9;
+    bytes[41] = 9;
+    bytes[42] = 9;
+    bytes[67] = 2;
+    bytes[75] = 9;
+    bytes[76] = 9;
+    bytes[85] = 4;
+    bytes
+}
+
+// How many of its records are whole in its first bytes.
+fn whole_in(first: usize) -> u64 {
+    let mut count = 0u64;
+    for end in ENDS {
+        if end <= first {
+            count = count.wrapping_add(1);
+        }
+    }
+    count
+}
+
+#[test]
+fn a_cut_changes_no_count(rt: HostRuntime) {
+    let bytes = capture();
+    for cut in 0..LEN + 1 {
+        let mut records = WholeRecords::new();
+        records.pass(&bytes[..cut]);
+        assert_eq!(rt; records.count(), whole_in(cut));
+        records.pass(&bytes[cut..]);
+        assert_eq!(rt; records.count(), 3);
+    }
+}

@@ -1,0 +1,73 @@
+//! Drains whose writer fails at each of its bytes.
+ghost use Rattle.std.specs.Prelude.{◌<◌};
+
+use crate::given::{Act, FORWARD, opened, play_to, says, written};
+use dp_engine::WriteFault;
+use dp_model::{Env, PoolSpec, PortSpec};
+use dp_pcap::{FailingSink, OfWrite};
+use std::test::Fail;
+
+// Three records: one of one segment, one without bytes, and one of three segments.
+const RECORDS: [&[u8]; 3] = [&[7; 5], &[], &[9; 150]];
+
+// How many of them are whole in so many bytes: they end behind 21, 37 and 203.
+fn whole_in(bytes: usize) -> u32 {
+    match bytes {
+        0..=20 => 0,
+        21..=36 => 1,
+        37..=202 => 2,
+        _ => 3,
+    }
+}
+
+// Whether all is well with a drain of the three records by a writer that takes so many bytes a call and fails behind the
+// first `left`: these are written, as many records are told as end within them, and nothing is left to be sent or in use.
+fn is_told(rt: &HostRuntime, most: usize, left: usize) -> Result<bool, Fail>
+    requires { 0 < most }
+{
+    let pool = PoolSpec {
+        count: 8,
+        cache: 0,
+        room: 192,
+    };
+    let port = PortSpec {
+        pool: 0,
+        segs: 4,
+        queue: 4,
+    };
+    let env = Env::new(&[pool], 0, &[], &[port])?;
+    let [first, second, third] = RECORDS;
+    let acts = [
+        Act::Turn(0, first),
+        Act::Turn(0, second),
+        Act::Turn(0, third),
+        Act::Drain(0),
+    ];
+    let mut w = FailingSink::new(OfWrite::new(Vec::new(rt.alloc())), most, left);
+    let engine = opened(rt, &env, Vec::new(rt.alloc()), &[FORWARD])?;
+    let played = play_to(engine, &env, &acts, &mut w);
+    let all = written(rt, RECORDS.as_slice())?;
+    let sent = whole_in(left);
+    let answer = if left < all.len() {
+        Err(WriteFault { sent })
+    } else {
+        Ok(sent)
+    };
+    let output = w.into_inner().into_inner();
+    Ok(
+        played.drain == Some(answer)
+            && played.queued == 0
+            && says(&played.report, 3, u64::from(sent), 8, 3)
+            && Some(output.as_slice()) == all.as_slice().get(..left.min(all.len())),
+    )
+}
+
+#[test]
+fn a_writer_that_fails_at_each_byte(rt: HostRuntime) -> Result<(), Fail> {
+    for most in [1usize, 10, 1000] {
+        for left in 0..205usize {
+            assert!(rt; is_told(&rt, most, left)?, "{most} {left}");
+        }
+    }
+    Ok(())
+}

@@ -1,0 +1,244 @@
+#!/usr/bin/env python3
+"""Runs the built program dpv where something is at fault, and reads what it says of the reason behind the line of the fault.
+
+Usage: tests/told.py [PROGRAM]   (the built program; by default the one that ./dpv builds and runs)
+Files that are missing, folders, too long, not to be read or written; captures with each cause, and in another format; pipelines with each
+cause; full disks; outputs that are inputs by the same name, by another name, by a link and from standard input. The words are those of the
+system as this host says them (os.strerror), or stand here.
+Prints a line for each case that went another way, and a count; exits with 1 where there is such a case.
+"""
+import errno
+import os
+import pathlib
+import shutil
+import struct
+import subprocess
+import sys
+import tempfile
+from collections.abc import Iterator
+from typing import NamedTuple
+
+from faults import HEADER, ONE, POOL, capture, make_files, pipeline, run_of
+from program import built
+
+PCAPNG = "it is a pcapng file, of which editcap -F pcap IN OUT makes a capture"
+NOBODY = 65_534
+
+
+class Case(NamedTuple):
+    """The words behind `dpv`, the status, and all that has to be told."""
+
+    words: list[str]
+    status: int
+    told: str
+
+
+def system(number: int) -> str:
+    """The system's words for an error."""
+    return f"{os.strerror(number)} (os error {number})"
+
+
+def file(name: str, reason: str) -> str:
+    """What is told of a file."""
+    return f"fault: file {name}\n  because: {reason}\n"
+
+
+def node(place: str, name: str, reason: str) -> str:
+    """What is told of a node's file."""
+    return f"fault: pipeline 5 File {place}\n  file: {name}\n  because: {reason}\n"
+
+
+def of_pipeline(cause: str, reason: str) -> str:
+    """What is told of a pipeline."""
+    return f"fault: pipeline {cause}\n  because: {reason}\n"
+
+
+def of_input(port: int, cause: int, name: str, reason: str) -> str:
+    """What is told of an input."""
+    return f"fault: input {port} cause {cause}\n  file: {name}\n  because: {reason}\n"
+
+
+def of_output(port: int, name: str, reason: str) -> str:
+    """What is told of an output."""
+    return f"fault: output {port}\n  file: {name}\n  because: {reason}\n"
+
+
+def strips(source: str, target: str, told: str) -> Case:
+    """A case of `dpv one`."""
+    return Case(["one", "strip.dpv", "strip.cert", source, target], 3, told)
+
+
+def files() -> Iterator[Case]:
+    """Files that are not opened, made or read."""
+    missing, folder, long = system(errno.ENOENT), system(errno.EISDIR), "it is longer than 1048576 bytes"
+    for words in (["check"], ["run"], ["mem"], ["explain"]):
+        yield Case([*words, "none"], 3, file("none", missing))
+        yield Case([*words, "folder"], 3, file("folder", folder))
+        yield Case([*words, "long.toml"], 3, file("long.toml", long))
+    yield Case(["infer", "none", "port0"], 3, file("none", missing))
+    yield Case(["show", "none", "port0"], 3, file("none", missing))
+    for words in (["infer-one"], ["explain-one"], ["show-one"]):
+        yield Case([*words, "none"], 3, node("port 0", "none", missing))
+        yield Case([*words, "folder"], 3, node("port 0", "folder", folder))
+        yield Case([*words, "long.dpv"], 3, node("port 0", "long.dpv", long))
+    yield Case(["explain-one", "strip.dpv", "none"], 3, node("port 0", "none", missing))
+    yield Case(["show-one", "strip.dpv", "long.cert"], 3, node("port 0", "long.cert", long))
+    yield Case(["one", "none", "none", "none", "none"], 3, node("port 0", "none", missing))
+    yield Case(["one", "strip.dpv", "folder", "none", "none"], 3, node("port 0", "folder", folder))
+    yield Case(["check", "ring_file.toml"], 3, node("ring 0", "long.dpv", long))
+    yield Case(["check", "second.toml"], 1, "")
+    yield strips("none", "out", file("none", missing))
+    yield strips("in.pcap", "none/none", file("none/none", missing))
+    yield strips("in.pcap", "folder", file("folder", folder))
+    yield Case(["run", "no_other_output.toml"], 3, file("folder", folder))
+
+
+def closed() -> Iterator[Case]:
+    """Files that nobody may read or write, where the program is run as nobody."""
+    denied = system(errno.EACCES)
+    yield Case(["check", "closed"], 3, file("closed", denied))
+    yield Case(["infer-one", "closed"], 3, node("port 0", "closed", denied))
+    yield strips("closed", "out", file("closed", denied))
+    yield strips("in.pcap", "closed", file("closed", denied))
+
+
+def captures() -> Iterator[Case]:
+    """Captures with each cause, and in another format."""
+    words = {
+        "magic.pcap": (1, "no magic number of a pcap file"),
+        "new.pcapng": (1, PCAPNG),
+        "version.pcap": (2, "the version is not 2.4"),
+        "link.pcap": (3, "the link type is not 1"),
+        "time.pcap": (4, "the fraction of a record's time is a second or more"),
+        "large.pcap": (5, "a record has more than 262144 bytes"),
+        "short.pcap": (6, "fewer than the 24 bytes of a header"),
+        "folder": (8, system(errno.EISDIR)),
+    }
+    for name, (cause, reason) in words.items():
+        yield strips(name, "out", of_input(0, cause, name, reason))
+    yield Case(["run", "no_header.toml"], 3, of_input(0, 6, "short.pcap", words["short.pcap"][1]))
+    yield Case(["run", "no_other_header.toml"], 3, of_input(1, 3, "link.pcap", words["link.pcap"][1]))
+    yield Case(["run", "no_bytes.toml"], 3, of_input(1, 8, "folder", system(errno.EISDIR)))
+    yield Case(["run", "no_room.toml"], 3, "fault: region\n")
+
+
+def full_disks() -> Iterator[Case]:
+    """Outputs that are full, at once or when the run has come to its end; of two the one is told that comes first."""
+    full = system(errno.ENOSPC)
+    yield strips("in.pcap", "/dev/full", of_output(0, "/dev/full", full))
+    yield strips("many.pcap", "/dev/full", of_output(0, "/dev/full", full))
+    yield Case(["run", "full.toml"], 3, of_output(1, "/dev/full", full))
+    yield Case(["run", "both_full.toml"], 3, of_output(0, "/dev/full", full))
+    yield Case(["run", "late_full.toml"], 3, of_output(1, "/dev/full", full))
+
+
+def pipelines() -> Iterator[Case]:
+    """Pipelines with each cause; a program that is refused has no reason on standard error."""
+    key = "a key is missing, unknown, of the wrong type or out of its range"
+    told = {
+        "text": ("1 NotToml", "the text is no TOML"),
+        "top": ("2 BadKey top 0", key),
+        "port": ("2 BadKey port 0", key),
+        "env": ("3 BadEnv 4 0", "port 0 is not within the limits"),
+        "pools": ("3 BadEnv 1 0", "there are too few or too many pools, tables, rings or ports"),
+        "route": ("4 BadTable 0 1 3", "no room for another rule"),
+        "depth": ("4 BadTable 0 0 1", "the depth is not 1 to 32"),
+        "hop": ("4 BadTable 0 0 2", "the hop is above 16777215"),
+        "unread_route": ("4 BadTable 0 0 6", "the route is not written A.B.C.D/DEPTH HOP"),
+        "asm": ("6 Asm port 0 line 2 cause 5", "line 2: an operand is no number, or one out of its range"),
+        "cert": ("7 BadCert port 0 line 7 cause 2", "line 7: this is not a line of 306 hexadecimal digits"),
+    }
+    for name, (cause, reason) in told.items():
+        yield Case(["check", f"{name}.toml"], 3, of_pipeline(cause, reason))
+        yield Case(["run", f"{name}.toml"], 3, of_pipeline(cause, reason))
+    yield Case(["explain", "text.toml"], 3, of_pipeline(*told["text"]))
+    yield Case(["show", "text.toml", "port0"], 3, of_pipeline(*told["text"]))
+    yield Case(["check", "refused.toml"], 1, "")
+
+
+def same_files() -> Iterator[Case]:
+    """Outputs that are inputs: by the same name, another name, a link, and the name of another port's input."""
+    same = "it is an input too"
+    yield strips("kept.pcap", "kept.pcap", file("kept.pcap", same))
+    yield strips("kept.pcap", "./folder/../kept.pcap", file("./folder/../kept.pcap", same))
+    yield strips("kept.pcap", "hard.pcap", file("hard.pcap", same))
+    yield strips("soft.pcap", "kept.pcap", file("kept.pcap", same))
+    yield strips("/dev/stdin", "kept.pcap", file("kept.pcap", same))
+    yield Case(["run", "crossed.toml"], 3, file("kept.pcap", same))
+
+
+def nothing_told() -> Iterator[Case]:
+    """Runs that have nothing to tell; devices are no files that are emptied."""
+    yield Case(["one", "strip.dpv", "strip.cert", "in.pcap", "out"], 0, "")
+    yield Case(["one", "strip.dpv", "strip.cert", "in.pcap", "/dev/null"], 0, "")
+    yield Case(["one", "strip.dpv", "strip.cert", "/dev/null", "/dev/null"], 3, of_input(0, 6, "/dev/null", "fewer than the 24 bytes of a header"))
+    yield Case(["run", "both.toml"], 0, "")
+
+
+def make_more(folder: pathlib.Path) -> None:
+    """The files that the cases name beside those of tests/faults.py."""
+    table = '[[table]]\nrules = 1\ngroups = 0\nroutes = ["{}"]\n'
+    texts = {
+        "pools": pipeline(["none"]).replace(POOL, 9 * POOL),
+        "depth": pipeline(["none"], table=table.format("10.0.0.0/33 1")),
+        "hop": pipeline(["none"], table=table.format("10.0.0.0/8 16777216")),
+        "unread_route": pipeline(["none"], table=table.format("10.0.0.0 1")),
+        "late_full": run_of(["one.pcap", "two.pcap"], ["out0", "/dev/full"]),
+        "crossed": run_of(["one.pcap", "kept.pcap"], ["kept.pcap", "out1"]),
+    }
+    data = {
+        "magic.pcap": b"\0" + ONE[1:],
+        "new.pcapng": struct.pack("<IIIHHqI", 0x0A0D0D0A, 28, 0x1A2B3C4D, 1, 0, -1, 28),
+        "version.pcap": ONE[:6] + b"\5" + ONE[7:],
+        "time.pcap": HEADER + struct.pack("<IIII", 1, 1_000_000, 4, 4) + b"data",
+        "large.pcap": HEADER + struct.pack("<IIII", 1, 2, 262_145, 262_145),
+        "many.pcap": capture(*(2000 * [bytes(60)])),
+        "kept.pcap": ONE,
+        "closed": ONE,
+    }
+    for name, text in texts.items():
+        (folder / f"{name}.toml").write_text(text)
+    for name, bytes_of in data.items():
+        (folder / name).write_bytes(bytes_of)
+    (folder / "closed").chmod(0)
+    os.link(folder / "kept.pcap", folder / "hard.pcap")
+    (folder / "soft.pcap").symlink_to("kept.pcap")
+
+
+def ends_so(program: str, case: Case, folder: pathlib.Path, user: int | None = None) -> bool:
+    """Whether the program ends as the case says, and leaves the capture that is kept as it was."""
+    with open(folder / "kept.pcap", "rb") as given:
+        run = subprocess.run([program, *case.words], cwd=folder, stdin=given, capture_output=True, text=True, timeout=60, user=user)
+    kept = (folder / "kept.pcap").read_bytes() == ONE
+    passed = (run.returncode, run.stderr, kept) == (case.status, case.told, True)
+    if not passed:
+        print(f"dpv {' '.join(case.words)}: status {run.returncode}, told {run.stderr!r} and not {case.told!r}" + ("" if kept else "; the capture is gone"))
+    return passed
+
+
+def as_nobody(program: str, folder: pathlib.Path) -> list[bool]:
+    """Those that need a user who may not read everything."""
+    near = shutil.copy(program, folder / "dpv")
+    for place in (folder, folder.parent):
+        place.chmod(0o755)
+    user = NOBODY if os.geteuid() == 0 else None
+    return [ends_so(near, case, folder, user) for case in closed()]
+
+
+def main() -> int:
+    """All of it."""
+    program = str(pathlib.Path(sys.argv[1]).resolve() if len(sys.argv) > 1 else built())
+    with tempfile.TemporaryDirectory() as name:
+        folder = pathlib.Path(name) / "files"
+        folder.mkdir()
+        make_files(folder)
+        make_more(folder)
+        kinds = (files, captures, full_disks, pipelines, same_files, nothing_told)
+        passed = [ends_so(program, case, folder) for kind in kinds for case in kind()]
+        passed += as_nobody(program, folder)
+    print(f"told: {len(passed)} cases, {passed.count(False)} went another way")
+    return 0 if all(passed) else 1
+
+
+if __name__ == "__main__":
+    sys.exit(main())
