@@ -53,7 +53,8 @@ fn line_words(cause: Cause) -> &'static str {
         Cause::BadByte => "there is a byte that no program has",
         Cause::BadWord => "no instruction has this name",
         Cause::BadOperands => "there are too few or too many operands",
-        Cause::BadRegister => "an operand is no register: p0 to p7 for a packet, r0 to r7 for a number",
+        Cause::BadRegister =>
+            "an operand is no register: p0 to p7 for a packet, r0 to r7 for a number",
         Cause::BadNumber => "an operand is no number, or one out of its range",
         Cause::BadLabel => "a label is no name",
         Cause::LabelTwice => "the label was given before",
