@@ -12,8 +12,8 @@ Where nothing says which, all are tried.
   --most N     of what CRATE and --since ask for beyond the part no more than N, beginning with the part behind it; the others
                are left for another time, and counted
   --must-fail  those of must-fail/ as well, which `rt ci` tries each time
-  --gate       what the gate tries at this commit: --since the commit 7 changes back, --part N 7, where N is the number of
-               changes so far by 7, and --most 60; where there is no such history every crate counts as changed, and the day is N
+  --gate       what the gate tries at this commit: --since the commit 8 changes back, --part N 8, where N is the number of
+               changes so far by 8, and --most 40; where there is no such history every crate counts as changed, and the day is N
   --count      tries none: writes how many each crate has into the table of docs/notes/wrong_bodies.md
   --alone      each in a check of its own
   --jobs N     N checks side by side (by default as many as there are processors and memory)
@@ -44,7 +44,7 @@ import zlib
 
 TOP = pathlib.Path(__file__).resolve().parent.parent
 # Where the gate's turn comes round, and how many more edits than those of its turn it tries at most.
-PARTS, MOST = 7, 60
+PARTS, MOST = 8, 40
 # How many edits share a check when they are tried first, and where something else hid what was said of one, again.
 SHARING = (32, 4, 1)
 # A check's memory, in bytes.

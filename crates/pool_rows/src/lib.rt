@@ -1,7 +1,9 @@
-//! Regions, zones, rings and pools whose answers are known, worked out by hand. It is a crate of its own over `dp_region`,
-//! `dp_zone`, `dp_ring` and `dp_pool`, so that the tests cost those no time.
+//! Regions, heaps, zones, rings and pools whose answers are known, worked out by hand. It is a crate of its own over `dp_region`,
+//! `dp_heap`, `dp_zone`, `dp_ring` and `dp_pool`, so that the tests cost those no time.
 #![tactic(auto)]
 
+#[cfg(test)]
+mod heaps;
 #[cfg(test)]
 mod pools;
 #[cfg(test)]
