@@ -32,21 +32,6 @@ rest_take xs p w =
     let e : w ≡ p + w - p = omega arith in
     ap (take w) (take_all (length xs - p) (drop p xs) (omega (arith, length-drop p xs))) ∙ ap (λ n. take n (drop p xs)) e
 
--- the low bytes of a number stand last
-pub low_bytes : (width : Width) (n b : ℕ) (bytes : List ℕ) → b ≡ bytes_in width → bytes ≡ big_endian 8 n → take (8 - (8 - b)) (drop (8 - b) bytes) ≡ big_endian (bytes_in width) n
-low_bytes width n b bytes eb e =
-    ap (λ x. take (8 - (8 - x)) (drop (8 - x) bytes)) eb ∙ (ap (λ x. take (8 - (8 - bytes_in width)) (drop (8 - bytes_in width) x)) e ∙ by width)
-  where
-    by : (width : Width) → take (8 - (8 - bytes_in width)) (drop (8 - bytes_in width) (big_endian 8 n)) ≡ big_endian (bytes_in width) n
-    by One = refl
-    by Two = refl
-    by Four = refl
-    by Eight = refl
-
-pub length_spelled : (w n : ℕ) → length (big_endian w n) ≡ w
-length_spelled zero n = refl
-length_spelled (suc w) n = ap suc (length_spelled w n)
-
 module _ (ps : List PoolView) (v : Store) (h : ℕ) (e : shown ps ≡ v) (sound : Sound ps) where
   -- ---- the part of a buffer that the first header tells of
 

@@ -1,4 +1,5 @@
 pub mod PoolLemmas
+pub mod Spelled
 pub mod ObjectLemmas
 pub mod ObjectCalls
 pub mod HeaderFields

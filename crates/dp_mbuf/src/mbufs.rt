@@ -13,7 +13,7 @@ use crate::hands::{
     behind, clone_segment, fill_segment, fresh_header, hook, release, relink, unhook, unhook_all,
 };
 use crate::header::{Header, Place};
-use crate::numbers::{bytes_of_number, read_number};
+use crate::numbers::read_number;
 use crate::objects::Objects;
 use dp_model::{Packet, Width};
 use dp_pool::Pool;
@@ -284,9 +284,7 @@ impl Mbufs {
     {
         let head = first_header(&self.objects, packet);
         let at = head.offset as u32 + place as u32;
-        let bytes = bytes_of_number(n);
-        let from = 8 - width.bytes() as usize;
-        self.objects.write(head.buffer, at, &bytes[from..]);
+        self.objects.write_number(head.buffer, at, width, n);
     }
 
     /// Makes the first segment `n` bytes longer at its front; the new bytes are 0.

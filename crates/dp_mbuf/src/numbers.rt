@@ -1,7 +1,8 @@
 // Numbers as bytes, the highest first.
 
-ghost use Rattle.std.specs.Prelude.{◌≡◌, ◌≤◌, length, take};
+ghost use Rattle.std.specs.Prelude.{◌≡◌, ◌≤◌, ◌+◌, length, take};
 ghost use Rattle.dp_model.specs.Arithmetic.{bytes_in, spelled, big_endian};
+ghost use Rattle.dp_model.specs.Buffers.{overwritten};
 
 use byteorder::{BigEndian, ByteOrder};
 use dp_model::Width;
@@ -19,12 +20,29 @@ pub(crate) fn read_number(bytes: &[u8], width: Width) -> u64
     }
 }
 
-/// The eight bytes of a number.
-pub(crate) fn bytes_of_number(n: u64) -> [u8; 8]
+// The eight bytes of a number.
+#[inline(always)]
+fn bytes_of_number(n: u64) -> [u8; 8]
     ensures bytes { result ≡ big_endian 8 n }
     ensures many { length result ≡ 8 }
 {
     let mut bytes = [0; 8];
     BigEndian::write_u64(&mut bytes, n);
     bytes
+}
+
+/// Writes the low bytes of a number over bytes, the highest first. Each width has a copy of its own, of so many bytes, which is one
+/// store.
+#[inline(always)]
+pub(crate) fn write_number(bytes: &mut [u8], at: usize, width: Width, n: u64)
+    requires { at + bytes_in width ≤ length bytes.old }
+    ensures { bytes.new ≡ overwritten bytes.old at (big_endian (bytes_in width) n) }
+{
+    let all = bytes_of_number(n);
+    match width {
+        Width::One => bytes[at..at + 1].copy_from_slice(&all[7..]),
+        Width::Two => bytes[at..at + 2].copy_from_slice(&all[6..]),
+        Width::Four => bytes[at..at + 4].copy_from_slice(&all[4..]),
+        Width::Eight => bytes[at..at + 8].copy_from_slice(&all),
+    }
 }

@@ -2,6 +2,7 @@
 
 ghost use Rattle.std.specs.Prelude.{◌≡◌, ℕ, ◌<◌, ◌≤◌, ◌+◌, [], true, false, length, Some, None, slice_get, slice_index, replicate, MatchOption, IfSome, IsTrue, ◌↔◌};
 ghost use Rattle.std.specs.List.{list_all};
+ghost use Rattle.dp_model.specs.Arithmetic.{bytes_in, big_endian};
 ghost use Rattle.dp_model.specs.Buffers.{bytes_of};
 ghost use Rattle.dp_model.specs.Environments.{room_at};
 ghost use Rattle.dp_pool.specs.Pools.{PoolView, IsPool, object_in, with_object, with_written, put_back};
@@ -12,6 +13,8 @@ use crate::header::{
     Header, Place, bytes_of_header, bytes_of_refs, bytes_of_word, read_header, write_hook,
     write_words,
 };
+use crate::numbers::write_number;
+use dp_model::Width;
 use dp_pool::Pool;
 use std::marker::Model;
 
@@ -78,6 +81,17 @@ fn write_hook_in(slot: &mut Option<Pool>, index: u16, segs: u16, last: Place)
 {
     if let Some(pool) = slot {
         write_hook(pool.object_mut(index as u32), segs, last);
+    }
+}
+
+// Writes the low bytes of a number into an object of a place's pool, the highest first.
+#[inline(always)]
+fn write_number_in(slot: &mut Option<Pool>, index: u16, at: usize, width: Width, n: u64)
+    requires { SlotFits slot.old index (at + bytes_in width) }
+    ensures { SlotBecomes (λ p. with_written p index at (big_endian (bytes_in width) n)) slot.old slot.new }
+{
+    if let Some(pool) = slot {
+        write_number(pool.object_mut(index as u32), at, width, n);
     }
 }
 
@@ -329,6 +343,17 @@ impl Objects {
             128 + at,
             bytes,
         );
+    }
+
+    /// Writes the low bytes of a number behind a header from a place on, the highest first.
+    #[inline(always)]
+    pub fn write_number(&mut self, n: Place, at: u32, width: Width, number: u64)
+        requires object { HasObject self.old n }
+        requires fits { at + bytes_in width ≤ room_at (specs_of self.old) n.pool }
+        ensures { RoomWritten self.old n at (big_endian (bytes_in width) number) self.new }
+    {
+        let slot = &mut self.pools[n.pool() as usize];
+        write_number_in(slot, n.index(), 128 + at as usize, width, number);
     }
 
     /// Writes zeros behind a header from a place on.
