@@ -6,7 +6,7 @@ use Rattle.std.proofs.lemmas.Option.{same_Some}
 use Rattle.dp_model.specs.Packets.{Packet}
 use Rattle.dp_model.specs.Machine.{live, segments_listed, with_ring, with_outbox}
 use Rattle.dp_model.specs.Runs.{between, left_in_rings}
-use Rattle.dp_model.proofs.WholeRuns.{nothing_listed}
+use Rattle.dp_model.specs.Laws.Waiting.{nothing_listed}
 use Rattle.dp_engine.specs.declared.report.Tallies.{Tallies}
 use Rattle.dp_engine.specs.Handles.{Core, moved}
 use Rattle.dp_engine.specs.Schemes.{Scheme}

@@ -14,8 +14,8 @@ use Rattle.dp_model.specs.Environments.{Environment, fault_of}
 use Rattle.dp_model.specs.Prefixes.{Route}
 use Rattle.dp_model.specs.Rules.{Question}
 use Rattle.dp_model.specs.Laws.{Checked, AreChecked}
-use Rattle.dp_model.proofs.EnvLemmas.{ports_have_room}
-use Rattle.dp_model.proofs.PacketSteps.{each_at}
+use Rattle.dp_model.specs.Laws.Limits.{ports_have_room}
+use Rattle.dp_model.specs.Laws.Lists.{each_at}
 use Rattle.dp_lpm.specs.Routes.{RouteTable}
 use Rattle.dp_check.specs.Faults.{IsChecked}
 use Rattle.dp_engine.specs.Steps.{setting_of, routes_of}

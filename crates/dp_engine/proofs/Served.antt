@@ -15,12 +15,13 @@ use Rattle.dp_model.specs.Meaning.{RingHolds}
 use Rattle.dp_model.specs.Runs.{first_state, between, Took, Receives, Waiting, behind, first_waiting, Serves, Nodes}
 use Rattle.dp_model.specs.Laws.{Checked}
 use Rattle.dp_model.specs.Safety.{IsAtRest, BeginsWell, Beginning, IsPipeline}
-use Rattle.dp_model.proofs.Kept.{get_within, zip_back}
-use Rattle.dp_model.proofs.EnvLemmas.{segs_small}
-use Rattle.dp_model.proofs.Begin.{waits}
+use Rattle.dp_model.specs.Laws.Lists.{get_within, zip_back}
+use Rattle.dp_model.specs.Laws.Limits.{segs_small}
+use Rattle.dp_model.specs.Laws.Waiting.{waits}
 use Rattle.dp_model.proofs.NodeRuns.{goes_known, begins_known, accepted_is_sound}
 use Rattle.dp_model.proofs.Soundness.{acts_place}
-use Rattle.dp_model.proofs.SafeTurns.{record_begins, waiting_begins, waiting_safe, safe_rests}
+use Rattle.dp_model.proofs.SafeTurns.{record_begins, waiting_begins, waiting_safe}
+use Rattle.dp_model.specs.Laws.Runs.{safe_rests}
 use Rattle.dp_lpm.specs.Routes.{RouteTable}
 use Rattle.dp_engine.specs.declared.run.NodeRun as took
 use Rattle.dp_engine.specs.Handles.{Core, moved}

@@ -23,7 +23,6 @@ pub mod PacketSteps
 pub mod Refs
 pub mod RowLemmas
 pub mod RunEnds
-pub mod RunSteps
 pub mod SafeRuns
 pub mod SafeTurns
 pub mod SafeWhole

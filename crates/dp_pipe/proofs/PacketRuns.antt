@@ -11,8 +11,8 @@ use Rattle.dp_model.specs.Meaning.{TablesFit}
 use Rattle.dp_model.specs.Runs.{Nodes, Arrival, Outcome, Run}
 use Rattle.dp_model.specs.Safety.{IsPipeline}
 use Rattle.dp_model.specs.Starts.{IsStart}
-use Rattle.dp_model.proofs.SafeTurns.{safe_never_stuck}
-use Rattle.dp_model.proofs.SafeWhole.{start_rest, run_rest, run_runs_safe}
+use Rattle.dp_model.specs.Laws.Runs.{safe_never_stuck, start_rest}
+use Rattle.dp_model.proofs.SafeWhole.{run_rest, run_runs_safe}
 use Rattle.dp_copies.proofs.Corollaries.{accepted_runs_copy}
 use Rattle.dp_engine.specs.declared.report.Tallies.{Tallies}
 use Rattle.dp_engine.specs.Drains.{captured}

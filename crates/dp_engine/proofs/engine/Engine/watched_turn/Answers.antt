@@ -1,7 +1,8 @@
 use Rattle.std.proofs.Common.{◌+◌, ◌<◌, Bool, List, length, sym, ◌∙◌, ap, subst, arith}
 use Rattle.dp_model.specs.Runs.{Turn as IsTurn, NeverStuck}
 use Rattle.dp_model.specs.Safety.{Beginning, IsOfTurn}
-use Rattle.dp_model.proofs.SafeTurns.{turn_runs_safe, safe_never_stuck}
+use Rattle.dp_model.proofs.SafeTurns.{turn_runs_safe}
+use Rattle.dp_model.specs.Laws.Runs.{safe_never_stuck}
 use Rattle.dp_engine.specs.Outcomes.{outcome_of}
 use Rattle.dp_engine.specs.declared.report.Tallies.{Tallies}
 use Rattle.dp_engine.specs.Engines.{EngineState, IsEngine, records_of}
