@@ -104,9 +104,11 @@ distinct_none n (s ∷ rest) none =
 distinct_mbufs : (live : List Segment) → ((n : Number) → mbufs live n ≤ 1) → AreDistinct (map (λ s. s.mbuf) live)
 distinct_mbufs [] once = tt
 distinct_mbufs (s ∷ rest) once =
-    let one : one_if (same_number s.mbuf s.mbuf) ≡ 1 = ap one_if (same_number_refl s.mbuf) in
-    (distinct_none s.mbuf rest (omega (arith, one, once s.mbuf, tally-cons (has_mbuf s.mbuf) s rest)), distinct_mbufs rest
-        (λ n. omega (arith, once n, tally-cons (has_mbuf n) s rest)))
+    let one : one_if (same_number s.mbuf s.mbuf) ≡ 1 = ap one_if (same_number_refl s.mbuf) in (
+      distinct_none s.mbuf rest (omega (arith, one, once s.mbuf, tally-cons (has_mbuf s.mbuf) s rest)),
+      distinct_mbufs rest
+          (λ n. omega (arith, once n, tally-cons (has_mbuf n) s rest)),
+    )
 
 -- what has its own mbuf as a buffer is direct
 direct_of : (live : List Segment) → ((n : Number) → 1 ≤ refs live n → indirects live n ≡ 0) → (s t : Segment) → IsAmong s live → IsAmong t live
@@ -116,7 +118,7 @@ direct_of live direct s t there here e =
     same_is t.buffer t.mbuf (⊎_elim
     (λ yes. yes)
     (λ no. let hit : is_indirect_at t.mbuf t ≡ true = and_from (same_number t.mbuf t.mbuf) (not (same_number t.buffer t.mbuf)) (same_number_refl t.mbuf)
-        (ap not no) in
+    (ap not no) in
     absurd (omega (arith, none, here (is_indirect_at t.mbuf) hit)))
     (cases_Bool (same_number t.buffer t.mbuf)))
 
@@ -170,7 +172,7 @@ counts_of_owned pools live owned = record {
   once = λ n. once_of_distinct live n owned.once;
   direct = λ n one.
       let (s, hit, all) = tally_found (λ s. same_number s.buffer n)
-          (λ s. AllByRecursion (λ t. s.buffer ≡ t.mbuf → t.buffer ≡ t.mbuf) live) live owned.direct one in
+      (λ s. AllByRecursion (λ t. s.buffer ≡ t.mbuf → t.buffer ≡ t.mbuf) live) live owned.direct one in
       tally_none (is_indirect_at n) live (all_direct n s live hit all);
 }
 

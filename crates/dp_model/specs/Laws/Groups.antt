@@ -209,7 +209,7 @@ named_by facts g i e inside =
     let here = all_at (λ fact. option_map_or (is_group facts) (group_of fact) true) facts i f e at in
     let group : is_group facts g ≡ true = sym (ap (λ o. option_map_or (is_group facts) o true) (is_in_group g f is)) ∙ here in
     let (p, first, same) = map_or_true (λ p. p == g) (least facts g)
-        (and_parts (nat_le 2 (size facts g)) (option_map_or (λ p. p == g) (least facts g) false) group).1 in
+    (and_parts (nat_le 2 (size facts g)) (option_map_or (λ p. p == g) (least facts g) false) group).1 in
     subst (λ n. belongs facts g n ≡ true) (eqb-true p g same) (least_belongs facts g p first)
 
 -- no register belongs to a group where that of its own name does not
@@ -225,7 +225,7 @@ fact_at row p h e = go (slice_get row.facts p) refl
     go (Some Empty) at = let wrong : None ≡ Some h = sym (ap (λ o. option_and_then holding o) at) ∙ e in cc
     go (Some (Held a b x d y z)) at =
         let same : record { share = a; head = b; tail = x; first = d; last = y; segs = z } ≡ h = same_Some _ h
-            (sym (ap (λ o. option_and_then holding o) at) ∙ e) in
+        (sym (ap (λ o. option_and_then holding o) at) ∙ e) in
         at ∙ ap (λ j. Some (held j)) same
 
 -- a row in which the fact of a register that holds a packet is changed

@@ -15,10 +15,10 @@ use Rattle.dp_model.specs.Starts.{HaveRoom}
 pub numbers_known : (e : Environment) → numbers_fit e ≡ true → (length e.pools ≤ 8) × (length e.rings ≤ 8) × (length e.ports ≤ 8)
 numbers_known e h =
     let (h1, ports) = and_parts
-        (nat_le 1 (length e.pools) && nat_le (length e.pools) 8 && nat_le e.tables 4 && nat_le (length e.rings) 8 && nat_le 1 (length e.ports))
-        (nat_le (length e.ports) 8) h in
+    (nat_le 1 (length e.pools) && nat_le (length e.pools) 8 && nat_le e.tables 4 && nat_le (length e.rings) 8 && nat_le 1 (length e.ports))
+    (nat_le (length e.ports) 8) h in
     let (h2, port) = and_parts (nat_le 1 (length e.pools) && nat_le (length e.pools) 8 && nat_le e.tables 4 && nat_le (length e.rings) 8)
-        (nat_le 1 (length e.ports)) h1 in
+    (nat_le 1 (length e.ports)) h1 in
     let (h3, rings) = and_parts (nat_le 1 (length e.pools) && nat_le (length e.pools) 8 && nat_le e.tables 4) (nat_le (length e.rings) 8) h2 in
     let (h4, tables) = and_parts (nat_le 1 (length e.pools) && nat_le (length e.pools) 8) (nat_le e.tables 4) h3 in
     let (h5, pools) = and_parts (nat_le 1 (length e.pools)) (nat_le (length e.pools) 8) h4 in

@@ -55,9 +55,11 @@ lies_received pools segments pool (n ∷ []) len room le all =
     let same : room_at pools n.pool ≡ room_at pools pool = ap (room_at pools) all.0.of_pool in
     (record { fits = omega (arith, room, le, same); number = all.0.exists }, tt)
 lies_received pools segments pool (n ∷ m ∷ ns) len room le all =
-    let same : room_at pools n.pool ≡ room_at pools pool = ap (room_at pools) all.0.of_pool in
-    (record { fits = omega (arith, room, same); number = all.0.exists }, lies_received pools segments pool (m ∷ ns) (len - (room_at pools pool - 128)) room
-        (fewer (length ns) (room_at pools pool - 128) len le) all.1)
+    let same : room_at pools n.pool ≡ room_at pools pool = ap (room_at pools) all.0.of_pool in (
+      record { fits = omega (arith, room, same); number = all.0.exists },
+      lies_received pools segments pool (m ∷ ns) (len - (room_at pools pool - 128)) room
+          (fewer (length ns) (room_at pools pool - 128) len le) all.1,
+    )
   where
     fewer : (c r len : ℕ) → len ≤ suc (suc c) * r → len - r ≤ suc c * r
     fewer c r len h = omega (arith, h)

@@ -85,7 +85,7 @@ free_zero [] n h = refl
 free_zero (s ∷ rest) n h =
     let t = and_parts (not (same_number s.mbuf n || same_number s.buffer n)) (is_free rest n) h in
     let other : same_number s.buffer n ≡ false =
-        (or_parts (same_number s.mbuf n) (same_number s.buffer n) (not-true (same_number s.mbuf n || same_number s.buffer n) t.0)).1 in
+    (or_parts (same_number s.mbuf n) (same_number s.buffer n) (not-true (same_number s.mbuf n || same_number s.buffer n) t.0)).1 in
     let none : one_if (same_number s.buffer n) ≡ 0 = ap one_if other in
     omega (arith, none, refs-cons s rest n, free_zero rest n t.1)
 
@@ -93,5 +93,9 @@ free_zero (s ∷ rest) n h =
 pub live_parts : (s : State) (b : Number)
     → refs (live s) b ≡ refs (segments_held s.packets) b + (refs (segments_listed s.world.rings) b + refs (segments_listed s.world.outboxes) b)
 live_parts s b =
-    omega (arith, refs-append (segments_held s.packets) (segments_listed s.world.rings ++ segments_listed s.world.outboxes) b, refs-append
-        (segments_listed s.world.rings) (segments_listed s.world.outboxes) b)
+    omega (
+      arith,
+      refs-append (segments_held s.packets) (segments_listed s.world.rings ++ segments_listed s.world.outboxes) b,
+      refs-append
+          (segments_listed s.world.rings) (segments_listed s.world.outboxes) b,
+    )

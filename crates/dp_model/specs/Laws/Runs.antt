@@ -109,8 +109,12 @@ start_rest c w tables start = record { ready = start_ready c w tables start; own
         ∙ (ap (λ xs. xs ++ segments_listed (map (λ _. []) c.env.ports)) (nothing_mapped c.env.rings) ∙ nothing_mapped c.env.ports))
 
     no_packets : ArePackets (between w)
-    no_packets = record { held = tt; rings = subst (AllByRecursion (AllByRecursion IsPacket)) (sym start.rings) (no_lists c.env.rings); outboxes = subst
-        (AllByRecursion (AllByRecursion IsPacket)) (sym start.outboxes) (no_lists c.env.ports) }
+    no_packets = record {
+      held = tt;
+      rings = subst (AllByRecursion (AllByRecursion IsPacket)) (sym start.rings) (no_lists c.env.rings);
+      outboxes = subst
+          (AllByRecursion (AllByRecursion IsPacket)) (sym start.outboxes) (no_lists c.env.ports);
+    }
 
     nobody : AreOwned c.env.pools []
     nobody = record { mbufs = tt; once = tt; direct = tt }

@@ -28,7 +28,7 @@ bytes_other buffers n b bytes h = ⊎_elim
     (λ within.
     let e : get_or (set buffers n.pool (set (get_or buffers n.pool []) n.index bytes)) b.pool [] ≡ set (get_or buffers n.pool []) n.index bytes =
     ap (λ p. get_or (set buffers n.pool (set (get_or buffers n.pool []) n.index bytes)) p []) (sym same)
-        ∙ get_or-set_same buffers n.pool (set (get_or buffers n.pool []) n.index bytes) [] within in
+    ∙ get_or-set_same buffers n.pool (set (get_or buffers n.pool []) n.index bytes) [] within in
     let apart : n.index ≢ b.index = λ i. both_ways (same_number n b) h (and_from _ _ (eq-eqb n.pool b.pool same) (eq-eqb n.index b.index i)) in
     ap (λ xs. get_or xs b.index []) e ∙ inner (get_or buffers n.pool []) n.index b.index bytes apart ∙ ap (λ p. get_or (get_or buffers p []) b.index []) same)
     (λ past. ap (λ bs. bytes_of bs b) (set_past buffers n.pool (set (get_or buffers n.pool []) n.index bytes) past))
@@ -51,7 +51,7 @@ there_outside (x ∷ xs) (suc p) i h = omega (arith, there_outside xs p i h)
 pub bytes_same : (buffers : Buffers) (n : Number) (bytes : List ℕ) → 0 < length (bytes_of buffers n) → bytes_of (with_bytes buffers n bytes) n ≡ bytes
 bytes_same buffers n bytes some =
     ap (λ xs. get_or xs n.index [])
-        (get_or-set_same buffers n.pool (set (get_or buffers n.pool []) n.index bytes) [] (there_outside buffers n.pool n.index some))
+    (get_or-set_same buffers n.pool (set (get_or buffers n.pool []) n.index bytes) [] (there_outside buffers n.pool n.index some))
     ∙ get_or-set_same (get_or buffers n.pool []) n.index bytes [] (there_inside (get_or buffers n.pool []) n.index some)
 
 -- a buffer that is written has the new bytes, or there is none
@@ -60,9 +60,9 @@ pub bytes_either : (buffers : Buffers) (n : Number) (bytes : List ℕ)
 bytes_either buffers n bytes = ⊎_elim
     (λ there. ⊎_elim
     (λ within. inl (ap (λ xs. get_or xs n.index []) (get_or-set_same buffers n.pool (set (get_or buffers n.pool []) n.index bytes) [] there)
-        ∙ get_or-set_same (get_or buffers n.pool []) n.index bytes [] within))
+    ∙ get_or-set_same (get_or buffers n.pool []) n.index bytes [] within))
     (λ past. inr (ap (λ xs. get_or xs n.index []) (get_or-set_same buffers n.pool (set (get_or buffers n.pool []) n.index bytes) [] there)
-        ∙ ap (λ xs. get_or xs n.index []) (set_past (get_or buffers n.pool []) n.index bytes past)))
+    ∙ ap (λ xs. get_or xs n.index []) (set_past (get_or buffers n.pool []) n.index bytes past)))
     (cases_lt n.index (length (get_or buffers n.pool []))))
     (λ past. inr (ap (λ bs. bytes_of bs n) (set_past buffers n.pool (set (get_or buffers n.pool []) n.index bytes) past)))
     (cases_lt n.pool (length buffers))
@@ -81,5 +81,11 @@ written_each P buffers n b bytes old new = ⊎_elim
 -- bytes that are overwritten stay as many
 pub length_overwritten : (old new : List ℕ) (place : ℕ) → place + length new ≤ length old → length (overwritten old place new) ≡ length old
 length_overwritten old new place h =
-    omega (arith, length-append (take place old) (new ++ drop (place + length new) old), length-append new
-        (drop (place + length new) old), length-take place old, length-drop (place + length new) old)
+    omega (
+      arith,
+      length-append (take place old) (new ++ drop (place + length new) old),
+      length-append new
+          (drop (place + length new) old),
+      length-take place old,
+      length-drop (place + length new) old,
+    )

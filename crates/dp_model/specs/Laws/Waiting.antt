@@ -41,7 +41,7 @@ module _ (pools : List PoolSpec) where
   ring_kept live live' spec (k ∷ packets) keeps h = (
     describes_kept live live' (holding spec.fact) (Some k)
         (λ j ej b one. keeps b
-            (let e : refs k b ≡ refs j b = ap (λ x. refs x b) (same_Some k j ej) in omega (arith, e, refs-append k (flat_map (λ k. k) packets) b)))
+        (let e : refs k b ≡ refs j b = ap (λ x. refs x b) (same_Some k j ej) in omega (arith, e, refs-append k (flat_map (λ k. k) packets) b)))
         h.0,
     ring_kept live live' spec packets (λ b one. keeps b (omega (arith, refs-append k (flat_map (λ k. k) packets) b))) h.1,
   )
@@ -82,13 +82,17 @@ pub all_pop : (P : Segment → Type 0) (lists : List (List Packet)) (i : ℕ) (k
 all_pop P [] i k packets e all = cc
 all_pop P (l ∷ lists) zero k packets e all =
     let here : AllByRecursion P (k ++ flat_map (λ k. k) packets) = subst (λ ks. AllByRecursion P (flat_map (λ k. k) ks)) (same_Some l (k ∷ packets) e)
-        (all_left P (flat_map (λ k. k) l) (segments_listed lists) all) in
-    (all_left P k (flat_map (λ k. k) packets) here, all_join P (flat_map (λ k. k) packets) (segments_listed lists)
-        (all_right P k (flat_map (λ k. k) packets) here) (all_right P (flat_map (λ k. k) l) (segments_listed lists) all))
+    (all_left P (flat_map (λ k. k) l) (segments_listed lists) all) in (
+      all_left P k (flat_map (λ k. k) packets) here,
+      all_join P (flat_map (λ k. k) packets) (segments_listed lists)
+          (all_right P k (flat_map (λ k. k) packets) here) (all_right P (flat_map (λ k. k) l) (segments_listed lists) all),
+    )
 all_pop P (l ∷ lists) (suc i) k packets e all =
-    let rest = all_pop P lists i k packets e (all_right P (flat_map (λ k. k) l) (segments_listed lists) all) in
-    (rest.0, all_join P (flat_map (λ k. k) l) (segments_listed (slice_set lists i packets))
-        (all_left P (flat_map (λ k. k) l) (segments_listed lists) all) rest.1)
+    let rest = all_pop P lists i k packets e (all_right P (flat_map (λ k. k) l) (segments_listed lists) all) in (
+      rest.0,
+      all_join P (flat_map (λ k. k) l) (segments_listed (slice_set lists i packets))
+          (all_left P (flat_map (λ k. k) l) (segments_listed lists) all) rest.1,
+    )
 
 -- emptied lists have no segment
 pub nothing_listed : (lists : List (List Packet)) → segments_listed (map (λ _. []) lists) ≡ []
