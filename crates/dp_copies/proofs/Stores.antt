@@ -13,8 +13,7 @@ use Rattle.dp_model.specs.Laws.References.{refs-cons, refs_held, refs_two, live_
 use Rattle.dp_model.specs.Laws.Cases.{one_if}
 use Rattle.dp_model.specs.Laws.Lists.{all_left}
 use Rattle.dp_model.specs.Laws.Places.{all_held}
-use Rattle.dp_model.proofs.Bytes.{range_overwritten}
-use Rattle.dp_model.specs.Laws.Stored.{bytes_other, bytes_same}
+use Rattle.dp_model.specs.Laws.Stored.{bytes_other, bytes_same, range_overwritten}
 use Rattle.dp_copies.proofs.Unchanged.{Same, copy_same, listed_same}
 use Rattle.dp_copies.proofs.Lists.{map_one}
 use Rattle.dp_copies.proofs.Parts.{length-big_endian}

@@ -7,7 +7,8 @@ use Rattle.dp_model.specs.Machine.{Setting, World, State, live, segments_held, s
 use Rattle.dp_model.specs.Runs.{Then, Goes, first_state, between}
 use Rattle.dp_model.specs.Safety.{ArePackets, BeginsWell, IsSafeRun}
 use Rattle.dp_model.proofs.Soundness.{step_safe}
-use Rattle.dp_model.proofs.Budget.{step_within, step_place}
+use Rattle.dp_model.proofs.Budget.{step_place}
+use Rattle.dp_model.specs.Laws.StepsWithin.{step_within}
 use Rattle.dp_model.proofs.CountSteps.{IsCloser, step_closer, goes_short}
 use Rattle.dp_model.specs.Laws.Steps.{room_left}
 use Rattle.dp_model.proofs.NodeRuns.{Reached, goes_known, begins_known, accepted_is_sound}

@@ -106,8 +106,7 @@ distinct_mbufs [] once = tt
 distinct_mbufs (s ∷ rest) once =
     let one : one_if (same_number s.mbuf s.mbuf) ≡ 1 = ap one_if (same_number_refl s.mbuf) in (
       distinct_none s.mbuf rest (omega (arith, one, once s.mbuf, tally-cons (has_mbuf s.mbuf) s rest)),
-      distinct_mbufs rest
-          (λ n. omega (arith, once n, tally-cons (has_mbuf n) s rest)),
+      distinct_mbufs rest (λ n. omega (arith, once n, tally-cons (has_mbuf n) s rest)),
     )
 
 -- what has its own mbuf as a buffer is direct

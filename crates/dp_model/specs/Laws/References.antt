@@ -96,6 +96,5 @@ live_parts s b =
     omega (
       arith,
       refs-append (segments_held s.packets) (segments_listed s.world.rings ++ segments_listed s.world.outboxes) b,
-      refs-append
-          (segments_listed s.world.rings) (segments_listed s.world.outboxes) b,
+      refs-append (segments_listed s.world.rings) (segments_listed s.world.outboxes) b,
     )

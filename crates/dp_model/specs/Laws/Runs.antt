@@ -112,8 +112,7 @@ start_rest c w tables start = record { ready = start_ready c w tables start; own
     no_packets = record {
       held = tt;
       rings = subst (AllByRecursion (AllByRecursion IsPacket)) (sym start.rings) (no_lists c.env.rings);
-      outboxes = subst
-          (AllByRecursion (AllByRecursion IsPacket)) (sym start.outboxes) (no_lists c.env.ports);
+      outboxes = subst (AllByRecursion (AllByRecursion IsPacket)) (sym start.outboxes) (no_lists c.env.ports);
     }
 
     nobody : AreOwned c.env.pools []

@@ -1,5 +1,5 @@
 -- Each clause is a lemma.
-use Rattle.dp_model.proofs.Budget.{step_within}
+use Rattle.dp_model.specs.Laws.StepsWithin.{step_within}
 use Rattle.dp_model.proofs.OwnedSteps.{step_owned}
 use Rattle.dp_model.proofs.PacketSteps.{step_packets}
 use Rattle.dp_model.proofs.SafeWhole.{drained_rest}
