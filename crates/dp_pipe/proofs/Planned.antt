@@ -10,7 +10,7 @@ use Rattle.dp_model.specs.Rules.{Question}
 use Rattle.std.specs.List.{AllByRecursion}
 use Rattle.dp_lpm.specs.Routes.{RouteTable}
 use Rattle.dp_check.specs.Faults.{IsChecked}
-use Rattle.dp_engine.proofs.Pipelines.{plan_of}
+use Rattle.dp_engine.specs.Laws.{plan_of}
 use Rattle.dp_pipe.proofs.Heading.{order}
 use Rattle.dp_pipe.proofs.PacketRuns.{IsReady}
 use Rattle.dp_pipe.specs.declared.nodes.How.{How}
