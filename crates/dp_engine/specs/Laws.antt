@@ -1,8 +1,7 @@
 -- Laws of plans: what is known of an environment, and that checked programs are a pipeline.
 use Rattle.std.proofs.Common.{◌≡◌, ℕ, ◌+◌, ◌≤◌, Bool, true, false, not, cond, ◌&&◌, List, [], ◌∷◌, length, map, Option, Some, None, refl, sym, ◌∙◌, zero, suc, ap, arith, ◌<◌, take, drop, subst}
-use Rattle.std.specs.Prelude.{nat_le, option_map, position, sum_by, if◌then◌else◌, slice_get}
+use Rattle.std.specs.Prelude.{nat_le, position, sum_by, if◌then◌else◌, slice_get}
 use Rattle.std.specs.List.{position_from, AllByRecursion}
-use Rattle.std.specs.Option.{option_or}
 use Rattle.std.proofs.lemmas.Bool.{leb-true, and_parts}
 use Rattle.std.proofs.lemmas.Iterator.Adapters.{position_from-zero}
 use Rattle.std.specs.Int.{is_power_of_two}
@@ -88,10 +87,10 @@ pub known : (e : Environment) → fault_of e ≡ None → IsKnown e
 known e h =
     let whole = if_none (numbers_fit e) _ BadNumber h in
     let (h1, ports) = and_parts
-        (nat_le 1 (length e.pools) && nat_le (length e.pools) 8 && nat_le e.tables 4 && nat_le (length e.rings) 8 && nat_le 1 (length e.ports))
-        (nat_le (length e.ports) 8) whole.0 in
+    (nat_le 1 (length e.pools) && nat_le (length e.pools) 8 && nat_le e.tables 4 && nat_le (length e.rings) 8 && nat_le 1 (length e.ports))
+    (nat_le (length e.ports) 8) whole.0 in
     let (h2, port) = and_parts (nat_le 1 (length e.pools) && nat_le (length e.pools) 8 && nat_le e.tables 4 && nat_le (length e.rings) 8)
-        (nat_le 1 (length e.ports)) h1 in
+    (nat_le 1 (length e.ports)) h1 in
     let (h3, rings) = and_parts (nat_le 1 (length e.pools) && nat_le (length e.pools) 8 && nat_le e.tables 4) (nat_le (length e.rings) 8) h2 in
     let (h4, tables) = and_parts (nat_le 1 (length e.pools) && nat_le (length e.pools) 8) (nat_le e.tables 4) h3 in
     let (some, pools) = and_parts (nat_le 1 (length e.pools)) (nat_le (length e.pools) 8) h4 in
