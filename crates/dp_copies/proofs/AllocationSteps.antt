@@ -12,9 +12,9 @@ use Rattle.dp_model.specs.Copies.{copy_of, copied}
 use Rattle.dp_model.specs.declared.instr.Instr.TheVariants.{Alloc, Clone}
 use Rattle.dp_model.specs.Environments.{Environment}
 use Rattle.dp_model.specs.Prefixes.{Route}
-use Rattle.dp_model.proofs.Kept.{live_parts}
-use Rattle.dp_model.proofs.Within.{IsInside}
-use Rattle.dp_model.proofs.Sound.{matched}
+use Rattle.dp_model.specs.Laws.References.{live_parts}
+use Rattle.dp_model.specs.Laws.Places.{IsInside}
+use Rattle.dp_model.specs.Laws.Cases.{matched}
 use Rattle.dp_copies.proofs.Unchanged.{Same, held_same, listed_same}
 use Rattle.dp_copies.proofs.Lengths.{there}
 use Rattle.dp_copies.proofs.Taking.{alloc_copy, cloned_copy, fresh_same}

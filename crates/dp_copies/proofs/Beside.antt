@@ -5,8 +5,7 @@ use Rattle.dp_model.specs.declared.instr.Instr.{Instr}
 use Rattle.dp_model.specs.Buffers.{Number}
 use Rattle.dp_model.specs.Packets.{Packet, refs}
 use Rattle.dp_model.specs.Machine.{World, State, live, segments_listed, Holds}
-use Rattle.dp_model.proofs.Refs.{refs-append, refs_held, refs_two}
-use Rattle.dp_model.proofs.Kept.{live_parts}
+use Rattle.dp_model.specs.Laws.References.{refs-append, refs_held, refs_two, live_parts}
 use Rattle.dp_copies.specs.Seen.{written_register, IsListed, IsQueued, IsBeside}
 
 -- the references of a packet of a list

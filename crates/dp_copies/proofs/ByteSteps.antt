@@ -10,7 +10,7 @@ use Rattle.dp_model.specs.Copies.{copy_of, copied}
 use Rattle.dp_model.specs.declared.registers.Width.{Width}
 use Rattle.dp_model.specs.declared.registers.Width.TheVariants.{One, Two, Four, Eight}
 use Rattle.dp_model.specs.declared.instr.Instr.TheVariants.{Load, Store, LoadX, StoreX}
-use Rattle.dp_model.proofs.Within.{IsInside}
+use Rattle.dp_model.specs.Laws.Places.{IsInside}
 use Rattle.dp_copies.proofs.Lengths.{first_length, there}
 use Rattle.dp_copies.proofs.Stores.{store_copies}
 use Rattle.dp_copies.proofs.Moves.{Does, by, held_step}

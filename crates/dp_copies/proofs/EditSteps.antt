@@ -9,7 +9,7 @@ use Rattle.dp_model.specs.Machine.{State, Holds, with_buffers, At, with_packet, 
 use Rattle.dp_model.specs.CopyMachine.{Copy, with_held, copy_put, first_changed, copy_on, first_piece, last_piece, last_changed, with_front, without_front, with_back, without_back, provided, copy_edits}
 use Rattle.dp_model.specs.Copies.{piece_of, copy_of, copied}
 use Rattle.dp_model.specs.declared.instr.Instr.TheVariants.{Free, Prepend, Adj, Append, Trim, Chain}
-use Rattle.dp_model.proofs.Within.{IsInside}
+use Rattle.dp_model.specs.Laws.Places.{IsInside}
 use Rattle.dp_copies.proofs.Lengths.{first_before, first_length, last_behind, last_length, there}
 use Rattle.dp_copies.proofs.Writes.{apart}
 use Rattle.dp_copies.proofs.Shortening.{adj_copy, trim_copy}

@@ -11,10 +11,9 @@ use Rattle.dp_model.specs.Packets.{Segment, Packet, refs, IsHeadSole, IsTailSole
 use Rattle.dp_model.specs.Machine.{Setting, World, State, live, Move, Acts, Holds, branches, goes_on, moves_to, is_denied}
 use Rattle.dp_model.specs.Runs.{Receives, between}
 use Rattle.dp_model.specs.Copies.{copy_of}
-use Rattle.dp_model.proofs.Refs.{refs-cons, refs_first}
-use Rattle.dp_model.proofs.Kept.{live_parts}
-use Rattle.dp_model.proofs.Bytes.{bytes_other}
-use Rattle.dp_model.proofs.Sound.{matched}
+use Rattle.dp_model.specs.Laws.References.{refs-cons, refs_first, live_parts}
+use Rattle.dp_model.specs.Laws.Stored.{bytes_other}
+use Rattle.dp_model.specs.Laws.Cases.{matched}
 use Rattle.dp_copies.specs.Seen.{written_register, IsBeside, IsQueued}
 use Rattle.dp_copies.proofs.Unchanged.{Same, copy_same}
 use Rattle.dp_copies.proofs.Writes.{apart, counts}

@@ -5,8 +5,7 @@ use Rattle.std.proofs.lemmas.Bool.{cases_lt}
 use Rattle.std.proofs.lemmas.List.{places, same_lists}
 use Rattle.dp_model.specs.Arithmetic.{big_endian}
 use Rattle.dp_model.specs.Buffers.{Number, Buffers, bytes_of, overwritten, written}
-use Rattle.dp_model.proofs.Bytes.{bytes_same}
-use Rattle.dp_model.proofs.Within.{bytes_either}
+use Rattle.dp_model.specs.Laws.Stored.{bytes_same, bytes_either}
 
 -- zeros written before a part, and behind it
 pub range_before : (old new : List ℕ) (offset len n : ℕ) → length new ≡ n → n ≤ offset → offset + len ≤ length old → slice_range (overwritten old (offset - n) new) (offset - n) (offset - n + (len + n)) ≡ new ++ slice_range old offset (offset + len)

@@ -10,9 +10,9 @@ use Rattle.dp_model.specs.Copies.{copy_of}
 use Rattle.dp_model.specs.CopyMachine.{is_told, CopyState, CopyWaiting, copy_node_run, copy_first_waiting, copy_serves, copy_behind}
 use Rattle.dp_model.specs.declared.instr.Instr.{Instr}
 use Rattle.dp_model.specs.Runs.{first_state, NodeRun, between, Waiting, behind, first_waiting, Serves}
-use Rattle.dp_model.proofs.Kept.{all_left, all_right}
-use Rattle.dp_model.proofs.Within.{IsInside, all_join}
-use Rattle.dp_model.proofs.Begin.{waits, all_pop, all_first}
+use Rattle.dp_model.specs.Laws.Lists.{all_left, all_right, all_join}
+use Rattle.dp_model.specs.Laws.Places.{IsInside, all_first}
+use Rattle.dp_model.specs.Laws.Waiting.{waits, all_pop}
 use Rattle.dp_copies.proofs.Lengths.{there}
 use Rattle.dp_copies.proofs.Landings.{Shows, Lands, stays, node_lands}
 

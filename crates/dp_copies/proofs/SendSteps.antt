@@ -12,7 +12,7 @@ use Rattle.dp_model.specs.CopyMachine.{Copy, CopyMove, copy_put, copy_step, copy
 use Rattle.dp_model.specs.Copies.{copy_of, copied}
 use Rattle.dp_model.specs.declared.instr.Instr.{Instr}
 use Rattle.dp_model.specs.declared.instr.Instr.TheVariants.{Tx, Enq, Exit}
-use Rattle.dp_model.proofs.Within.{IsInside}
+use Rattle.dp_model.specs.Laws.Places.{IsInside}
 use Rattle.dp_copies.proofs.Moves.{Does, by, either, held_step, put_copies}
 
 -- a packet leaves for a list

@@ -11,7 +11,8 @@ use Rattle.dp_model.specs.Packets.{Segment, Packet, refs, segment_bytes, IsWithi
 use Rattle.dp_model.specs.Machine.{State, live}
 use Rattle.dp_model.specs.Copies.{piece_of, copy_of}
 use Rattle.dp_model.specs.CopyMachine.{copy_received, copy_allocated}
-use Rattle.dp_model.proofs.Fresh.{same_is, free_zero}
+use Rattle.dp_model.specs.Laws.Stored.{same_is}
+use Rattle.dp_model.specs.Laws.References.{free_zero}
 use Rattle.dp_copies.proofs.Unchanged.{Same}
 
 -- each number is of a pool with this room, and its buffer has that many bytes

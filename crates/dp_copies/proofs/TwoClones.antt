@@ -9,10 +9,8 @@ use Rattle.dp_model.specs.Machine.{World}
 use Rattle.dp_model.specs.Runs.{Receives, Got, Turn, Run}
 use Rattle.dp_model.specs.Starts.{IsStart}
 use Rattle.dp_model.specs.CopyMachine.{Captures}
-use Rattle.dp_model.proofs.Refs.{same_number_refl}
-use Rattle.dp_model.proofs.Fresh.{same_is}
-use Rattle.dp_model.proofs.Bytes.{bytes_other}
-use Rattle.dp_model.proofs.Within.{all_join, all_take, all_drop, written_each, length_overwritten}
+use Rattle.dp_model.specs.Laws.Stored.{same_number_refl, same_is, bytes_other, written_each, length_overwritten}
+use Rattle.dp_model.specs.Laws.Lists.{all_join, all_take, all_drop}
 use Rattle.dp_copies.specs.TwoClones.{one_port, setting, program, nodes, arrivals, before, told, captures}
 use Rattle.dp_copies.proofs.TwoClonesStates.{number, whole, filled, m11}
 use Rattle.dp_copies.proofs.TwoClonesSteps.{steps}

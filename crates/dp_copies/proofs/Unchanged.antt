@@ -7,7 +7,7 @@ use Rattle.dp_model.specs.Buffers.{Number, Buffers, bytes_of}
 use Rattle.dp_model.specs.Packets.{Segment, Packet, refs}
 use Rattle.dp_model.specs.Machine.{segments_held, segments_listed}
 use Rattle.dp_model.specs.Copies.{piece_of, copy_of}
-use Rattle.dp_model.proofs.Refs.{refs-append, refs-cons, refs_first}
+use Rattle.dp_model.specs.Laws.References.{refs-append, refs-cons, refs_first}
 
 module _ (pools : List PoolSpec) (old new : Buffers) where
   -- the buffers that these segments have are as they were

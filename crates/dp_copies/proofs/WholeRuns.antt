@@ -7,8 +7,7 @@ use Rattle.dp_model.specs.Copies.{copy_of}
 use Rattle.dp_model.specs.Machine.{Setting, World}
 use Rattle.dp_model.specs.Runs.{Outcome, Nodes, Arrival, Run, joined, between, records_at, with_empty_outboxes}
 use Rattle.dp_model.specs.Starts.{HaveRoom, IsStart}
-use Rattle.dp_model.proofs.Within.{IsInside}
-use Rattle.dp_model.proofs.RunSteps.{start_inside}
+use Rattle.dp_model.specs.Laws.Places.{IsInside, start_inside}
 use Rattle.dp_copies.proofs.Lists.{empty_lists, no_lists}
 use Rattle.dp_copies.proofs.Landings.{Shows, Lands, stays}
 use Rattle.dp_copies.proofs.Turns.{turn_lands}

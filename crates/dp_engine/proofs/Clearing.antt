@@ -5,7 +5,7 @@ use Rattle.dp_model.specs.Packets.{Packet}
 use Rattle.dp_model.specs.Machine.{with_outbox, with_ring}
 use Rattle.dp_model.specs.Runs.{Waiting, first_state, first_waiting}
 use Rattle.dp_model.specs.Stores.{Store}
-use Rattle.dp_model.proofs.Refs.{get_set_same}
+use Rattle.dp_model.specs.Laws.Lists.{get_set_same}
 use Rattle.dp_ring.specs.Rings.{RingView}
 use Rattle.dp_engine.specs.Queues.{ring_at}
 use Rattle.dp_engine.specs.Handles.{packet_at, entries_of, Lists, Frames, StandOnce, Core, Ran, core_of, ran, moved}

@@ -9,7 +9,9 @@ use Rattle.dp_model.specs.Environments.{count_at}
 use Rattle.dp_model.specs.Buffers.{Number, same_number}
 use Rattle.dp_model.specs.Packets.{Segment, Packet, refs, is_free, free_below, available, IsHeadSole, IsTailSole, IsFresh, AreFresh}
 use Rattle.dp_model.specs.Machine.{segments_held, segments_listed}
-use Rattle.dp_model.proofs.Refs.{get_set_other, get_set_same, one_if, refs-cons}
+use Rattle.dp_model.specs.Laws.Lists.{get_set_other, get_set_same}
+use Rattle.dp_model.specs.Laws.Cases.{one_if}
+use Rattle.dp_model.specs.Laws.References.{refs-cons}
 use Rattle.dp_engine.specs.Handles.{held_of, packet_at, register_at, handles_held, once, occurs, in_slot, joined, waiting, packets_in, Lists, StandOnce}
 use Rattle.dp_engine.proofs.Handles.{is_one, in_slot_some, in_slot_few, occurs-append}
 

@@ -4,7 +4,7 @@ use Rattle.std.specs.Prelude.{slice_get, slice_set, ◌==◌}
 use Rattle.std.proofs.lemmas.Bool.{eq-eqb, eqb-true}
 use Rattle.dp_model.specs.Packets.{Packet}
 use Rattle.dp_model.specs.Machine.{with_outbox, with_ring}
-use Rattle.dp_model.proofs.Refs.{get_set_other, get_set_same}
+use Rattle.dp_model.specs.Laws.Lists.{get_set_other, get_set_same}
 use Rattle.dp_model.specs.Stores.{Store, with_slot}
 use Rattle.dp_engine.specs.Handles.{packet_at, handles_held, once, occurs, in_slot, waiting, Lists, Frames, StandOnce, Core, core_of, moved, Ran}
 use Rattle.dp_engine.proofs.Handles.{is_one, in_slot_some, not_held, not_in, occurs_less, waits, map_set}

@@ -6,7 +6,7 @@ use Rattle.std.proofs.lemmas.Option.{same_Some}
 use Rattle.dp_model.specs.Packets.{Packet}
 use Rattle.dp_model.specs.Machine.{live, segments_listed, with_ring, with_outbox}
 use Rattle.dp_model.specs.Runs.{between, left_in_rings}
-use Rattle.dp_model.proofs.WholeRuns.{nothing_listed}
+use Rattle.dp_model.specs.Laws.Waiting.{nothing_listed}
 use Rattle.dp_engine.specs.declared.report.Tallies.{Tallies}
 use Rattle.dp_engine.specs.Handles.{Core, moved}
 use Rattle.dp_engine.specs.Schemes.{Scheme}
@@ -15,7 +15,7 @@ use Rattle.dp_engine.specs.Tallies.{listed_count}
 use Rattle.dp_engine.specs.Engines.{EngineState, engine_of, IsEngine, over_ports, sent_by, records_of, sum, tallies_at, sent_at, drained, left_at, with_left, flushed}
 use Rattle.dp_engine.proofs.Writing.{at_place}
 use Rattle.dp_engine.proofs.Resting.{length_set, left_rests, sent_rests}
-use Rattle.dp_engine.proofs.Envs.{known}
+use Rattle.dp_engine.specs.Laws.{known}
 
 -- ---- sums
 

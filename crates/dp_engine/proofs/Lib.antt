@@ -1,6 +1,5 @@
 pub mod Counts
 pub mod Draining
-pub mod Envs
 pub mod Filled
 pub mod Firsts
 pub mod Handles

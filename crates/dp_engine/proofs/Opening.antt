@@ -15,7 +15,7 @@ use Rattle.dp_model.specs.Rules.{Question}
 use Rattle.dp_model.specs.Meaning.{TablesFit}
 use Rattle.dp_model.specs.Stores.{IsWellFormedStore}
 use Rattle.dp_model.specs.Starts.{IsStart}
-use Rattle.dp_model.proofs.SafeWhole.{start_rest}
+use Rattle.dp_model.specs.Laws.Runs.{start_rest}
 use Rattle.dp_lpm.specs.Routes.{RouteTable}
 use Rattle.dp_mbuf.specs.Mbufs.{MbufsView, IsNew}
 use Rattle.dp_engine.specs.declared.space.Parts.{Parts}

@@ -12,7 +12,7 @@ use Rattle.dp_engine.specs.declared.space.Parts.{Parts}
 use Rattle.dp_engine.specs.Layouts.{IsLaidOut, PartsIn}
 use Rattle.dp_engine.specs.Needs.{zone_bytes, objects_len, queue_len, pool_bytes, ring_bytes, total, ring_counts, list_counts, bytes_needed}
 use Rattle.dp_engine.specs.Spaces.{SpaceView, AreFilled, IsNewRing, IsNewPool}
-use Rattle.dp_engine.proofs.Envs.{known}
+use Rattle.dp_engine.specs.Laws.{known}
 use Rattle.dp_engine.proofs.Filled.{total_last, all_at, all_take, filled_count, rings_stand, pools_stand, pool_filled}
 use Rattle.dp_engine.proofs.Ready.{ready, specs_are}
 use Rattle.dp_engine.proofs.Refusals.{within, long}

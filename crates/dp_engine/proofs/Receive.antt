@@ -7,7 +7,7 @@ use Rattle.dp_model.specs.Buffers.{Buffers}
 use Rattle.dp_model.specs.Packets.{Packet, available, needed, received}
 use Rattle.dp_model.specs.Machine.{Setting, State, live, is_denied}
 use Rattle.dp_model.specs.Runs.{first_state, between}
-use Rattle.dp_model.proofs.Refs.{get_set_same}
+use Rattle.dp_model.specs.Laws.Lists.{get_set_same}
 use Rattle.dp_model.specs.Stores.{Store, segments_of, ReceivesInto}
 use Rattle.dp_engine.specs.Handles.{held_of, packet_at, handles_held, occurs, in_slot, waiting, Lists, Frames, StandOnce, Core, core_of, Ran, ran}
 use Rattle.dp_engine.specs.Turns.{IsReceived}

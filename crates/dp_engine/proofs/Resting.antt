@@ -11,12 +11,10 @@ use Rattle.dp_model.specs.Meaning.{RingHolds}
 use Rattle.dp_model.specs.Runs.{between}
 use Rattle.dp_model.specs.Laws.{Ready}
 use Rattle.dp_model.specs.Safety.{IsPacket, IsAtRest}
-use Rattle.dp_model.proofs.Refs.{refs-append}
-use Rattle.dp_model.proofs.Counts.{tally, tally-append}
-use Rattle.dp_model.proofs.Kept.{all_left, all_right, rings_kept}
-use Rattle.dp_model.proofs.Within.{all_join}
-use Rattle.dp_model.proofs.Owned.{fewer_owned}
-use Rattle.dp_model.proofs.OwnedSteps.{fewer_by}
+use Rattle.dp_model.specs.Laws.References.{refs-append}
+use Rattle.dp_model.specs.Laws.Counts.{tally, tally-append, fewer_owned, fewer_by}
+use Rattle.dp_model.specs.Laws.Lists.{all_left, all_right, all_join}
+use Rattle.dp_model.specs.Laws.Waiting.{rings_kept}
 use Rattle.dp_engine.specs.Handles.{Core, moved}
 use Rattle.dp_engine.specs.Schemes.{Scheme}
 use Rattle.dp_engine.specs.Serving.{Rests}

@@ -1,26 +1,22 @@
 -- Node runs of a plan: on a record, and on packets that wait in rings.
-use Rattle.std.proofs.Common.{◌≡◌, ℕ, zero, suc, ◌+◌, ◌-◌, ◌*◌, ◌<◌, ◌≤◌, Bool, true, false, List, [], ◌∷◌, ◌++◌, length, Option, Some, None}
+use Rattle.std.proofs.Common.{◌≡◌, ℕ, zero, suc, ◌+◌, ◌-◌, ◌*◌, ◌<◌, ◌≤◌, Bool, true, false, List, [], ◌∷◌, ◌++◌, length, Option, Some, None, inl}
 use Rattle.std.proofs.Common.{refl, sym, ◌∙◌, ap, subst, arith, append_assoc}
 use Rattle.std.specs.Prelude.{slice_get, slice_index_or, option_map, MatchOption}
 use Rattle.std.specs.List.{AllByRecursion}
 use Rattle.std.proofs.lemmas.Option.{same_Some, slice_get_within, slice_get-get_or}
-use Rattle.dp_model.specs.declared.env.Entry.{Entry}
 use Rattle.dp_model.specs.declared.env.Entry.TheVariants.{Port, Ring}
 use Rattle.dp_model.specs.declared.env.PortSpec.{PortSpec}
 use Rattle.dp_model.specs.declared.instr.Instr.{Instr}
 use Rattle.dp_model.specs.Environments.{Environment, room_at}
 use Rattle.dp_model.specs.Packets.{Packet, needed, received, Filled, AreFresh}
-use Rattle.dp_model.specs.Machine.{Setting, World, State, live, At, is_denied}
+use Rattle.dp_model.specs.Machine.{Setting, World, State, live, is_denied}
 use Rattle.dp_model.specs.Meaning.{RingHolds}
 use Rattle.dp_model.specs.Runs.{first_state, between, Took, Receives, Waiting, behind, first_waiting, Serves, Nodes}
-use Rattle.dp_model.specs.Laws.{Checked}
-use Rattle.dp_model.specs.Safety.{IsAtRest, BeginsWell, Beginning, IsPipeline}
-use Rattle.dp_model.proofs.Kept.{get_within, zip_back}
-use Rattle.dp_model.proofs.EnvLemmas.{segs_small}
-use Rattle.dp_model.proofs.Begin.{waits}
-use Rattle.dp_model.proofs.NodeRuns.{goes_known, begins_known, accepted_is_sound}
-use Rattle.dp_model.proofs.Soundness.{acts_place}
-use Rattle.dp_model.proofs.SafeTurns.{record_begins, waiting_begins, waiting_safe, safe_rests}
+use Rattle.dp_model.specs.Safety.{IsAtRest, Beginning, IsOfRecord, IsSafeBeginning, IsPipeline, KeepsSafe}
+use Rattle.dp_model.specs.Laws.Lists.{get_within, zip_back}
+use Rattle.dp_model.specs.Laws.Limits.{segs_small}
+use Rattle.dp_model.specs.Laws.Waiting.{waits}
+use Rattle.dp_model.specs.Laws.Runs.{safe_never_stuck, safe_rests}
 use Rattle.dp_lpm.specs.Routes.{RouteTable}
 use Rattle.dp_engine.specs.declared.run.NodeRun as took
 use Rattle.dp_engine.specs.Handles.{Core, moved}
@@ -38,22 +34,10 @@ setting_is c env tables pattern is_env is_tables is_pattern = rw (is_env, is_tab
 
 -- ---- a node run
 
--- on a packet that the entry's row describes
-can_run : (c : Setting) (entry : Entry) (program : List Instr) (k : Packet) (number : ℕ) (w : World) (node : Checked c.env entry program)
-    → BeginsWell c node.question k number w → CanRun c program (first_state k number w)
-can_run c entry program k number w node well =
-    let q = node.question in
-    let env = sym node.env_is in
-    let start = begins_known c q k number w node.accepted well.begins in
-    let sound = accepted_is_sound c q k number w node.accepted well.begins in
-    subst (λ p. CanRun c p (first_state k number w)) node.program_is (record {
-      first = refl;
-      eight = refl;
-      never_stuck = sound.never_stuck;
-      leads = λ n label told s' i m goes here acts.
-          let (at, within, place) = goes_known c q env node.accepted n 0 (first_state k number w) told (At label) s' start goes in
-          acts_place c q label at.0 s' env node.accepted at.1 at.2 within i m here acts;
-    })
+-- a safe one
+can_run : (c : Setting) (nodes : Nodes) (b : Beginning) → KeepsSafe c nodes → IsSafeBeginning c b
+    → CanRun c b.program (first_state b.packet b.number b.world)
+can_run c nodes b keeps safe = record { first = refl; eight = refl; never_stuck = safe_never_stuck c b safe; leads = keeps.leads b safe }
 
 -- ---- a record
 
@@ -96,25 +80,35 @@ received_with c d pool port bytes w s same r = record {
 -- the node run of a received record
 pub record Received (c : Setting) (program : List Instr) (port : ℕ) (spec : PortSpec) (bytes : List ℕ) (w : World) (s : State) : Type 0 where
   pub can_run : CanRun c program s
-  pub receives : is_denied c (between w) spec.pool (needed c.env.pools spec.pool (length bytes)) ≡ false → (s' : State) → Runs c program s s'
-      → (told : List Bool) × Receives c program port spec bytes w told s'.world
+  pub receives : (s' : State) → Runs c program s s' → (told : List Bool) × Receives c program port spec bytes w told s'.world
 
 pub received_is : (c : Setting) (nodes : Nodes) (program : List Instr) (port : ℕ) (spec : PortSpec) (bytes : List ℕ) (w : World) (s : State)
-    → IsPipeline c nodes → slice_get c.env.ports port ≡ Some spec → slice_get nodes.ports port ≡ Some program → IsAtRest c w
-    → needed c.env.pools spec.pool (length bytes) ≤ spec.segs → IsReceived c spec.pool port bytes w s → Received c program port spec bytes w s
-received_is c nodes program port spec bytes w s pipeline is_spec is_program rest fits r =
-    let node = pipeline.checked.ports port program is_program in
-    let w1 : World = record w { buffers = r.buffers; calls = w.calls + 1 } in
+    → KeepsSafe c nodes → slice_get c.env.ports port ≡ Some spec → slice_get nodes.ports port ≡ Some program → IsAtRest c w
+    → needed c.env.pools spec.pool (length bytes) ≤ spec.segs → is_denied c (between w) spec.pool (needed c.env.pools spec.pool (length bytes)) ≡ false
+    → IsReceived c spec.pool port bytes w s → Received c program port spec bytes w s
+received_is c nodes program port spec bytes w s keeps is_spec is_program rest fits given r =
     let k : Packet = received (room_at c.env.pools spec.pool) r.numbers (length bytes) in
-    let well = record_begins c node.question port spec bytes w r.numbers r.buffers (sym node.env_is) node.entry_is is_spec
-    (pipeline.checked.rooms port spec is_spec) pipeline.limits rest fits r.fresh r.filled in
+    let b : Beginning = record { entry = Port port; program = program; packet = k; number = port; world = record w { buffers = r.buffers; calls = w.calls + 1 } } in
+    let of_record : IsOfRecord c nodes port bytes w b = record {
+      spec = spec;
+      spec_is = is_spec;
+      program = program;
+      program_is = is_program;
+      fits = fits;
+      given = given;
+      numbers = r.numbers;
+      buffers = r.buffers;
+      fresh = r.fresh;
+      filled = r.filled;
+      is = refl;
+    } in
     subst (Received c program port spec bytes w) (sym r.state) (record {
-      can_run = can_run c (Port port) program k port w1 node well;
-      receives = λ allowed s' (n, told, goes). (
+      can_run = can_run c nodes b keeps (keeps.turn_runs port bytes w b rest (inl of_record));
+      receives = λ s' (n, told, goes). (
         true ∷ told,
         record {
           fits = fits;
-          given = allowed;
+          given = given;
           numbers = r.numbers;
           buffers = r.buffers;
           fresh = r.fresh;
@@ -163,14 +157,14 @@ next_is c nodes m m' ring rest = go (first_waiting m.state.world.rings) refl
         record { next = next; waits = e; ring_is = ring_is; taken = is; there = omega (arith, ring_is, within next e) }
 
 -- its node can run on it
-pub next_runs : (c : Setting) (nodes : Nodes) (program : List Instr) (m m' : Core) (ring : ℕ) → IsPipeline c nodes → slice_get nodes.rings ring ≡ Some program
+pub next_runs : (c : Setting) (nodes : Nodes) (program : List Instr) (m m' : Core) (ring : ℕ) → KeepsSafe c nodes → slice_get nodes.rings ring ≡ Some program
     → IsAtRest c m.state.world → Next c nodes m m' ring → CanRun c program m'.state
-next_runs c nodes program m m' ring pipeline is_program rest n =
+next_runs c nodes program m m' ring keeps is_program rest n =
     let here : slice_get nodes.rings n.next.ring ≡ Some program = ap (slice_get nodes.rings) n.ring_is ∙ is_program in
-    let node = pipeline.checked.rings n.next.ring program here in
+    let w : World = record m.state.world { rings = n.next.rings } in
+    let b : Beginning = record { entry = Ring n.next.ring; program = program; packet = n.next.packet; number = n.next.ring; world = w } in
     subst (λ (x : Core). CanRun c program x.state) (sym n.taken)
-    (can_run c (Ring n.next.ring) program n.next.packet n.next.ring (record m.state.world { rings = n.next.rings }) node
-    (waiting_begins c node.question n.next m.state.world (pipeline.checked.facts n.next.ring) (sym node.env_is) node.entry_is n.waits rest))
+    (can_run c nodes b keeps (keeps.waiting n.next program m.state.world rest n.waits here))
 
 -- and that is a node run
 pub next_serves : (s : Scheme) (program : List Instr) (m m' m2 : Core) (ring : ℕ) (run : took.NodeRun) → slice_get s.nodes.rings ring ≡ Some program
@@ -189,12 +183,12 @@ next_serves s program m m' m2 ring run is_program n runs took =
     )
 
 -- after it the next can follow
-pub served_rests : (s : Scheme) (m m' : Core) (run : took.NodeRun) → IsPipeline s.setting s.nodes → IsAtRest s.setting m.state.world
+pub served_rests : (s : Scheme) (m m' : Core) (run : took.NodeRun) → KeepsSafe s.setting s.nodes → IsAtRest s.setting m.state.world
     → ServesOne s m.state.world (Some run) m'.state.world → IsAtRest s.setting m'.state.world
-served_rests s m m' run pipeline rest (next, program, told, e, is_program, is_run, _) =
+served_rests s m m' run keeps rest (next, program, told, e, is_program, is_run, _) =
     let w : World = record m.state.world { rings = next.rings } in
     let b : Beginning = record { entry = Ring next.ring; program = program; packet = next.packet; number = next.ring; world = w } in
-    safe_rests s.setting b told m'.state.world (waiting_safe s.setting s.nodes next program m.state.world pipeline rest e is_program) is_run
+    safe_rests s.setting b told m'.state.world (keeps.waiting next program m.state.world rest e is_program) is_run
 
 -- no packet comes or goes as it is taken
 listed_waiting : (rings : List (List Packet)) (next : Waiting) → first_waiting rings ≡ Some next → listed_count next.rings + 1 ≡ listed_count rings

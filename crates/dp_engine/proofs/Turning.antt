@@ -5,7 +5,7 @@ use Rattle.dp_model.specs.Machine.{World}
 use Rattle.dp_model.specs.Runs as runs
 use Rattle.dp_model.specs.Runs.{Serves, Turn}
 use Rattle.dp_model.specs.Safety.{IsPipeline}
-use Rattle.dp_model.proofs.EnvLemmas.{numbers_known, numbers_pass}
+use Rattle.dp_model.specs.Laws.Limits.{numbers_known, numbers_pass}
 use Rattle.dp_engine.specs.declared.report.Tallies.{Tallies}
 use Rattle.dp_engine.specs.Handles.{Core}
 use Rattle.dp_engine.specs.Schemes.{Scheme}

@@ -24,7 +24,8 @@ use Rattle.dp_engine.specs.Queues.{ring_at}
 use Rattle.dp_engine.specs.Handles.{held_of, packet_at, in_slot, occurs, joined, packets_in, StandOnce, Core, core_of, Ran, frames_of, lists_of, without_entries, entries_of}
 use Rattle.dp_engine.proofs.Rings.{entries_at, frames_length}
 use Rattle.dp_engine.specs.Drains.{record_of, captured, WrotePart, Written}
-use Rattle.dp_engine.proofs.Handles.{map_get, get_map, in_slot_some, is_one, occurs-append, waits}
+use Rattle.dp_engine.proofs.Handles.{map_get, in_slot_some, is_one, occurs-append, waits}
+use Rattle.dp_engine.specs.Laws.{get_map}
 
 -- ---- lists, element by element
 

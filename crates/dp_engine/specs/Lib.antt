@@ -1,6 +1,7 @@
 pub mod Drains
 pub mod Engines
 pub mod Handles
+pub mod Laws
 pub mod Layouts
 pub mod Names
 pub mod Needs

@@ -100,7 +100,7 @@ pub(crate) fn list_counts(ports: &[PortSpec]) -> ArrayVec<u32, 8>
 /// How many bytes an engine of this environment needs: for each pool a zone of its objects and one of its queue, and for
 /// each ring and each port's transmit list one of 4 bytes a place. A zone takes 64 bytes beside its length, which is
 /// rounded up to 64.
-#[tactic(auto, using(crate::proofs::Envs::known))]
+#[tactic(auto, using(crate::specs::Laws::known))]
 pub fn need(env: &Env) -> u64
     ensures { result ≡ bytes_needed env.now }
 {

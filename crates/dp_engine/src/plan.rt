@@ -6,14 +6,14 @@ ghost use Rattle.dp_model.specs.Prefixes.{Route};
 ghost use Rattle.dp_lpm.specs.Routes.{RouteTable};
 ghost use Rattle.dp_check.specs.Faults.{IsChecked};
 ghost use Rattle.dp_lang.specs.Programs.{IsProgram};
-ghost use Rattle.dp_model.specs.Safety.{IsPipeline};
+ghost use Rattle.dp_model.specs.Safety.{IsPipeline, KeepsSafe};
 ghost use Rattle.dp_model.specs.Meaning.{TablesFit};
 ghost use Rattle.dp_engine.specs.Steps.{setting_of, routes_of};
 ghost use Rattle.dp_engine.specs.Schemes.{scheme_of, AreNodes};
 
 use dp_check::Checked;
 use dp_lpm::Lpm;
-use dp_model::{Env, Instr};
+use dp_model::{Env, Instr, pipelines_keep_safe};
 use std::marker::Model;
 
 /// What node runs rest on.
@@ -84,8 +84,10 @@ impl Plan {
     pub(crate) fn env(&self) -> &Env
         ensures same { result.now ≡ self.now.setting.env }
         ensures pipeline { IsPipeline self.now.setting self.now.nodes }
+        ensures safe { KeepsSafe self.now.setting self.now.nodes }
         ensures tables { TablesFit self.now.setting }
     {
+        pipelines_keep_safe();
         &self.env
     }
 

@@ -11,16 +11,14 @@ use Rattle.dp_model.specs.declared.row.Row.{Row}
 use Rattle.dp_model.specs.Groups.{are_groups, belongs, size, least, share_left, is_in, share_of_group, reshared_fact, reshared}
 use Rattle.std.specs.List.{AllZip}
 use Rattle.std.proofs.lemmas.Option.{same_Some}
-use Rattle.dp_model.proofs.SoundGroups.{group_at_is, group_at_belongs, group_at_none, dissolved_out, dissolved_stays, groups_of_row, least_belongs, unnamed}
+use Rattle.dp_model.specs.Laws.Groups.{group_at_is, group_at_belongs, group_at_none, dissolved_out, dissolved_stays, groups_of_row, least_belongs, unnamed, fact_at, changed_is, belongs_at, belongs_there, belongs_set, belongs_other, belongs_in, belongs_out, in_one, size_same, other_group, sole_no_group, loose_no_group, left_name}
 use Rattle.dp_infer.proofs.Stronger.{StrongerFact, AtMost, zip_length}
 use Rattle.std.proofs.Common.{◌+◌, length, min}
 use Rattle.dp_model.specs.Rows.{is_empty, shared, twin, twin_share, joins, Holding, holding, held, held_at, with_fact, emptied, changed, owns_head, chained_share, entails_share, after_chain, group_at, with_shares, renamed, dissolved, after_free, after_leave, after_chained, after_clone, if_single, is_fact_of_row, is_well_formed_row}
 use Rattle.dp_model.specs.Rules.{is_empty_at}
-use Rattle.dp_model.proofs.Sound.{fact_at, changed_is}
-use Rattle.dp_model.proofs.Refs.{get_set_other}
+use Rattle.dp_model.specs.Laws.Lists.{get_set_other}
 use Rattle.std.proofs.Common.{inl, inr, ◌⊎◌}
-use Rattle.dp_model.proofs.Sharing.{belongs_at, belongs_there, belongs_set, belongs_other, belongs_in, belongs_out, in_one, size_same, other_group, sole_no_group, loose_no_group, by_cases}
-use Rattle.dp_model.proofs.Sound.{left_name}
+use Rattle.dp_model.specs.Laws.Cases.{by_cases}
 use Rattle.std.specs.List.{position_from}
 use Rattle.std.proofs.lemmas.Iterator.Adapters.{position_from-zero}
 use Rattle.std.specs.Prelude.{◌≢◌}

@@ -13,12 +13,11 @@ use Rattle.std.specs.Prelude.{◌==◌}
 use Rattle.std.specs.List.{AllByRecursion}
 use Rattle.std.specs.Option.{option_map_or}
 use Rattle.std.proofs.lemmas.Bool.{eq-eqb, ne_eqb, eqb-true, cases_eq}
-use Rattle.dp_model.proofs.RowLemmas.{all_at}
-use Rattle.dp_model.proofs.Entails.{same_at}
+use Rattle.dp_model.specs.Laws.Lists.{all_at}
+use Rattle.dp_model.specs.Laws.Groups.{same_at, belongs_at, group_is, belongs_there, size_same, is_in_group, groups_of_row}
 use Rattle.std.proofs.lemmas.Bool.{leb-false}
 use Rattle.std.specs.Prelude.{slice_get, Option, Some, None}
-use Rattle.dp_model.proofs.Sharing.{by_cases, belongs_at, group_is, belongs_there, size_same, is_in_group}
-use Rattle.dp_model.proofs.SoundGroups.{groups_of_row}
+use Rattle.dp_model.specs.Laws.Cases.{by_cases}
 use Rattle.dp_infer.proofs.Sharing.{KeepsGroups, share_same, share_zero, share_is, share_cases, same_from, all_from_each, one_of, and_comm}
 use Rattle.dp_infer.specs.Joins.{is_share, joined_share, joined_fact, common_fact, joined_facts, paired, joined, met}
 use Rattle.dp_infer.proofs.Stronger.{StrongerFact, AtMost, Stronger, both_are, zip_length}

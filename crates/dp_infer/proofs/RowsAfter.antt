@@ -14,7 +14,7 @@ use Rattle.dp_infer.proofs.Registers.{bound_at, bound_set, fact_set}
 use Rattle.dp_infer.proofs.Numbers.{all_ones_more, shifted_more, times_more}
 use Rattle.dp_infer.proofs.Changes.{AreWellFormed, changed_keeps, single_more, clone_keeps, free_keeps, leave_keeps', chain_keeps}
 use Rattle.dp_infer.proofs.Sharing.{keeps_out}
-use Rattle.dp_model.proofs.Sharing.{sole_no_group}
+use Rattle.dp_model.specs.Laws.Groups.{sole_no_group}
 use Rattle.dp_model.specs.Rules.{targets_fit}
 use Rattle.dp_model.specs.Rows.{after_free, after_leave, after_chained}
 

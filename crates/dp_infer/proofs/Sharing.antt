@@ -9,9 +9,8 @@ use Rattle.dp_model.specs.declared.row.Fact.{Fact}
 use Rattle.dp_model.specs.declared.row.Row.{Row}
 use Rattle.dp_model.specs.Groups.{group_of, is_in, belongs, same_registers, keeps_groups}
 use Rattle.dp_model.specs.Rows.{entails_share, owns_head, chained_share, group_at, with_shares, dissolved}
-use Rattle.dp_model.proofs.Entails.{same_at, kept_at}
-use Rattle.dp_model.proofs.Sharing.{belongs_at, belongs_there, belongs_other, belongs_in, belongs_out, group_is, in_one, by_cases, loose_no_group}
-use Rattle.dp_model.proofs.SoundGroups.{group_at_is, group_at_belongs}
+use Rattle.dp_model.specs.Laws.Groups.{same_at, kept_at, belongs_at, belongs_there, belongs_other, belongs_in, belongs_out, group_is, in_one, loose_no_group, group_at_is, group_at_belongs}
+use Rattle.dp_model.specs.Laws.Cases.{by_cases}
 
 -- each group of the second is a group of the same registers in the first
 abbrev pub KeepsGroups : List Fact → List Fact → Type 0

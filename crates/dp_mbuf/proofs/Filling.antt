@@ -6,7 +6,7 @@ use Rattle.std.proofs.lemmas.Bool.{cases_lt}
 use Rattle.std.proofs.lemmas.List.{length-take-le, append_assoc, drop_at, take_at}
 use Rattle.dp_model.specs.Buffers.{Number, same_number, Buffers, bytes_of, written, overwritten}
 use Rattle.dp_model.specs.Packets.{Packet, refs, direct, received, segment_bytes, packet_bytes}
-use Rattle.dp_model.proofs.Bytes.{bytes_other, bytes_same}
+use Rattle.dp_model.specs.Laws.Stored.{bytes_other, bytes_same}
 use Rattle.dp_mbuf.proofs.PoolLemmas.{one_if}
 use Rattle.dp_mbuf.proofs.ObjectLemmas.{same_or, same_self}
 use Rattle.dp_mbuf.proofs.Counting.{refs-cons}

@@ -9,7 +9,7 @@ use Rattle.dp_model.specs.Buffers.{Number, same_number, IsNumber, AreDistinct, B
 use Rattle.dp_model.specs.Packets.{Segment, Packet, refs, direct, is_free, available, needed, received, packet_bytes, IsFresh}
 use Rattle.dp_model.specs.Machine.{segments_held}
 use Rattle.dp_model.specs.Stores.{Store, segments_of, ReceivesInto}
-use Rattle.dp_model.proofs.Bytes.{bytes_other}
+use Rattle.dp_model.specs.Laws.Stored.{bytes_other}
 use Rattle.dp_pool.specs.Pools.{PoolView, object_in}
 use Rattle.dp_mbuf.specs.Objects.{header_at, count_in, pool_in, no_pool, specs_of, buffers_of, HasObject, ArePools, HeaderSet}
 use Rattle.dp_mbuf.specs.Steps.{Linkage, FilledBy, direct_header}

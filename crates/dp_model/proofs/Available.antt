@@ -4,9 +4,10 @@ use Rattle.dp_model.specs.declared.env.PoolSpec.{PoolSpec}
 use Rattle.dp_model.specs.Environments.{count_at}
 use Rattle.dp_model.specs.Buffers.{Number}
 use Rattle.dp_model.specs.Packets.{Segment, refs, is_free, free_below, available}
-use Rattle.dp_model.proofs.Refs.{one_if}
-use Rattle.dp_model.proofs.Fresh.{free_zero}
-use Rattle.dp_model.proofs.Owned.{mbufs, free_no_mbuf, free_of_counts}
+use Rattle.dp_model.specs.Laws.Cases.{one_if}
+use Rattle.dp_model.specs.Laws.References.{free_zero}
+use Rattle.dp_model.proofs.Owned.{free_no_mbuf, free_of_counts}
+use Rattle.dp_model.specs.Laws.Counts.{mbufs}
 
 -- a number is as free as before where as many segments have it as their mbuf and as their buffer
 pub is_free_same : (live live' : List Segment) (n : Number) → mbufs live' n ≡ mbufs live n → refs live' n ≡ refs live n → is_free live' n ≡ is_free live n

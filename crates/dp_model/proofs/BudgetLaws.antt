@@ -1,5 +1,5 @@
 -- The budget of backward jumps is as it reads.
-use Rattle.std.proofs.Common.{◌≡◌, ◌⊎◌, ℕ, zero, suc, ◌+◌, ◌*◌, ◌≤◌, Bool, true, false, cond, List, [], ◌∷◌, ◌++◌, length, replicate, Option, Some, None, refl, sym, ◌∙◌, ap, subst, arith, inl, inr}
+use Rattle.std.proofs.Common.{◌≡◌, ◌⊎◌, ℕ, zero, suc, ◌+◌, ◌*◌, ◌≤◌, Bool, true, false, cond, List, [], ◌++◌, length, Option, Some, None, refl, sym, ◌∙◌, ap, subst, arith, inl, inr}
 use Rattle.std.specs.Prelude.{slice_get, slice_set, nat_lt, MatchOption}
 use Rattle.std.proofs.lemmas.Bool.{ltb-true}
 use Rattle.std.proofs.lemmas.Option.{same_Some, slice_get_within}
@@ -9,11 +9,12 @@ use Rattle.dp_model.specs.declared.instr.Instr.TheVariants.{Alloc, Free, Clone, 
 use Rattle.dp_model.specs.Packets.{Packet, headroom, tailroom, first_len, last_len}
 use Rattle.dp_model.specs.Prefixes.{Route, hop_for}
 use Rattle.dp_model.specs.Jumps.{label_of}
-use Rattle.dp_model.specs.Machine.{Setting, World, State, Next, At, Ended, Move, Acts, Step, moves_to, goes_on, branches, is_denied, finds, without_packet, without_packets, with_jump, cut_off, budgeted, with_step}
+use Rattle.dp_model.specs.Machine.{Setting, World, State, Next, At, Ended, Move, Acts, Step, moves_to, goes_on, branches, is_denied, finds, with_jump, cut_off, budgeted, with_step}
 use Rattle.dp_model.specs.Runs.{Then, Goes, first_state, NodeRun, most_steps, TookAtMost, Outcome, Got, NoBuffer, Oversize, Arrives, Waiting, first_waiting, Serves, Nodes, runs_of, Turn}
 use Rattle.dp_model.specs.Safety.{AreShort}
-use Rattle.dp_model.proofs.Sound.{matched}
-use Rattle.dp_model.proofs.CountSteps.{acts_counts, goes_counts, goes_short}
+use Rattle.dp_model.specs.Laws.Cases.{matched}
+use Rattle.dp_model.proofs.CountSteps.{goes_short}
+use Rattle.dp_model.specs.Laws.Steps.{acts_counts, goes_counts}
 
 -- ---- what comes after an instruction
 
@@ -118,24 +119,7 @@ acts_lead c label to s (Jlt r n l) m (after, a, is) e = tested label to (Jlt r n
 acts_lead c label to s (Lookup r table x l) m (after, a, is) e = looked label to (Lookup r table x l) (slice_get c.tables table) _ r l after m _ _ refl a is e
 
 -- ---- registers are freed one by one
-
-each_freed : {X : Type 0} (xs : List (Option X)) → length xs ≡ 8 → replicate 8 None ≡ slice_set (slice_set (slice_set (slice_set (slice_set (slice_set (slice_set (slice_set xs 0 None) 1 None) 2 None) 3 None) 4 None) 5 None) 6 None) 7 None
-each_freed [] e = absurd (omega (arith, e))
-each_freed (a ∷ []) e = absurd (omega (arith, e))
-each_freed (a ∷ b ∷ []) e = absurd (omega (arith, e))
-each_freed (a ∷ b ∷ c ∷ []) e = absurd (omega (arith, e))
-each_freed (a ∷ b ∷ c ∷ d ∷ []) e = absurd (omega (arith, e))
-each_freed (a ∷ b ∷ c ∷ d ∷ f ∷ []) e = absurd (omega (arith, e))
-each_freed (a ∷ b ∷ c ∷ d ∷ f ∷ g ∷ []) e = absurd (omega (arith, e))
-each_freed (a ∷ b ∷ c ∷ d ∷ f ∷ g ∷ h ∷ []) e = absurd (omega (arith, e))
-each_freed (a ∷ b ∷ c ∷ d ∷ f ∷ g ∷ h ∷ k ∷ []) e = refl
-each_freed (a ∷ b ∷ c ∷ d ∷ f ∷ g ∷ h ∷ k ∷ l ∷ xs) e = absurd (omega (arith, e))
-
-pub freed_in_order : (s : State) → length s.packets ≡ 8 → without_packets s ≡ without_packet 7 (without_packet 6 (without_packet 5 (without_packet 4 (without_packet 3 (without_packet 2 (without_packet 1 (without_packet 0 s)))))))
-freed_in_order s e = ap (λ packets. record s { packets = packets }) (each_freed s.packets e)
-
 -- ---- no run takes more backward jumps than its budget
-
 jumps_within : (label : ℕ) (m : Move) → m.state.jumps ≤ 256 → (budgeted label m).state.jumps ≤ 256
 jumps_within label m within = go _ (nat_lt m.state.jumps 256) refl
   where
@@ -164,7 +148,6 @@ jumps_taken c program k number n label w told s goes =
     (goes_jumps c program n 0 (first_state k number w) told (At label) s (omega arith) goes, counts.steps, omega (arith, counts.cuts, counts.at_end))
 
 -- ---- node runs and turns
-
 pub short_run : (c : Setting) (program : List Instr) (n : ℕ) (k : Packet) (number : ℕ) (w : World) (told : List Bool) (next : Next) (s : State) → Goes c program n 0 (first_state k number w) told next s → n ≤ most_steps program
 short_run c program zero k number w told next s goes = omega arith
 short_run c program (suc n) k number w told next s (m, later, st, is_told, rest) =

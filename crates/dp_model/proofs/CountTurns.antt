@@ -9,8 +9,9 @@ use Rattle.dp_model.specs.Packets.{Packet, received}
 use Rattle.dp_model.specs.Machine.{Setting, World, Ended}
 use Rattle.dp_model.specs.Runs.{first_state, NodeRun, Goes, Outcome, Got, NoBuffer, Oversize, Arrives, Waiting, first_waiting, Serves, Nodes, Turn}
 use Rattle.dp_model.specs.Safety.{IsAtRest, Beginning, IsSafeBeginning, IsPipeline, AreShort}
-use Rattle.dp_model.proofs.CountSteps.{goes_counts}
-use Rattle.dp_model.proofs.SafeTurns.{safe_rests, record_safe, receives_of, arrives_rest, waiting_safe}
+use Rattle.dp_model.specs.Laws.Steps.{goes_counts}
+use Rattle.dp_model.proofs.SafeTurns.{record_safe, receives_of, arrives_rest, waiting_safe}
+use Rattle.dp_model.specs.Laws.Runs.{safe_rests}
 
 -- the calls of a part of a turn: they are counted, and are few
 pub record AreFewCalls (w w' : World) (told : List Bool) (most : ℕ) : Type 0 where

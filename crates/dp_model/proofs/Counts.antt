@@ -1,24 +1,14 @@
 -- Counts of segments that pass a test, when packets come, go and move. References are such counts, and so is how
 -- many live segments have a number as their mbuf.
-use Rattle.std.proofs.Common.{◌≡◌, ◌≢◌, ℕ, zero, suc, ◌+◌, ◌≤◌, Bool, true, false, cond, List, [], ◌∷◌, ◌++◌, Option, Some, None, refl, sym, ◌∙◌, ap, arith}
-use Rattle.std.specs.Prelude.{slice_get, slice_set, flat_map, count_by}
-use Rattle.std.specs.List.{AllByRecursion}
-use Rattle.std.proofs.lemmas.List.Sums.{sum_by-append, sum_by-cons}
+use Rattle.std.proofs.Common.{◌≡◌, ◌≢◌, ℕ, zero, suc, ◌+◌, ◌≤◌, Bool, true, false, List, [], ◌∷◌, ◌++◌, Option, Some, None, refl, sym, ◌∙◌, ap, arith}
+use Rattle.std.specs.Prelude.{slice_get, slice_set, flat_map}
 use Rattle.std.proofs.lemmas.Option.{same_Some}
 use Rattle.dp_model.specs.Packets.{Segment, Packet, at_front, at_end}
 use Rattle.dp_model.specs.Machine.{State, World, live, segments_held, segments_listed, with_ring, with_outbox, without_packet}
 use Rattle.dp_model.specs.Runs.{first_state, between}
-use Rattle.dp_model.proofs.Refs.{one_if, get_set_other}
-
--- how many segments pass a test
-abbrev pub tally : (Segment → Bool) → List Segment → ℕ
-tally test xs = count_by test xs
-
-pub tally-cons : (test : Segment → Bool) (s : Segment) (rest : List Segment) → tally test (s ∷ rest) ≡ one_if (test s) + tally test rest
-tally-cons test s rest = sum_by-cons (λ x. cond (test x) 1 0) s rest
-
-pub tally-append : (test : Segment → Bool) (xs ys : List Segment) → tally test (xs ++ ys) ≡ tally test xs + tally test ys
-tally-append test xs ys = sum_by-append (λ x. cond (test x) 1 0) xs ys
+use Rattle.dp_model.specs.Laws.Cases.{one_if}
+use Rattle.dp_model.specs.Laws.Lists.{get_set_other}
+use Rattle.dp_model.specs.Laws.Counts.{tally, tally-cons, tally-append}
 
 -- the count of what a register holds
 abbrev pub tally_of : (Segment → Bool) → Option Packet → ℕ
@@ -47,7 +37,6 @@ pub tally_held : (test : Segment → Bool) (packets : List (Option Packet)) (i :
 tally_held test packets i o h = omega (arith, tally_set test packets i o None h)
 
 -- ---- lists of packets
-
 abbrev pub tally_list : (Segment → Bool) → List Packet → ℕ
 tally_list test packets = tally test (flat_map (λ k. k) packets)
 
@@ -67,7 +56,6 @@ tally_push test (j ∷ packets) k =
     omega (arith, tally_push test packets k, tally-append test j (flat_map (λ k. k) (packets ++ k ∷ [])), tally-append test j (flat_map (λ k. k) packets))
 
 -- ---- states
-
 -- the live segments of a state are those of registers, of rings and of transmit lists
 pub tally_live : (test : Segment → Bool) (s : State) → tally test (live s) ≡ tally test (segments_held s.packets) + (tally test (segments_listed s.world.rings) + tally test (segments_listed s.world.outboxes))
 tally_live test s =
@@ -100,7 +88,6 @@ tally_first test k number w =
     omega (arith, tally_live test (first_state k number w), tally_live test (between w), tally-append test k [])
 
 -- ---- the first or the last segment changes
-
 -- a change that the test does not see, in front
 pub tally_front : (test : Segment → Bool) (f : Segment → Segment) (k : Packet) → ((s : Segment) → test (f s) ≡ test s) → tally test (at_front f k) ≡ tally test k
 tally_front test f [] same = refl
@@ -118,33 +105,6 @@ tally_end test f (s ∷ t ∷ rest) same =
     omega (arith, tally_end test f (t ∷ rest) same, tally-cons test s (at_end f (t ∷ rest)), tally-cons test s (t ∷ rest))
 
 -- ---- what a count says of the segments
-
--- a count above 0 has a segment that passes, of which all that holds of each holds
-pub tally_found : (test : Segment → Bool) (P : Segment → Type 0) (xs : List Segment) → AllByRecursion P xs → 1 ≤ tally test xs → (s : Segment) × (test s ≡ true) × P s
-tally_found test P [] all one = absurd (omega arith)
-tally_found test P (s ∷ rest) all one = go (test s) refl (tally_found test P rest all.1)
-  where
-    go : (b : Bool) → test s ≡ b → (1 ≤ tally test rest → (t : Segment) × (test t ≡ true) × P t) → (t : Segment) × (test t ≡ true) × P t
-    go true e later = (s, e, all.0)
-    go false e later = let none : one_if (test s) ≡ 0 = ap one_if e in later (omega (arith, one, none, tally-cons test s rest))
-
--- none passes where each fails
-pub tally_none : (test : Segment → Bool) (xs : List Segment) → AllByRecursion (λ s. test s ≡ false) xs → tally test xs ≡ 0
-tally_none test [] all = refl
-tally_none test (s ∷ rest) all = let none : one_if (test s) ≡ 0 = ap one_if all.0 in omega (arith, none, tally-cons test s rest, tally_none test rest all.1)
-
--- what passes is counted: so a segment is known to be among others
-abbrev pub IsAmong : Segment → List Segment → Type 0
-IsAmong s xs = (test : Segment → Bool) → test s ≡ true → 1 ≤ tally test xs
-
--- what holds of each segment that is among them holds of all
-pub all_among : (P : Segment → Type 0) (xs : List Segment) → ((s : Segment) → IsAmong s xs → P s) → AllByRecursion P xs
-all_among P [] each = tt
-all_among P (s ∷ rest) each = (
-  each s (λ test yes. let one : one_if (test s) ≡ 1 = ap one_if yes in omega (arith, one, tally-cons test s rest)),
-  all_among P rest (λ t among. each t (λ test yes. omega (arith, among test yes, tally-cons test s rest))),
-)
-
 -- where the first test passes the second does
 pub tally_le : (test more : Segment → Bool) (xs : List Segment) → ((s : Segment) → test s ≡ true → more s ≡ true) → tally test xs ≤ tally more xs
 tally_le test more [] implies = omega arith
@@ -158,12 +118,3 @@ tally_le test more (s ∷ rest) implies = go (test s) refl (tally_le test more r
     go false e later =
         let none : one_if (test s) ≡ 0 = ap one_if e in
         omega (arith, none, later, tally-cons test s rest, tally-cons more s rest)
-
--- none of them passes
-pub tally_zero : (test : Segment → Bool) (xs : List Segment) → tally test xs ≡ 0 → AllByRecursion (λ s. test s ≡ false) xs
-tally_zero test [] none = tt
-tally_zero test (s ∷ rest) none = (go (test s) refl, tally_zero test rest (omega (arith, none, tally-cons test s rest)))
-  where
-    go : (b : Bool) → test s ≡ b → test s ≡ false
-    go false e = e
-    go true e = let one : one_if (test s) ≡ 1 = ap one_if e in absurd (omega (arith, one, none, tally-cons test s rest))

@@ -8,10 +8,9 @@ use Rattle.dp_model.specs.declared.env.PoolSpec.{PoolSpec}
 use Rattle.dp_model.specs.Environments.{Environment, fault_of}
 use Rattle.dp_model.specs.Buffers.{Number, same_number, IsNumber}
 use Rattle.dp_model.specs.Packets.{Segment, refs, AreOwned}
-use Rattle.dp_model.proofs.Refs.{one_if}
-use Rattle.dp_model.proofs.Fresh.{number_path}
-use Rattle.dp_model.proofs.Counts.{tally-cons}
-use Rattle.dp_model.proofs.Owned.{has_mbuf, mbufs, same_of, counts_of_owned}
+use Rattle.dp_model.specs.Laws.Cases.{one_if}
+use Rattle.dp_model.specs.Laws.Stored.{number_path}
+use Rattle.dp_model.specs.Laws.Counts.{tally-cons, has_mbuf, mbufs, same_of, counts_of_owned}
 use Rattle.dp_model.proofs.EnvLemmas.{total_small}
 
 -- ---- sums over the buffers of pools

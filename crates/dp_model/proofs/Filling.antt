@@ -9,10 +9,10 @@ use Rattle.dp_model.specs.declared.env.PoolSpec.{PoolSpec}
 use Rattle.dp_model.specs.Environments.{room_at}
 use Rattle.dp_model.specs.Buffers.{Number, same_number, AreDistinct, IsNumber, Buffers, bytes_of, overwritten, written, ChangesOnly}
 use Rattle.dp_model.specs.Packets.{Segment, segment_bytes, packet_bytes, direct, needed, received, Filled, IsFresh, AreFresh}
-use Rattle.dp_model.proofs.Bytes.{bytes_other, bytes_same}
-use Rattle.dp_model.proofs.Within.{all_join, all_take, all_drop, written_each, length_overwritten}
-use Rattle.dp_model.proofs.Owned.{same_number_sym}
-use Rattle.dp_model.proofs.Begin.{needed_holds}
+use Rattle.dp_model.specs.Laws.Stored.{bytes_other, bytes_same, written_each, length_overwritten}
+use Rattle.dp_model.specs.Laws.Lists.{all_join, all_take, all_drop}
+use Rattle.dp_model.specs.Laws.Counts.{same_number_sym}
+use Rattle.dp_model.specs.Laws.Places.{needed_holds}
 
 -- ---- one write
 

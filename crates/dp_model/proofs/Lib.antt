@@ -3,7 +3,6 @@ pub mod Available
 pub mod Begin
 pub mod Budget
 pub mod BudgetLaws
-pub mod Bytes
 pub mod CountSteps
 pub mod CountTurns
 pub mod Counts
@@ -23,7 +22,6 @@ pub mod PacketSteps
 pub mod Refs
 pub mod RowLemmas
 pub mod RunEnds
-pub mod RunSteps
 pub mod SafeRuns
 pub mod SafeTurns
 pub mod SafeWhole
@@ -38,4 +36,3 @@ pub mod Sharing
 pub mod Soundness
 pub mod StoreCalls
 pub mod WholeRuns
-pub mod Within

@@ -6,7 +6,7 @@ use Rattle.std.proofs.Math.Arith.{mod-mul}
 use Rattle.dp_model.specs.Arithmetic.{ones_within, big_endian, spelled}
 use Rattle.dp_model.specs.Buffers.{Buffers, bytes_of, overwritten, written}
 use Rattle.dp_model.specs.Packets.{Segment, Packet, segment_bytes, stored, loaded}
-use Rattle.dp_model.proofs.Bytes.{bytes_same, range_overwritten}
+use Rattle.dp_model.specs.Laws.Stored.{bytes_same, range_overwritten}
 use Rattle.dp_model.proofs.Filling.{range_written}
 
 -- ---- the least 2^k - 1 that is at least n

@@ -1,32 +1,23 @@
 -- Each step leaves each mbuf with one owner.
-use Rattle.std.proofs.Common.{◌≡◌, ◌≢◌, ℕ, ◌+◌, ◌≤◌, Bool, true, false, cond, List, [], ◌∷◌, ◌++◌, length, Some, None, refl, sym, ap, subst, arith}
+use Rattle.std.proofs.Common.{◌≡◌, ◌≢◌, ℕ, ◌+◌, Bool, true, false, cond, List, [], ◌∷◌, ◌++◌, length, Some, None, refl, sym, ap, subst, arith}
 use Rattle.std.specs.Prelude.{slice_get, slice_index, nat_lt}
 use Rattle.dp_model.specs.declared.instr.Instr.{Instr}
 use Rattle.dp_model.specs.declared.instr.Instr.TheVariants.{Alloc, Free, Clone, Prepend, Adj, Append, Trim, Chain, IfHead, IfTail, IfLen, IfLast, Load, Store, LoadX, StoreX, Set, Mov, Add, Sub, And, Or, Xor, Shl, Shr, Jmp, Jeq, Jlt, Lookup, Tx, Enq, Exit}
 use Rattle.dp_model.specs.Buffers.{Number, same_number}
 use Rattle.dp_model.specs.Packets.{Segment, Packet, headroom, tailroom, first_len, last_len, AreFresh, AreOwned, allocated, cloned, at_front, at_end, more_before, less_before, more_behind, less_behind}
 use Rattle.dp_model.specs.Machine.{Setting, State, live, segments_held, Step, with_step, with_cut, without_packets, Move, Acts, Holds, IsEmpty, goes_on, moves_to, is_denied, with_packet, without_packet, with_ring, with_outbox}
-use Rattle.dp_model.proofs.Refs.{refs_held}
-use Rattle.dp_model.proofs.Kept.{live_parts}
-use Rattle.dp_model.proofs.Counts.{tally, tally_live, tally_live_set, tally_to_ring, tally_to_outbox, tally_chain, tally_front, tally_end}
-use Rattle.dp_model.proofs.Owned.{has_mbuf, is_indirect_at, AreFewer, fewer_owned, AreMore, more_owned, allocated_direct, direct_comes, clone_comes}
-use Rattle.dp_model.proofs.Sound.{matched}
-use Rattle.dp_model.proofs.Budget.{budget_keeps}
+use Rattle.dp_model.specs.Laws.References.{refs_held, live_parts}
+use Rattle.dp_model.proofs.Counts.{tally_live, tally_live_set, tally_to_ring, tally_to_outbox, tally_chain, tally_front, tally_end}
+use Rattle.dp_model.specs.Laws.Counts.{tally, has_mbuf, is_indirect_at, AreFewer, fewer_owned, fewer_by}
+use Rattle.dp_model.proofs.Owned.{AreMore, more_owned, allocated_direct, direct_comes, clone_comes}
+use Rattle.dp_model.specs.Laws.Cases.{matched}
+use Rattle.dp_model.specs.Laws.Steps.{budget_keeps}
 use Rattle.dp_model.proofs.SoundClone.{refs_cloned}
 
 abbrev pub HasOwners : Setting → State → Type 0
 HasOwners c s = AreOwned c.env.pools (live s)
 
 -- ---- kinds of change
-
--- no count grows
-pub fewer_by : (live live' : List Segment) → ((test : Segment → Bool) → tally test live' ≤ tally test live) → AreFewer live live'
-fewer_by live live' le = record {
-  mbufs = λ n. le (has_mbuf n);
-  buffers = λ n. le (λ s. same_number s.buffer n);
-  indirects = λ n. le (is_indirect_at n);
-}
-
 -- every count grows by the packet's
 pub more_by : (live live' : List Segment) (k : Packet) → ((test : Segment → Bool) → tally test live' ≡ tally test live + tally test k) → AreMore live live' k
 more_by live live' k is = record {
@@ -76,7 +67,6 @@ chain_fewer s p q k t apart hp hq =
     (λ test. omega (arith, tally_live test s, tally_live test (without_packet q (with_packet p (k ++ t) s)), tally_chain test s.packets p q k t apart hp hq))
 
 -- ---- a step
-
 by : (c : Setting) (m m' : Move) → m ≡ m' → HasOwners c m'.state → HasOwners c m.state
 by c m m' is h = subst (λ m. HasOwners c m.state) (sym is) h
 

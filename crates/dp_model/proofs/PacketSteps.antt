@@ -3,7 +3,6 @@ use Rattle.std.proofs.Common.{◌≡◌, ℕ, zero, suc, ◌+◌, Bool, true, fa
 use Rattle.std.specs.Prelude.{slice_get, slice_set, slice_index, nat_lt}
 use Rattle.std.specs.List.{AllByRecursion}
 use Rattle.std.proofs.lemmas.List.{length-map}
-use Rattle.std.proofs.lemmas.Option.{same_Some}
 use Rattle.dp_model.specs.declared.env.PoolSpec.{PoolSpec}
 use Rattle.dp_model.specs.declared.instr.Instr.{Instr}
 use Rattle.dp_model.specs.declared.instr.Instr.TheVariants.{Alloc, Free, Clone, Prepend, Adj, Append, Trim, Chain, IfHead, IfTail, IfLen, IfLast, Load, Store, LoadX, StoreX, Set, Mov, Add, Sub, And, Or, Xor, Shl, Shr, Jmp, Jeq, Jlt, Lookup, Tx, Enq, Exit}
@@ -12,10 +11,10 @@ use Rattle.dp_model.specs.Packets.{Segment, Packet, headroom, tailroom, first_le
 use Rattle.dp_model.specs.Machine.{Setting, State, Next, At, Ended, Move, Acts, Holds, goes_on, moves_to, is_denied, with_packet, without_packet, with_ring, with_outbox, with_step, Step}
 use Rattle.dp_model.specs.Runs.{Then, Goes}
 use Rattle.dp_model.specs.Safety.{IsPacket, IsPacketOrNone, ArePackets}
-use Rattle.dp_model.proofs.Sound.{matched}
+use Rattle.dp_model.specs.Laws.Cases.{matched}
 use Rattle.dp_model.proofs.SoundClone.{length_cloned}
-use Rattle.dp_model.proofs.Within.{all_join}
-use Rattle.dp_model.proofs.Budget.{budget_keeps}
+use Rattle.dp_model.specs.Laws.Lists.{all_join, each_at}
+use Rattle.dp_model.specs.Laws.Steps.{budget_keeps}
 
 -- ---- lists
 
@@ -24,13 +23,7 @@ each_set P [] p x all here = tt
 each_set P (y ∷ xs) zero x all here = (here, all.1)
 each_set P (y ∷ xs) (suc p) x all here = (all.0, each_set P xs p x all.1 here)
 
-pub each_at : {X : Type 0} (P : X → Type 0) (xs : List X) (p : ℕ) (x : X) → AllByRecursion P xs → slice_get xs p ≡ Some x → P x
-each_at P [] p x all e = cc
-each_at P (y ∷ xs) zero x all e = subst P (same_Some y x e) all.0
-each_at P (y ∷ xs) (suc p) x all e = each_at P xs p x all.1 e
-
 -- ---- packets
-
 pub length_front : (f : Segment → Segment) (k : Packet) → length (at_front f k) ≡ length k
 length_front f [] = refl
 length_front f (s ∷ rest) = refl
@@ -83,7 +76,6 @@ same_packets s s' p r o are = record {
 }
 
 -- ---- a step
-
 allocated_packet : (pools : List PoolSpec) (ns : List Number) → length ns ≡ 1 → IsPacket (allocated pools ns)
 allocated_packet pools ns one = let e : length (allocated pools ns) ≡ length ns = length-map ns _ in (omega (arith, e, one), omega (arith, e, one))
 
@@ -148,7 +140,6 @@ step_packets c program label s m are st =
     (record { held = (tt, (tt, (tt, (tt, (tt, (tt, (tt, (tt, tt)))))))); rings = here.rings; outboxes = here.outboxes }))
 
 -- ---- a run
-
 pub goes_packets : (c : Setting) (program : List Instr) (n label : ℕ) (s : State) (told : List Bool) (next : Next) (s' : State) → ArePackets s → Goes c program n label s told next s' → ArePackets s'
 goes_packets c program zero label s told next s' are (_, _, is) = subst ArePackets (sym is) are
 goes_packets c program (suc n) label s told next s' are (m, later, st, is_told, rest) =

@@ -13,18 +13,17 @@ use Rattle.dp_model.specs.Packets.{Segment, Packet, Lies, is_free, available}
 use Rattle.dp_model.specs.Machine.{Setting, World, Ended, live, segments_listed}
 use Rattle.dp_model.specs.Meaning.{RingHolds, TablesFit}
 use Rattle.dp_model.specs.Runs.{first_state, NodeRun, between, Outcome, Got, NoBuffer, Oversize, Arrives, Waiting, first_waiting, Serves, Nodes, Turn, Arrival, Run, WholeRun, with_empty_outboxes, with_empty_rings}
-use Rattle.dp_model.specs.Laws.{Ready, AreChecked}
-use Rattle.dp_model.specs.Safety.{IsPacket, IsAtRest}
+use Rattle.dp_model.specs.Laws.{AreChecked}
+use Rattle.dp_model.specs.Safety.{IsAtRest}
 use Rattle.dp_model.specs.Starts.{IsStart}
 use Rattle.dp_model.proofs.Available.{available_all}
-use Rattle.dp_model.proofs.Counts.{tally, tally_live}
-use Rattle.dp_model.proofs.CountSteps.{goes_counts}
-use Rattle.dp_model.proofs.Kept.{all_right}
-use Rattle.dp_model.proofs.Owned.{fewer_owned}
-use Rattle.dp_model.proofs.OwnedSteps.{fewer_by}
-use Rattle.dp_model.proofs.RunSteps.{start_ready}
-use Rattle.dp_model.proofs.SafeWhole.{nothing_mapped, no_lists}
-use Rattle.dp_model.proofs.WholeRuns.{nothing_listed, run_ready}
+use Rattle.dp_model.proofs.Counts.{tally_live}
+use Rattle.dp_model.specs.Laws.Counts.{tally, fewer_owned, fewer_by}
+use Rattle.dp_model.specs.Laws.Steps.{goes_counts}
+use Rattle.dp_model.specs.Laws.Lists.{all_right}
+use Rattle.dp_model.specs.Laws.Runs.{start_ready, nothing_mapped, no_lists}
+use Rattle.dp_model.proofs.WholeRuns.{run_ready}
+use Rattle.dp_model.specs.Laws.Waiting.{nothing_listed}
 
 -- ---- nothing is live
 

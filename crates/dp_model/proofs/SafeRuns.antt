@@ -5,10 +5,12 @@ use Rattle.dp_model.specs.Packets.{Packet, AreOwned}
 use Rattle.dp_model.specs.Rules.{Question, IsCertified}
 use Rattle.dp_model.specs.Machine.{Setting, World, State, live, segments_held, segments_listed, Next, At, Ended, Move, Step}
 use Rattle.dp_model.specs.Runs.{Then, Goes, first_state, between}
-use Rattle.dp_model.specs.Safety.{ArePackets, BeginsWell, IsSafeRun}
-use Rattle.dp_model.proofs.Soundness.{step_safe}
-use Rattle.dp_model.proofs.Budget.{step_within, step_place}
-use Rattle.dp_model.proofs.CountSteps.{IsCloser, step_closer, room_left, goes_short}
+use Rattle.dp_model.specs.Safety.{ArePackets, BeginsWell, IsSafeRun, Beginning, IsSafeBeginning, LeadsWithin}
+use Rattle.dp_model.proofs.Soundness.{step_safe, acts_place}
+use Rattle.dp_model.proofs.Budget.{step_place}
+use Rattle.dp_model.specs.Laws.StepsWithin.{step_within}
+use Rattle.dp_model.proofs.CountSteps.{IsCloser, step_closer, goes_short}
+use Rattle.dp_model.specs.Laws.Steps.{room_left}
 use Rattle.dp_model.proofs.NodeRuns.{Reached, goes_known, begins_known, accepted_is_sound}
 use Rattle.dp_model.proofs.OwnedSteps.{HasOwners, step_owned}
 use Rattle.dp_model.proofs.PacketSteps.{goes_packets}
@@ -86,3 +88,10 @@ accepted_is_safe c q k number w accepted well =
             subst (λ x. AreOwned c.env.pools (live (between x))) (sym is) (ended_owned c s here.2 (goes_owned c q.program n 0 (first_state k number w) told Ended s well.owned goes));
       };
     }
+
+-- ---- a safe node run goes from instruction to instruction
+
+pub leads_within : (c : Setting) (b : Beginning) → IsSafeBeginning c b → LeadsWithin c b
+leads_within c b s = subst (λ p. LeadsWithin c (record b { program = p })) s.program_is (λ n label told state i m goes here acts.
+    let at = s.safe.stays n label told state goes in
+    acts_place c s.question label at.row.0 state (sym s.env_is) s.accepted at.row.1 at.row.2 at.well_formed.within i m here acts)

@@ -16,20 +16,23 @@ use Rattle.dp_model.specs.Packets.{Segment, Packet, needed, received, Filled, Ar
 use Rattle.dp_model.specs.Rules.{Question}
 use Rattle.dp_model.specs.Machine.{Setting, World, live, segments_listed, is_denied}
 use Rattle.dp_model.specs.Meaning.{RingHolds}
-use Rattle.dp_model.specs.Runs.{first_state, between, NodeRun, NeverStuck, Outcome, Got, NoBuffer, Oversize, Receives, Arrives, Waiting, first_waiting, Serves, Nodes, runs_of, Turn}
+use Rattle.dp_model.specs.Runs.{first_state, between, NodeRun, Outcome, Got, NoBuffer, Oversize, Receives, Arrives, Waiting, first_waiting, Serves, Nodes, runs_of, Turn}
 use Rattle.dp_model.specs.Laws.{Checked}
 use Rattle.dp_model.specs.Safety.{IsPacket, ArePackets, IsAtRest, BeginsWell, Beginning, IsOfRecord, HasServed, IsOfTurn, IsSafeBeginning, outcome_for, IsSafeTurn, IsPipeline}
-use Rattle.dp_model.proofs.Kept.{get_within, zip_back}
+use Rattle.dp_model.specs.Laws.Lists.{get_within, zip_back, each_at}
 use Rattle.dp_model.proofs.Fresh.{enough}
 use Rattle.dp_model.proofs.Sound.{denied_or_enough}
-use Rattle.dp_model.proofs.Begin.{length_received, received_begins, waits, ring_begins}
-use Rattle.dp_model.proofs.Counts.{tally, tally-append, tally_live, tally_listed_set, tally_first}
-use Rattle.dp_model.proofs.Owned.{more_owned, fewer_owned, received_direct, direct_comes}
-use Rattle.dp_model.proofs.OwnedSteps.{more_by, fewer_by}
-use Rattle.dp_model.proofs.EnvLemmas.{segs_small}
-use Rattle.dp_model.proofs.PacketSteps.{each_at, each_set}
+use Rattle.dp_model.proofs.Begin.{length_received, received_begins, ring_begins}
+use Rattle.dp_model.specs.Laws.Waiting.{waits}
+use Rattle.dp_model.proofs.Counts.{tally_live, tally_listed_set, tally_first}
+use Rattle.dp_model.specs.Laws.Counts.{tally, tally-append, fewer_owned, fewer_by}
+use Rattle.dp_model.proofs.Owned.{more_owned, received_direct, direct_comes}
+use Rattle.dp_model.proofs.OwnedSteps.{more_by}
+use Rattle.dp_model.specs.Laws.Limits.{segs_small}
+use Rattle.dp_model.proofs.PacketSteps.{each_set}
 use Rattle.dp_model.proofs.SafeRuns.{accepted_is_safe}
 use Rattle.dp_model.proofs.Filling.{can_fill}
+use Rattle.dp_model.specs.Laws.Runs.{safe_never_stuck, safe_rests}
 
 -- ---- packets
 
@@ -51,7 +54,6 @@ popped_packets w next e are =
     (all.0, record { held = tt; rings = subst (AllByRecursion (AllByRecursion IsPacket)) (sym is) (each_set (AllByRecursion IsPacket) w.rings next.ring packets are.rings all.1); outboxes = are.outboxes })
 
 -- ---- node runs begin well
-
 -- on a record that is received
 pub record_begins : (c : Setting) (q : Question) (port : ℕ) (spec : PortSpec) (bytes : List ℕ) (w : World) (numbers : List Number) (buffers : Buffers) → c.env ≡ q.env → q.entry ≡ Port port → slice_get c.env.ports port ≡ Some spec → 129 ≤ room_at c.env.pools spec.pool → fault_of c.env ≡ None → IsAtRest c w
     → needed c.env.pools spec.pool (length bytes) ≤ spec.segs → AreFresh c.env.pools (live (between w)) spec.pool (needed c.env.pools spec.pool (length bytes)) numbers
@@ -95,18 +97,10 @@ safe_beginning c entry program k number w node well = record {
   safe = accepted_is_safe c node.question k number w node.accepted well;
 }
 
--- such a node run is never stuck, can end, and leaves the world for the next
-pub safe_never_stuck : (c : Setting) (b : Beginning) → IsSafeBeginning c b → NeverStuck c b.program b.packet b.number b.world
-safe_never_stuck c b s = subst (λ p. NeverStuck c p b.packet b.number b.world) s.program_is (λ n label told t goes. (s.safe.stays n label told t goes).has_step)
-
 pub safe_ends : (c : Setting) (b : Beginning) → IsSafeBeginning c b → (told : List Bool) × (w' : World) × NodeRun c b.program b.packet b.number b.world told w'
 safe_ends c b s = subst (λ p. (told : List Bool) × (w' : World) × NodeRun c p b.packet b.number b.world told w') s.program_is s.safe.ends
 
-pub safe_rests : (c : Setting) (b : Beginning) (told : List Bool) (w' : World) → IsSafeBeginning c b → NodeRun c b.program b.packet b.number b.world told w' → IsAtRest c w'
-safe_rests c b told w' s run = s.safe.rests told w' (subst (λ p. NodeRun c p b.packet b.number b.world told w') (sym s.program_is) run)
-
 -- ---- the node run of the record
-
 pub record_safe : (c : Setting) (nodes : Nodes) (port : ℕ) (bytes : List ℕ) (w : World) (b : Beginning) → IsPipeline c nodes → IsAtRest c w → IsOfRecord c nodes port bytes w b → IsSafeBeginning c b
 record_safe c nodes port bytes w b checked rest r =
     let node = checked.checked.ports port r.program r.program_is in
@@ -148,7 +142,6 @@ arrives_rest c nodes program port spec bytes w w' Got told checked is_program is
     (subst (λ x. NodeRun c program x port w1 r.later w') r.packet_is r.run)
 
 -- ---- node runs on packets of rings
-
 -- the node of the ring
 pub waiting_safe : (c : Setting) (nodes : Nodes) (next : Waiting) (program : List Instr) (w : World) → IsPipeline c nodes → IsAtRest c w → first_waiting w.rings ≡ Some next → slice_get nodes.rings next.ring ≡ Some program → IsSafeBeginning c (record { entry = Ring next.ring; program = program; packet = next.packet; number = next.ring; world = record w { rings = next.rings } })
 waiting_safe c nodes next program w checked rest e is_program =
@@ -194,7 +187,6 @@ serves_exist c nodes (suc n) w pipeline rest = go (first_waiting w.rings) refl (
         (now ++ later, more + 1, w', (program, now, later, mid, more, is_program, run, serves, refl, refl))
 
 -- ---- what becomes of a record
-
 -- with these buffers and these bytes in them
 received_ends : (c : Setting) (nodes : Nodes) (program : List Instr) (port : ℕ) (spec : PortSpec) (bytes : List ℕ) (w : World) (ns : List Number) (buffers : Buffers) → IsPipeline c nodes → slice_get c.env.ports port ≡ Some spec → slice_get nodes.ports port ≡ Some program → IsAtRest c w → needed c.env.pools spec.pool (length bytes) ≤ spec.segs → is_denied c (between w) spec.pool (needed c.env.pools spec.pool (length bytes)) ≡ false
     → AreFresh c.env.pools (live (between w)) spec.pool (needed c.env.pools spec.pool (length bytes)) ns → Filled ns (received (room_at c.env.pools spec.pool) ns (length bytes)) bytes w.buffers buffers → (told : List Bool) × (w' : World) × Receives c program port spec bytes w told w'
@@ -236,7 +228,6 @@ arrives_outcome c program port spec bytes w w' Got told r =
     sym (ap (λ b. if b then Oversize else if is_denied c (between w) spec.pool (needed c.env.pools spec.pool (length bytes)) then NoBuffer else Got) e ∙ ap (λ b. if b then NoBuffer else Got) r.given)
 
 -- ---- a turn
-
 pub turn_rest : (c : Setting) (nodes : Nodes) (port : ℕ) (bytes : List ℕ) (w w' : World) (outcome : Outcome) (runs : ℕ) (told : List Bool) → IsPipeline c nodes → IsAtRest c w → Turn c nodes port bytes w outcome runs told w' → IsAtRest c w'
 turn_rest c nodes port bytes w w' outcome runs told checked rest t =
     serves_rest c nodes 32 t.mid w' t.later t.more checked

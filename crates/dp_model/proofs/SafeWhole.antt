@@ -1,44 +1,18 @@
 -- Whole runs of a pipeline: every node run is safe, and there is a run for each list of records.
-use Rattle.std.proofs.Common.{◌≡◌, ℕ, Bool, List, [], ◌∷◌, ◌++◌, length, replicate, map, refl, sym, ◌∙◌, ap, subst, arith}
+use Rattle.std.proofs.Common.{◌≡◌, ℕ, Bool, List, [], ◌∷◌, ◌++◌, length, replicate, refl, sym, ap, subst, arith}
 use Rattle.std.specs.List.{AllByRecursion}
-use Rattle.dp_model.specs.Packets.{AreOwned}
 use Rattle.dp_model.specs.Machine.{Setting, World, live, segments_listed}
-use Rattle.dp_model.specs.Meaning.{TablesFit}
 use Rattle.dp_model.specs.Runs.{between, Outcome, Nodes, Arrival, Run, records_at, with_empty_outboxes, joined}
-use Rattle.dp_model.specs.Starts.{IsStart}
-use Rattle.dp_model.specs.Safety.{IsPacket, ArePackets, IsAtRest, Beginning, IsSafeBeginning, IsPipeline, CanArrive, IsOfRun, AreSafe}
-use Rattle.dp_model.proofs.Kept.{get_within}
-use Rattle.dp_model.proofs.Counts.{tally, tally_live}
-use Rattle.dp_model.proofs.Owned.{fewer_owned}
-use Rattle.dp_model.proofs.OwnedSteps.{fewer_by}
-use Rattle.dp_model.proofs.WholeRuns.{nothing_listed, drained_ready}
-use Rattle.dp_model.proofs.RunSteps.{start_ready}
-use Rattle.dp_model.proofs.SafeTurns.{safe_never_stuck, turn_rest, turn_exists, turn_runs_safe}
+use Rattle.dp_model.specs.Safety.{IsAtRest, Beginning, IsSafeBeginning, IsPipeline, CanArrive, IsOfRun, AreSafe}
+use Rattle.dp_model.specs.Laws.Lists.{get_within}
+use Rattle.dp_model.proofs.Counts.{tally_live}
+use Rattle.dp_model.specs.Laws.Counts.{tally, fewer_owned, fewer_by}
+use Rattle.dp_model.proofs.WholeRuns.{drained_ready}
+use Rattle.dp_model.specs.Laws.Waiting.{nothing_listed}
+use Rattle.dp_model.specs.Laws.Runs.{safe_never_stuck, no_lists}
+use Rattle.dp_model.proofs.SafeTurns.{turn_rest, turn_exists, turn_runs_safe}
 
 -- ---- between turns
-
-pub nothing_mapped : {Z : Type 0} (zs : List Z) → segments_listed (map (λ _. []) zs) ≡ []
-nothing_mapped [] = refl
-nothing_mapped (z ∷ zs) = nothing_mapped zs
-
-pub no_lists : {Z : Type 0} (zs : List Z) → AllByRecursion (AllByRecursion IsPacket) (map (λ _. []) zs)
-no_lists [] = tt
-no_lists (z ∷ zs) = (tt, no_lists zs)
-
--- before the first record
-pub start_rest : (c : Setting) (w : World) → TablesFit c → IsStart c.env w → IsAtRest c w
-start_rest c w tables start = record { ready = start_ready c w tables start; owned = subst (AreOwned c.env.pools) (sym none) nobody; packets = no_packets }
-  where
-    none : live (between w) ≡ []
-    none = ap (λ rings. segments_listed rings ++ segments_listed w.outboxes) start.rings
-        ∙ (ap (λ boxes. segments_listed (map (λ _. []) c.env.rings) ++ segments_listed boxes) start.outboxes
-        ∙ (ap (λ xs. xs ++ segments_listed (map (λ _. []) c.env.ports)) (nothing_mapped c.env.rings) ∙ nothing_mapped c.env.ports))
-
-    no_packets : ArePackets (between w)
-    no_packets = record { held = tt; rings = subst (AllByRecursion (AllByRecursion IsPacket)) (sym start.rings) (no_lists c.env.rings); outboxes = subst (AllByRecursion (AllByRecursion IsPacket)) (sym start.outboxes) (no_lists c.env.ports) }
-
-    nobody : AreOwned c.env.pools []
-    nobody = record { mbufs = tt; once = tt; direct = tt }
 
 -- after the drains
 pub drained_rest : (c : Setting) (w : World) → IsAtRest c w → IsAtRest c (with_empty_outboxes w)
@@ -52,7 +26,6 @@ drained_rest c w rest = record {
 }
 
 -- ---- runs
-
 pub run_rest : {T : Type 0} (c : Setting) (nodes : Nodes) (arrivals : List (Arrival T)) (w w' : World) (told : List Bool) (outcomes : List Outcome) (captures : List (List (T × List ℕ))) → IsPipeline c nodes → IsAtRest c w → Run c nodes arrivals w told outcomes captures w' → IsAtRest c w'
 run_rest c nodes [] w w' told outcomes captures checked rest (_, _, _, is) = subst (IsAtRest c) (sym is) rest
 run_rest c nodes (a ∷ arrivals) w w' told outcomes captures checked rest (outcome, others, now, later, runs, mid, more, turn, run, _, _, _) =

@@ -1,34 +1,24 @@
 -- Sharing groups, when registers and references change.
-use Rattle.std.proofs.Common.{◌≡◌, ◌≢◌, ◌⊎◌, ℕ, zero, suc, ◌+◌, ◌-◌, ◌≤◌, Bool, true, false, cond, List, [], ◌∷◌, length, Option, Some, None, refl, sym, ◌∙◌, ap, subst, arith, inl, inr, ⊎_elim}
-use Rattle.std.specs.Prelude.{slice_get, slice_set, count_by, nat_le, ◌==◌}
+use Rattle.std.proofs.Common.{◌≡◌, ◌≢◌, ◌⊎◌, ℕ, zero, suc, ◌+◌, ◌≤◌, Bool, true, false, cond, List, [], ◌∷◌, length, Option, Some, None, refl, sym, ◌∙◌, ap, subst, arith, inl, inr, ⊎_elim}
+use Rattle.std.specs.Prelude.{slice_get, slice_set, count_by, ◌==◌}
 use Rattle.std.specs.List.{AllByRecursion}
-use Rattle.std.specs.Option.{option_map_or}
 use Rattle.std.proofs.lemmas.List.{length-set}
 use Rattle.std.proofs.lemmas.List.Sums.{sum_by-cons}
-use Rattle.std.proofs.lemmas.Bool.{leb-true, le-leb, eqb-true, eq-eqb, ne_eqb, cases_eq}
+use Rattle.std.proofs.lemmas.Bool.{eq-eqb, cases_eq}
 use Rattle.std.proofs.lemmas.Option.{same_Some}
 use Rattle.dp_model.specs.declared.row.Fact.{Fact}
-use Rattle.dp_model.specs.declared.row.Fact.TheVariants.{Empty, Held}
+use Rattle.dp_model.specs.declared.row.Fact.TheVariants.{Empty}
 use Rattle.dp_model.specs.Buffers.{Number, same_number}
 use Rattle.dp_model.specs.Packets.{Segment, Packet, refs}
 use Rattle.dp_model.specs.Machine.{segments_held}
-use Rattle.dp_model.specs.Groups.{group_of, is_in, size, share_of_group, belongs, buffers_of, GroupHolds, reshared_fact, reshared}
-use Rattle.dp_model.proofs.Refs.{refs-cons, refs-append, refs_of, refs_set, refs_first, get_set_other, get_set_same, one_if}
-use Rattle.dp_model.proofs.Fresh.{same_is}
+use Rattle.dp_model.specs.Groups.{is_in, size, share_of_group, belongs, buffers_of, GroupHolds, reshared}
+use Rattle.dp_model.specs.Laws.References.{refs-cons, refs-append, refs_of, refs_set, refs_first}
+use Rattle.dp_model.specs.Laws.Lists.{get_set_other, get_set_same}
+use Rattle.dp_model.specs.Laws.Cases.{one_if, by_cases}
+use Rattle.dp_model.specs.Laws.Stored.{same_is}
+use Rattle.dp_model.specs.Laws.Groups.{size-cons, size_same, belongs_at, belongs_there, belongs_other, belongs_set, other_group, in_one, belongs_in, belongs_out}
 
 -- ---- the registers of a group
-
-pub size-cons : (f : Fact) (facts : List Fact) (g : ℕ) → size (f ∷ facts) g ≡ one_if (is_in g f) + size facts g
-size-cons f facts g = sum_by-cons (λ x. cond (is_in g x) 1 0) f facts
-
--- as many registers where the same ones belong
-pub size_same : (xs ys : List Fact) (g h : ℕ) → length xs ≡ length ys → ((i : ℕ) → belongs xs g i ≡ belongs ys h i) → size xs g ≡ size ys h
-size_same [] [] g h e same = refl
-size_same [] (y ∷ ys) g h e same = absurd (omega arith)
-size_same (x ∷ xs) [] g h e same = absurd (omega arith)
-size_same (x ∷ xs) (y ∷ ys) g h e same =
-    let here : one_if (is_in g x) ≡ one_if (is_in h y) = ap one_if (same 0) in
-    omega (arith, here, size-cons x xs g, size-cons y ys h, size_same xs ys g h (omega arith) (λ i. same (suc i)))
 
 -- none where none belongs
 pub size_none : (xs : List Fact) (g : ℕ) → ((i : ℕ) → belongs xs g i ≡ false) → size xs g ≡ 0
@@ -46,22 +36,6 @@ size_set (x ∷ facts) zero f f' g e =
 size_set (x ∷ facts) (suc p) f f' g e =
     omega (arith, size_set facts p f f' g e, size-cons x facts g, size-cons x (slice_set facts p f') g)
 
-pub belongs_at : (facts : List Fact) (g p : ℕ) (f : Fact) → slice_get facts p ≡ Some f → belongs facts g p ≡ is_in g f
-belongs_at facts g p f e = ap (λ o. option_map_or (is_in g) o false) e
-
-pub belongs_there : (facts : List Fact) (g p : ℕ) → belongs facts g p ≡ true → (f : Fact) × (slice_get facts p ≡ Some f) × (is_in g f ≡ true)
-belongs_there facts g p h = go (slice_get facts p) refl
-  where
-    go : (o : Option Fact) → slice_get facts p ≡ o → (f : Fact) × (slice_get facts p ≡ Some f) × (is_in g f ≡ true)
-    go None e = let no : false ≡ true = sym (ap (λ o. option_map_or (is_in g) o false) e) ∙ h in cc
-    go (Some f) e = (f, e, sym (belongs_at facts g p f e) ∙ h)
-
-pub belongs_other : (facts : List Fact) (g p i : ℕ) (f : Fact) → i ≢ p → belongs (slice_set facts p f) g i ≡ belongs facts g i
-belongs_other facts g p i f ne = ap (λ o. option_map_or (is_in g) o false) (get_set_other facts p i f ne)
-
-pub belongs_set : (facts : List Fact) (g p : ℕ) (f f' : Fact) → slice_get facts p ≡ Some f → belongs (slice_set facts p f') g p ≡ is_in g f'
-belongs_set facts g p f f' e = belongs_at (slice_set facts p f') g p f' (get_set_same facts p f' f e)
-
 -- a register of the group, or none
 pub member_or_none : (facts : List Fact) (g : ℕ) → ((i : ℕ) × (belongs facts g i ≡ true)) ⊎ ((i : ℕ) → belongs facts g i ≡ false)
 member_or_none [] g = inr (λ i. refl)
@@ -77,7 +51,6 @@ member_or_none (f ∷ facts) g = go (is_in g f) refl (member_or_none facts g)
         each (suc i) = none i
 
 -- ---- the buffers of a packet
-
 pub refs_counted : (k : Packet) (b : Number) → refs k b ≡ count_by (λ n. same_number n b) (buffers_of k)
 refs_counted [] b = refl
 refs_counted (s ∷ k) b =
@@ -102,7 +75,6 @@ all_counted P [] each = tt
 all_counted P (s ∷ k) each = (each s.buffer (refs_first s k), all_counted P k (λ b one. each b (omega (arith, one, refs-cons s k b))))
 
 -- ---- what a group has
-
 module _ (live : List Segment) (facts : List Fact) (packets : List (Option Packet)) (g : ℕ) where
   -- the buffers of a register of the group have as many references as the group has registers
   pub group_refs : GroupHolds live facts packets g → (p : ℕ) (k : Packet) (b : Number) → belongs facts g p ≡ true → slice_get packets p ≡ Some (Some k) → 1 ≤ refs k b → refs live b ≡ size facts g
@@ -132,7 +104,6 @@ module _ (live : List Segment) (facts : List Fact) (packets : List (Option Packe
       no p h = let e : false ≡ true = sym (none p) ∙ h in cc
 
 -- ---- a group has all references to its buffers
-
 held-cons : (o : Option Packet) (packets : List (Option Packet)) (b : Number) → refs (segments_held (o ∷ packets)) b ≡ refs_of o b + refs (segments_held packets) b
 held-cons None packets b = omega arith
 held-cons (Some k) packets b = refs-append k (segments_held packets) b
@@ -184,7 +155,6 @@ own_le facts packets g b p k each in_it there =
     omega (arith, c, unit, size_set facts p f Empty g at_f, refs_set packets p (Some k) None b there)
 
 -- ---- groups that stay
-
 -- the register has a packet with the same buffers
 abbrev pub HasAlike : List (Option Packet) → ℕ → Packet → Type 0
 HasAlike packets i k = (t : Packet) × (slice_get packets i ≡ Some (Some t)) × (buffers_of t ≡ buffers_of k)
@@ -208,7 +178,6 @@ group_stays live live' facts facts' packets packets' g h holds long same alike r
         (λ b one. refs_same p k b in_it at one ∙ (group_refs live facts packets g holds p k b in_it at one ∙ size_same facts facts' g h (sym long) (λ i. sym (same i))))
 
 -- ---- who has references to the buffers of a group
-
 module _ (live : List Segment) (facts : List Fact) (packets : List (Option Packet)) (g : ℕ) where
   -- what is held is live
   abbrev pub AreLive : Type 0
@@ -232,7 +201,6 @@ module _ (live : List Segment) (facts : List Fact) (packets : List (Option Packe
       omega (arith, one, same, ap (λ x. refs x b) is, are b, group_refs live facts packets g h i k b inside at one, own_le facts packets g b p j (all_refer h i k b inside at one) here there)
 
 -- ---- a register set, with a fact of the same groups and the same buffers
-
 pub groups_set : (live live' : List Segment) (facts : List Fact) (packets : List (Option Packet)) (p : ℕ) (old f : Fact) (o : Option Packet) → ((g : ℕ) → GroupHolds live facts packets g) → slice_get facts p ≡ Some old → ((g : ℕ) → is_in g f ≡ is_in g old) → ((g : ℕ) (k : Packet) → is_in g old ≡ true → slice_get packets p ≡ Some (Some k) → (t : Packet) × (o ≡ Some t) × (buffers_of t ≡ buffers_of k)) → ((g i : ℕ) (k : Packet) (b : Number) → belongs facts g i ≡ true → slice_get packets i ≡ Some (Some k) → 1 ≤ refs k b → refs live' b ≡ refs live b) → (g : ℕ) → GroupHolds live' (slice_set facts p f) (slice_set packets p o) g
 groups_set live live' facts packets p old f o holds there groups like same g =
     group_stays live live' facts (slice_set facts p f) packets (slice_set packets p o) g g (holds g) (length-set facts p f)
@@ -251,7 +219,6 @@ groups_set live live' facts packets p old f o holds there groups like same g =
     (same g)
 
 -- ---- a packet is freed: its register leaves the group
-
 pub groups_freed : (live live' : List Segment) (facts : List Fact) (packets : List (Option Packet)) (p : ℕ) (k : Packet) → ((g : ℕ) → GroupHolds live facts packets g) → ((b : Number) → refs (segments_held packets) b ≤ refs live b) → slice_get packets p ≡ Some (Some k) → (f : Fact) → slice_get facts p ≡ Some f → ((b : Number) → refs live' b + refs k b ≡ refs live b) → (g : ℕ) → GroupHolds live' (slice_set facts p Empty) (slice_set packets p None) g
 groups_freed live live' facts packets p k holds are there f at_f gone g = go (is_in g f) refl
   where
@@ -290,80 +257,12 @@ groups_freed live live' facts packets p k holds are there f at_f gone g = go (is
         (λ i t b inside at one. omega (arith, gone b, other_refs live facts packets g (holds g) are p (Some k) out there i t b inside at one))
 
 -- ---- the registers of a group get another share
-
-not_group : (g : ℕ) → (0 == share_of_group g) ≡ false
-not_group g = ne_eqb 0 (8 + g) (λ e. absurd (omega (arith, e)))
-
-pub sole_no_group : (g : ℕ) → (2 == share_of_group g) ≡ false
-sole_no_group g = ne_eqb 2 (8 + g) (λ e. absurd (omega (arith, e)))
-
-pub loose_no_group : (g : ℕ) → (0 == share_of_group g) ≡ false
-loose_no_group g = not_group g
-
 pub same_group : (m x : ℕ) → m ≡ x → (share_of_group m == share_of_group x) ≡ true
 same_group m x e = eq-eqb (8 + m) (8 + x) (ap share_of_group e)
-
-pub other_group : (m x : ℕ) → m ≢ x → (share_of_group m == share_of_group x) ≡ false
-other_group m x ne = ne_eqb (8 + m) (8 + x) (λ e. ne (omega (arith, e)))
-
--- the group of a register is the one to which it belongs
-pub is_in_group : (g : ℕ) (f : Fact) → is_in g f ≡ true → group_of f ≡ Some g
-is_in_group g Empty e = cc
-is_in_group g (Held share head tail first last segs) e =
-    let is : share ≡ 8 + g = eqb-true share (8 + g) e in
-    let above : nat_le 8 share ≡ true = le-leb 8 share (omega (arith, is)) in
-    let less : share - 8 ≡ g = omega (arith, is) in
-    ap (λ t. cond t (Some (share - 8)) None) above ∙ ap Some less
-
-pub group_is : (g : ℕ) (f : Fact) → group_of f ≡ Some g → is_in g f ≡ true
-group_is g Empty e = cc
-group_is g (Held share head tail first last segs) e = go (nat_le 8 share) refl
-  where
-    go : (b : Bool) → nat_le 8 share ≡ b → (share == share_of_group g) ≡ true
-    go true above =
-        let is : share - 8 ≡ g = same_Some (share - 8) g (sym (ap (λ t. cond t (Some (share - 8)) None) above) ∙ e) in
-        eq-eqb share (8 + g) (omega (arith, is, leb-true 8 share above))
-    go false below = let wrong : None ≡ Some g = sym (ap (λ t. cond t (Some (share - 8)) None) below) ∙ e in cc
-
--- a register belongs to one group
-pub is_in_one : (g x : ℕ) (f : Fact) → is_in g f ≡ true → is_in x f ≡ true → g ≡ x
-is_in_one g x Empty e h = cc
-is_in_one g x (Held share head tail first last segs) e h = omega (arith, eqb-true share (8 + g) e, eqb-true share (8 + x) h)
-
-pub in_one : (facts : List Fact) (g x i : ℕ) → x ≢ g → belongs facts g i ≡ true → belongs facts x i ≡ false
-in_one facts g x i ne inside = go (belongs facts x i) refl
-  where
-    go : (t : Bool) → belongs facts x i ≡ t → belongs facts x i ≡ false
-    go false e = e
-    go true e =
-        let (f, at, is) = belongs_there facts g i inside in
-        absurd (ne (sym (is_in_one g x f is (sym (belongs_at facts x i f at) ∙ e))))
-
-reshared_in : (x g share : ℕ) (f : Fact) → is_in g f ≡ true → is_in x (reshared_fact g share f) ≡ (share == share_of_group x)
-reshared_in x g share Empty e = cc
-reshared_in x g share (Held old head tail first last segs) e = ap (λ t. cond t share old == share_of_group x) e
-
-reshared_out : (x g share : ℕ) (f : Fact) → is_in g f ≡ false → is_in x (reshared_fact g share f) ≡ is_in x f
-reshared_out x g share Empty e = refl
-reshared_out x g share (Held old head tail first last segs) e = ap (λ t. cond t share old == share_of_group x) e
-
-pub belongs_in : (facts : List Fact) (x g share i : ℕ) → belongs facts g i ≡ true → belongs (reshared g share facts) x i ≡ (share == share_of_group x)
-belongs_in [] x g share i e = cc
-belongs_in (f ∷ facts) x g share zero e = reshared_in x g share f e
-belongs_in (f ∷ facts) x g share (suc i) e = belongs_in facts x g share i e
-
-pub belongs_out : (facts : List Fact) (x g share i : ℕ) → belongs facts g i ≡ false → belongs (reshared g share facts) x i ≡ belongs facts x i
-belongs_out [] x g share i e = refl
-belongs_out (f ∷ facts) x g share zero e = reshared_out x g share f e
-belongs_out (f ∷ facts) x g share (suc i) e = belongs_out facts x g share i e
 
 pub length_reshared : (g share : ℕ) (facts : List Fact) → length (reshared g share facts) ≡ length facts
 length_reshared g share [] = refl
 length_reshared g share (f ∷ facts) = ap suc (length_reshared g share facts)
-
-pub by_cases : {G : Type 0} (b : Bool) → (b ≡ true → G) → (b ≡ false → G) → G
-by_cases true f g = f refl
-by_cases false f g = g refl
 
 module _ (live : List Segment) (facts : List Fact) (packets : List (Option Packet)) where
   -- another group stays as it is
@@ -407,7 +306,6 @@ module _ (live : List Segment) (facts : List Fact) (packets : List (Option Packe
           (λ i k inside at. (k, at, refl)) (λ i k b inside at one. refl)
 
 -- ---- a clone joins the groups of its source
-
 pub groups_cloned : (live live' : List Segment) (facts : List Fact) (packets : List (Option Packet)) (p q : ℕ) (old f : Fact) (k k' : Packet) → ((g : ℕ) → GroupHolds live facts packets g) → ((b : Number) → refs (segments_held packets) b ≤ refs live b) → slice_get facts p ≡ Some old → ((g : ℕ) → is_in g old ≡ false) → slice_get facts q ≡ Some f → slice_get packets p ≡ Some None → slice_get packets q ≡ Some (Some k) → buffers_of k' ≡ buffers_of k → ((b : Number) → refs live' b ≡ refs live b + refs k b) → (g : ℕ) → GroupHolds live' (slice_set facts p f) (slice_set packets p (Some k')) g
 groups_cloned live live' facts packets p q old f k k' holds are at_p none at_q empty there alike more g = by_cases (is_in g f) joins beside
   where

@@ -11,13 +11,13 @@ use Rattle.dp_model.specs.Buffers.{Number, Buffers, same_number}
 use Rattle.dp_model.specs.Packets.{Segment, Packet, refs, headroom, tailroom, first_len, last_len, IsHeadSole, IsTailSole, IsWithin, AreOwned, Lies, needed, allocated, received, cloned, at_front, at_end, more_before, less_before, more_behind, less_behind, zeroed_before, zeroed_behind, stored}
 use Rattle.dp_model.specs.Machine.{Setting, State, live, segments_held, Acts, with_packet, with_buffers, goes_on}
 use Rattle.dp_model.specs.Stores.{Store, segments_of, Has, with_slot, Becomes, unwritten, Allocates, ReceivesInto, Clones, Chains, IsWellFormedStore}
-use Rattle.dp_model.proofs.Refs.{refs_set, refs_held}
+use Rattle.dp_model.specs.Laws.References.{refs_set, refs_held}
 use Rattle.dp_model.proofs.SoundClone.{refs_cloned, set_same}
 use Rattle.dp_model.proofs.Counts.{tally_set, tally_front, tally_end, tally_chain}
 use Rattle.dp_model.proofs.Owned.{times, more_owned, MayCome, allocated_direct, received_direct, direct_comes, clone_comes}
 use Rattle.dp_model.proofs.OwnedSteps.{HasOwners, acts_owned, more_by}
-use Rattle.dp_model.proofs.Within.{IsInside, inside_set, inside_held, changes_within, lies_allocated, lies_cloned, stored_within, acts_within}
-use Rattle.dp_model.proofs.Begin.{lies_received, needed_holds}
+use Rattle.dp_model.specs.Laws.StepsWithin.{inside_set, changes_within, lies_allocated, lies_cloned, stored_within, acts_within}
+use Rattle.dp_model.specs.Laws.Places.{IsInside, inside_held, lies_received, needed_holds}
 
 -- ---- references of every buffer
 

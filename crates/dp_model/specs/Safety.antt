@@ -11,7 +11,7 @@ use Rattle.dp_model.specs.Buffers.{Number, Buffers}
 use Rattle.dp_model.specs.Packets.{Packet, needed, received, Filled, AreFresh, AreOwned, IsWellFormed}
 use Rattle.dp_model.specs.Rows.{entry_row}
 use Rattle.dp_model.specs.Rules.{Question, IsCertified}
-use Rattle.dp_model.specs.Machine.{Setting, World, State, live, Next, At, Move, Step, is_denied}
+use Rattle.dp_model.specs.Machine.{Setting, World, State, live, Next, At, Move, Acts, IsPlace, Step, with_step, is_denied}
 use Rattle.dp_model.specs.Meaning.{RowHolds, RingHolds}
 use Rattle.dp_model.specs.Runs.{Goes, first_state, NodeRun, most_steps, NeverStuck, between, Outcome, Got, NoBuffer, Oversize, Arrives, Waiting, first_waiting, Nodes, Turn, Arrival, Run}
 use Rattle.dp_model.specs.Laws.{RowHoldsAt, Ready, Begins, AreChecked}
@@ -168,6 +168,26 @@ pub record IsPipeline (c : Setting) (nodes : Nodes) : Type 0 where
   pub ports : length nodes.ports ≡ length c.env.ports
   pub rings : length nodes.rings ≡ length c.env.rings
 
+-- what each of its instructions does leads to one of them, or ends the node run, wherever the run comes
+abbrev pub LeadsWithin : Setting → Beginning → Type 0
+LeadsWithin c b =
+    (n label : ℕ) (told : List Bool) (s : State) (i : Instr) (m : Move) →
+    Goes c b.program n 0 (first_state b.packet b.number b.world) told (At label) s → slice_get b.program label ≡ Some i → Acts c label (with_step s) i m →
+    IsPlace b.program m.next
+
+-- what holds of the node runs of every pipeline, from a world at rest on, whatever comes
+pub record KeepsSafe (c : Setting) (nodes : Nodes) : Type 0 where
+  -- those of a turn are safe
+  pub turn_runs : (port : ℕ) (bytes : List ℕ) (w : World) (b : Beginning) → IsAtRest c w → IsOfTurn c nodes port bytes w b → IsSafeBeginning c b
+  -- so is the next one on a packet of a ring
+  pub waiting : (next : Waiting) (program : List Instr) (w : World) → IsAtRest c w → first_waiting w.rings ≡ Some next → slice_get nodes.rings next.ring ≡ Some program →
+      IsSafeBeginning c (record { entry = Ring next.ring; program = program; packet = next.packet; number = next.ring; world = record w { rings = next.rings } })
+  -- a safe one goes from instruction to instruction
+  pub leads : (b : Beginning) → IsSafeBeginning c b → LeadsWithin c b
+  -- whatever becomes of a record, the world is at rest again
+  pub arrives : (program : List Instr) (port : ℕ) (spec : PortSpec) (bytes : List ℕ) (w w' : World) (outcome : Outcome) (told : List Bool) → slice_get nodes.ports port ≡ Some program →
+      slice_get c.env.ports port ≡ Some spec → IsAtRest c w → Arrives c program port spec bytes w outcome told w' → IsAtRest c w'
+
 -- no program has more instructions than that
 abbrev pub AreShort : ℕ → List (List Instr) → Type 0
 AreShort most programs = (i : ℕ) (program : List Instr) → slice_get programs i ≡ Some program → length program ≤ most
@@ -198,4 +218,11 @@ pub record AreSafe {T : Type 0} (c : Setting) (nodes : Nodes) (arrivals : List (
   -- there is such a run
   pub exists : (told : List Bool) × (outcomes : List Outcome) × (captures : List (List (T × List ℕ))) × (w' : World) × Run c nodes arrivals w told outcomes captures w'
   -- and where it ends the next record can come
+  pub rests : (told : List Bool) (outcomes : List Outcome) (captures : List (List (T × List ℕ))) (w' : World) → Run c nodes arrivals w told outcomes captures w' → IsAtRest c w'
+
+-- what holds of whole runs of every pipeline, whatever comes
+pub record KeepsRunsSafe {T : Type 0} (c : Setting) (nodes : Nodes) (arrivals : List (Arrival T)) (w : World) : Type 0 where
+  -- their node runs are safe
+  pub runs : (b : Beginning) → IsOfRun c nodes arrivals w b → IsSafeBeginning c b
+  -- and where such a run ends the next record can come
   pub rests : (told : List Bool) (outcomes : List Outcome) (captures : List (List (T × List ℕ))) (w' : World) → Run c nodes arrivals w told outcomes captures w' → IsAtRest c w'

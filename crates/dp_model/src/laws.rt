@@ -8,7 +8,7 @@ ghost use Rattle.dp_model.specs.Meaning.{TablesFit};
 ghost use Rattle.dp_model.specs.Packets.{Packet};
 ghost use Rattle.dp_model.specs.Rules.{Question, IsCertified};
 ghost use Rattle.dp_model.specs.Runs.{Nodes, Outcome, Turn, Arrival};
-ghost use Rattle.dp_model.specs.Safety.{BeginsWell, IsSafeRun, IsAtRest, IsPipeline, AreShort, IsSafeTurn, CanArrive, AreSafe};
+ghost use Rattle.dp_model.specs.Safety.{BeginsWell, IsSafeRun, IsAtRest, IsPipeline, AreShort, IsSafeTurn, CanArrive, AreSafe, KeepsSafe, KeepsRunsSafe};
 ghost use Rattle.dp_model.specs.Starts.{IsStart};
 ghost use Rattle.dp_model.specs.declared.env.PortSpec.{PortSpec};
 
@@ -43,4 +43,16 @@ pub fn accepted_programs_are_sound()
 pub fn turns_stay_ready()
     ensures { (c : Setting) (nodes : Nodes) (port : ℕ) (bytes : List ℕ) (w w' : World) (outcome : Outcome) (runs : ℕ) (told : List Bool) →
         AreChecked c nodes → Ready c w → Turn c nodes port bytes w outcome runs told w' → Ready c w' }
+{}
+
+/// The node runs of every pipeline are safe, whatever comes: those of each turn, and that on the packet that waits next; each goes from
+/// instruction to instruction; and whatever becomes of a record, the world is at rest again. This is the form that an engine cites.
+pub fn pipelines_keep_safe()
+    ensures { (c : Setting) (nodes : Nodes) → IsPipeline c nodes → KeepsSafe c nodes }
+{}
+
+/// The same of whole runs from the start on. A `T` is the time of a record.
+pub fn runs_keep_safe<T>()
+    ensures { (c : Setting) (nodes : Nodes) (arrivals : List (Arrival T)) (w : World) →
+        TablesFit c → IsPipeline c nodes → IsStart c.env w → KeepsRunsSafe c nodes arrivals w }
 {}

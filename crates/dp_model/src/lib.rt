@@ -15,7 +15,10 @@ mod words;
 pub use after::{Lead, Leads};
 pub use env::{Entry, Env, EnvError, PoolSpec, PortSpec, RingSpec};
 pub use instr::Instr;
-pub use laws::{accepted_programs_are_safe, accepted_programs_are_sound, turns_stay_ready};
+pub use laws::{
+    accepted_programs_are_safe, accepted_programs_are_sound, pipelines_keep_safe, runs_keep_safe,
+    turns_stay_ready,
+};
 pub use layer::{Packet, PacketLayer};
 pub use registers::{NumberRegister, Operand, PacketRegister, Width};
 pub use row::{Fact, Row};

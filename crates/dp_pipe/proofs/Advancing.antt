@@ -18,7 +18,7 @@ use Rattle.dp_pcap.specs.Source.{WhereKnown, HasRead, Continues, ReadsOn, IsInRa
 use Rattle.dp_pcap.specs.Text.{record_text}
 use Rattle.dp_model.specs.Machine.{World}
 use Rattle.dp_model.specs.Runs.{records_at, joined, interleaved, Arrival}
-use Rattle.dp_model.proofs.Refs.{get_set_other, get_set_same}
+use Rattle.dp_model.specs.Laws.Lists.{get_set_other, get_set_same}
 use Rattle.dp_engine.specs.declared.report.InputState.{InputState}
 use Rattle.dp_engine.specs.declared.report.InputState.TheVariants.{Open, Whole, Cut}
 use Rattle.dp_pipe.specs.declared.forwarding.Progress.{Progress}

@@ -3,7 +3,7 @@ use Rattle.std.proofs.Common.{◌≡◌, ◌≢◌, ◌⊎◌, inl, inr, ◌↔�
 use Rattle.std.specs.Prelude.{slice_get, slice_set, ◌==◌, if◌then◌else◌, IsTrue, IsOk, IsErrOf}
 use Rattle.std.proofs.lemmas.Bool.{eq-eqb, ne_eqb}
 use Rattle.std.proofs.lemmas.Option.{same_Some, slice_get_within}
-use Rattle.dp_model.proofs.Refs.{get_set_other}
+use Rattle.dp_model.specs.Laws.Lists.{get_set_other}
 use Rattle.dp_pcap.specs.declared.error.PcapError.{PcapError}
 use Rattle.dp_pcap.specs.declared.error.PcapError.TheVariants.{Read}
 use Rattle.dp_pcap.specs.declared.time.Unit.{Unit as TimeUnit}

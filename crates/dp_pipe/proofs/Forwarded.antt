@@ -15,7 +15,7 @@ use Rattle.dp_pcap.specs.Text.{record_text}
 use Rattle.dp_model.specs.Packets.{Packet, packet_bytes}
 use Rattle.dp_model.specs.Machine.{World}
 use Rattle.dp_model.specs.Runs.{records_at}
-use Rattle.dp_model.proofs.Refs.{get_set_other, get_set_same}
+use Rattle.dp_model.specs.Laws.Lists.{get_set_other, get_set_same}
 use Rattle.dp_engine.specs.declared.report.Tallies.{Tallies}
 use Rattle.dp_engine.specs.Drains.{captured, WrotePart}
 use Rattle.dp_engine.specs.Engines.{EngineState, tallies_at, sent_at, drained, no_tallies}

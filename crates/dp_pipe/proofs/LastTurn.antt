@@ -12,7 +12,7 @@ use Rattle.dp_pcap.specs.Capture.{PacketRecord}
 use Rattle.dp_pcap.specs.Text.{header_text, record_text, text}
 use Rattle.dp_model.specs.Machine.{Setting}
 use Rattle.dp_model.specs.Runs.{Outcome, Nodes, Turn, Run, records_at, joined, with_empty_outboxes}
-use Rattle.dp_model.proofs.RunSteps.{run_push}
+use Rattle.dp_model.specs.Laws.Runs.{run_push}
 use Rattle.dp_engine.specs.declared.report.Tallies.{Tallies}
 use Rattle.dp_engine.specs.Drains.{captured}
 use Rattle.dp_engine.specs.Engines.{EngineState, no_tallies, tallies_at, counted_at, sent_at}

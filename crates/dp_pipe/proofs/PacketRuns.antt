@@ -9,11 +9,10 @@ use Rattle.dp_model.specs.Environments.{fault_of}
 use Rattle.dp_model.specs.Machine.{Setting, World}
 use Rattle.dp_model.specs.Meaning.{TablesFit}
 use Rattle.dp_model.specs.Runs.{Nodes, Arrival, Outcome, Run}
-use Rattle.dp_model.specs.Safety.{IsPipeline}
+use Rattle.dp_model.specs.Safety.{IsPipeline, KeepsRunsSafe}
 use Rattle.dp_model.specs.Starts.{IsStart}
-use Rattle.dp_model.proofs.SafeTurns.{safe_never_stuck}
-use Rattle.dp_model.proofs.SafeWhole.{start_rest, run_rest, run_runs_safe}
-use Rattle.dp_copies.proofs.Corollaries.{accepted_runs_copy}
+use Rattle.dp_model.specs.Laws.Runs.{safe_never_stuck}
+use Rattle.dp_model.specs.CopyMachine.{Captures}
 use Rattle.dp_engine.specs.declared.report.Tallies.{Tallies}
 use Rattle.dp_engine.specs.Drains.{captured}
 use Rattle.dp_engine.specs.Engines.{EngineState, no_tallies, tallies_at}
@@ -24,11 +23,25 @@ use Rattle.dp_pipe.specs.Running.{setting_in, programs_in}
 use Rattle.dp_pipe.proofs.Advancing.{mid_of}
 use Rattle.dp_pipe.proofs.Numbers.{IsCounted}
 
+-- the laws of runs that a run of a pipeline rests on: its node runs are safe, and its captures are those of the copies
+pub record AreLaws : Type 0 where
+  pub safe : (c : Setting) (nodes : Nodes) (arrivals : List (Arrival Time)) (w : World) → TablesFit c → IsPipeline c nodes → IsStart c.env w
+      → KeepsRunsSafe c nodes arrivals w
+  pub copies : (c : Setting) (nodes : Nodes) (arrivals : List (Arrival Time)) (w w' : World) (told : List Bool) (outcomes : List Outcome)
+      (captures : List (List (Time × List ℕ))) → fault_of c.env ≡ None → IsStart c.env w → Run c nodes arrivals w told outcomes captures w'
+      → Captures c.env c.tables nodes arrivals told captures w'.cuts
+
 -- a pipeline of checked programs, within the limits, whose tables are as its environment says
 pub record IsReady (p : Plan) (pattern : List ℕ) : Type 0 where
   pub limits : fault_of p.env ≡ None
   pub pipeline : IsPipeline (setting_in p pattern) (programs_in p)
   pub tables : TablesFit (setting_in p pattern)
+  pub laws : AreLaws
+
+-- so its runs are safe
+safe_runs : (p : Plan) (pattern : List ℕ) (arrivals : List (Arrival Time)) (w : World) → IsReady p pattern → IsStart p.env w
+    → KeepsRunsSafe (setting_in p pattern) (programs_in p) arrivals w
+safe_runs p pattern arrivals w ready start = ready.laws.safe (setting_in p pattern) (programs_in p) arrivals w ready.tables ready.pipeline start
 
 abbrev pub packet_run : (p : Plan) (pattern : List ℕ) (arrivals : List (Arrival Time)) (first last : World) (told : List Bool) (outcomes : List Outcome) (captures : List (List (Time × List ℕ)))
     → IsReady p pattern → IsStart p.env first → Run (setting_in p pattern) (programs_in p) arrivals first told outcomes captures last → PacketRun p pattern arrivals
@@ -40,9 +53,8 @@ packet_run p pattern arrivals first last told outcomes captures ready start run 
   captures = captures;
   last = last;
   run = run;
-  never_stuck = λ b of. safe_never_stuck (setting_in p pattern) b
-      (run_runs_safe (setting_in p pattern) (programs_in p) arrivals first b ready.pipeline (start_rest (setting_in p pattern) first ready.tables start) of);
-  copies = accepted_runs_copy (setting_in p pattern) (programs_in p) arrivals first last told outcomes captures ready.limits start run;
+  never_stuck = λ b of. safe_never_stuck (setting_in p pattern) b ((safe_runs p pattern arrivals first ready start).runs b of);
+  copies = ready.laws.copies (setting_in p pattern) (programs_in p) arrivals first last told outcomes captures ready.limits start run;
 }
 
 zip_length : {X Y : Type 0} (P : X → Y → Type 0) (xs : List X) (ys : List Y) → AllZip P xs ys → length ys ≡ length xs
@@ -54,8 +66,7 @@ zip_length P (x ∷ xs) (y ∷ ys) all = ap suc (zip_length P xs ys all.1)
 -- behind a run every ring is there
 pub rings_there : (p : Plan) (pattern : List ℕ) (arrivals : List (Arrival Time)) → IsReady p pattern → (run : PacketRun p pattern arrivals) → length run.last.rings ≡ length p.env.rings
 rings_there p pattern arrivals ready run =
-    let rest = run_rest (setting_in p pattern) (programs_in p) arrivals run.first run.last run.told run.outcomes run.captures ready.pipeline
-    (start_rest (setting_in p pattern) run.first ready.tables run.start) run.run in
+    let rest = (safe_runs p pattern arrivals run.first ready run.start).rests run.told run.outcomes run.captures run.last run.run in
     zip_length _ p.env.rings run.last.rings rest.ready.world.rings
 
 -- an engine before its first turn

@@ -10,9 +10,9 @@ use Rattle.dp_model.specs.Rules.{Question}
 use Rattle.std.specs.List.{AllByRecursion}
 use Rattle.dp_lpm.specs.Routes.{RouteTable}
 use Rattle.dp_check.specs.Faults.{IsChecked}
-use Rattle.dp_engine.proofs.Pipelines.{plan_of}
+use Rattle.dp_engine.specs.Laws.{plan_of}
 use Rattle.dp_pipe.proofs.Heading.{order}
-use Rattle.dp_pipe.proofs.PacketRuns.{IsReady}
+use Rattle.dp_pipe.proofs.PacketRuns.{IsReady, AreLaws}
 use Rattle.dp_pipe.specs.declared.nodes.How.{How}
 use Rattle.dp_pipe.specs.Setup.{NodeFiles}
 use Rattle.dp_pipe.specs.Files.{FileMap}
@@ -87,14 +87,14 @@ all_checked env nodes h k q at = go (order k (length env.ports))
     go (inl less) = (h.ports k q less at).checked
     go (inr most) = (h.rings (k - length env.ports) q (ap (slice_get nodes) (omega (arith, most)) ∙ at)).checked
 
-is_ready : (p : Plan) (pattern : List ℕ) → fault_of p.env ≡ None → IsPlan p → ((k : ℕ) (t : RouteTable) → slice_get p.tables k ≡ Some t → AllByRecursion (λ (route : Route). route.hop ≤ 16777215) t.routes) → IsReady p pattern
-is_ready p pattern limits plan hops =
+is_ready : (p : Plan) (pattern : List ℕ) → fault_of p.env ≡ None → IsPlan p → ((k : ℕ) (t : RouteTable) → slice_get p.tables k ≡ Some t → AllByRecursion (λ (route : Route). route.hop ≤ 16777215) t.routes) → AreLaws → IsReady p pattern
+is_ready p pattern limits plan hops laws =
     let engine = plan_of p.env p.tables p.nodes pattern limits (are_nodes p.env p.nodes plan.nodes) plan.tables (all_checked p.env p.nodes plan.nodes) hops in
-    record { limits = limits; pipeline = engine.pipeline; tables = engine.tables_fit }
+    record { limits = limits; pipeline = engine.pipeline; tables = engine.tables_fit; laws = laws }
 
 -- the same of its parts
 pub is_ready_in : (p : Plan) (pattern : List ℕ) (env : Environment) (tables told : List RouteTable) → env ≡ p.env → tables ≡ p.tables → told ≡ tables → fault_of env ≡ None → IsPlan p
-    → ((k : ℕ) (t : RouteTable) → slice_get told k ≡ Some t → AllByRecursion (λ (route : Route). route.hop ≤ 16777215) t.routes) → IsReady p pattern
-is_ready_in p pattern env tables told env_is tables_are told_are limits plan hops =
+    → ((k : ℕ) (t : RouteTable) → slice_get told k ≡ Some t → AllByRecursion (λ (route : Route). route.hop ≤ 16777215) t.routes) → AreLaws → IsReady p pattern
+is_ready_in p pattern env tables told env_is tables_are told_are limits plan hops laws =
     is_ready p pattern (subst (λ e. fault_of e ≡ None) env_is limits) plan
-    (subst (λ (l : List RouteTable). (k : ℕ) (t : RouteTable) → slice_get l k ≡ Some t → AllByRecursion (λ (route : Route). route.hop ≤ 16777215) t.routes) (told_are ∙ tables_are) hops)
+    (subst (λ (l : List RouteTable). (k : ℕ) (t : RouteTable) → slice_get l k ≡ Some t → AllByRecursion (λ (route : Route). route.hop ≤ 16777215) t.routes) (told_are ∙ tables_are) hops) laws

@@ -11,7 +11,7 @@ use Rattle.dp_pcap.specs.Capture.{PacketRecord}
 use Rattle.dp_model.specs.Packets.{Packet}
 use Rattle.dp_model.specs.Machine.{Setting, World}
 use Rattle.dp_model.specs.Runs.{Arrival, Outcome, Got, NoBuffer, Oversize, Nodes, Turn, Run, records_at, joined, with_empty_outboxes}
-use Rattle.dp_model.proofs.RunSteps.{run_push}
+use Rattle.dp_model.specs.Laws.Runs.{run_push}
 use Rattle.dp_engine.specs.declared.report.Tallies.{Tallies}
 use Rattle.dp_engine.specs.Drains.{captured}
 use Rattle.dp_engine.specs.Tallies.{counted}

@@ -18,10 +18,11 @@ ghost use Rattle.dp_pipe.specs.Running as spec;
 use crate::forwarding::{Progress, RunCause, rounds};
 use crate::pipeline::Pipeline;
 use arrayvec::ArrayVec;
+use dp_copies::clones_are_copies;
 use dp_engine::{Engine, InputState, OpenFault, PoolReport, PortReport, Report};
 use dp_lpm::Lpm;
-use dp_model::{Env, PoolSpec, PortSpec, RingSpec};
-use dp_pcap::{Feed, Sink, Unit, put_header, read_header};
+use dp_model::{Env, PoolSpec, PortSpec, RingSpec, runs_keep_safe};
+use dp_pcap::{Feed, Sink, Time, Unit, put_header, read_header};
 use dp_region::Region;
 use std::alloc::Global;
 
@@ -323,6 +324,9 @@ pub fn run<R: Feed, W: Sink>(
     let (env, tables, nodes) = pipeline.into_parts();
     env.within_limits();
     tell_hops(tables.as_slice());
+    // The laws of such runs.
+    runs_keep_safe::<Time>();
+    clones_are_copies::<Time>();
     match Engine::open(region, &env, tables, nodes) {
         Ok(mut engine) => {
             engine.refuse(pattern);

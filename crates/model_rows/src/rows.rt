@@ -4,8 +4,8 @@ use dp_model::{
     Env, Fact, Instr, Leads, NumberRegister, Operand, Packet, PacketRegister, PoolSpec, PortSpec,
     Row, Rule, Width, accepted_programs_are_safe, accepted_programs_are_sound,
     budgets_are_as_they_read, layers_stay_well_formed, longest_prefixes_agree,
-    numbers_are_as_called, runs_are_as_they_read, turns_stay_ready,
-    whole_runs_end_with_whole_pools, worlds_stay_well_formed,
+    numbers_are_as_called, pipelines_keep_safe, runs_are_as_they_read, runs_keep_safe,
+    turns_stay_ready, whole_runs_end_with_whole_pools, worlds_stay_well_formed,
 };
 
 /// What is known of a packet in one segment.
@@ -313,6 +313,8 @@ fn laws_can_be_called(_rt: HostRuntime) {
     accepted_programs_are_safe::<u32>();
     accepted_programs_are_sound();
     turns_stay_ready();
+    pipelines_keep_safe();
+    runs_keep_safe::<u32>();
     worlds_stay_well_formed();
     layers_stay_well_formed();
     longest_prefixes_agree();

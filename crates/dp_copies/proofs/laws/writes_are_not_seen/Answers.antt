@@ -1,7 +1,7 @@
 -- A step acts on the state with one step more, in which the same packets stand.
 use Rattle.std.proofs.Common.{sym, subst}
 use Rattle.dp_model.specs.Machine.{with_step}
-use Rattle.dp_model.proofs.Budget.{budget_keeps}
+use Rattle.dp_model.specs.Laws.Steps.{budget_keeps}
 use Rattle.dp_copies.proofs.NotSeen.{Stays, beside_stays, queued_stays}
 use Rattle.dp_copies.proofs.laws.writes_are_not_seen.Goals as goal
 

@@ -5,7 +5,6 @@ use Rattle.dp_model.specs.Environments.{Environment, room_at}
 use Rattle.dp_model.specs.Packets.{needed as segments_needed}
 use Rattle.dp_model.specs.Machine.{Setting}
 use Rattle.dp_model.specs.Runs.{Got}
-use Rattle.dp_model.proofs.SafeTurns.{arrives_rest}
 use Rattle.dp_engine.specs.Handles.{Core}
 use Rattle.dp_engine.specs.Steps.{setting_of, FitsIn, CanRun, Runs}
 use Rattle.dp_engine.proofs.Served.{setting_is, at_port, received_with, received_is}
@@ -82,8 +81,9 @@ run-requires-clause-sound g c =
     let program = c.port_program-program.result.now in
     let got = received_with p.setting (setting_of c.env-env.result.now [] c.pattern.result.now) spec.pool port bytes w s same
     (c.if-not-receive.ensures.received refl) in
-    let r = received_is p.setting p.nodes program port spec bytes w s c.env-env.ensures.pipeline at.spec_is c.port_program-program.ensures.same
-    c.requires.rests.rest (omega (arith, need, c.if-needed-spec.false)) got in
+    let denied = rw (same, c.pattern.ensures) at c.if-not-receive.ensures.denied in
+    let r = received_is p.setting p.nodes program port spec bytes w s c.env-env.ensures.safe at.spec_is c.port_program-program.ensures.same
+    c.requires.rests.rest (omega (arith, need, c.if-needed-spec.false)) (sym denied) got in
     let setting = setting_is p.setting c.env-env.result.now c.tables.result.now c.pattern-2.result.now same c.tables.ensures c.pattern-2.ensures in
     subst (λ (x : Setting). CanRun x program s) (sym setting) r.can_run
 
@@ -104,12 +104,12 @@ returns-clause-arrives g c =
     let program = c.port_program-program.result.now in
     let got = received_with p.setting (setting_of c.env-env.result.now [] c.pattern.result.now) spec.pool port bytes w s same
     (c.if-not-receive.ensures.received refl) in
-    let r = received_is p.setting p.nodes program port spec bytes w s c.env-env.ensures.pipeline at.spec_is c.port_program-program.ensures.same
-    c.requires.rests.rest (omega (arith, need, c.if-needed-spec.false)) got in
     let denied = rw (same, c.pattern.ensures) at c.if-not-receive.ensures.denied in
+    let r = received_is p.setting p.nodes program port spec bytes w s c.env-env.ensures.safe at.spec_is c.port_program-program.ensures.same
+    c.requires.rests.rest (omega (arith, need, c.if-needed-spec.false)) (sym denied) got in
     let setting = setting_is p.setting c.env-env.result.now c.tables.result.now c.pattern-2.result.now same c.tables.ensures c.pattern-2.ensures in
     let runs = subst (λ (x : Setting). Runs x program s c.run.new.m.state) setting c.run.ensures.runs in
-    let (told, receives) = r.receives (sym denied) c.run.new.m.state runs in
+    let (told, receives) = r.receives c.run.new.m.state runs in
     (told, (spec, program, at.spec_is, c.port_program-program.ensures.same, receives))
 
 pub returns-clause-rests : goal.returns-clause-rests
@@ -129,16 +129,16 @@ returns-clause-rests g c =
     let program = c.port_program-program.result.now in
     let got = received_with p.setting (setting_of c.env-env.result.now [] c.pattern.result.now) spec.pool port bytes w s same
     (c.if-not-receive.ensures.received refl) in
-    let r = received_is p.setting p.nodes program port spec bytes w s c.env-env.ensures.pipeline at.spec_is c.port_program-program.ensures.same
-    c.requires.rests.rest (omega (arith, need, c.if-needed-spec.false)) got in
     let denied = rw (same, c.pattern.ensures) at c.if-not-receive.ensures.denied in
+    let r = received_is p.setting p.nodes program port spec bytes w s c.env-env.ensures.safe at.spec_is c.port_program-program.ensures.same
+    c.requires.rests.rest (omega (arith, need, c.if-needed-spec.false)) (sym denied) got in
     let setting = setting_is p.setting c.env-env.result.now c.tables.result.now c.pattern-2.result.now same c.tables.ensures c.pattern-2.ensures in
     let runs = subst (λ (x : Setting). Runs x program s c.run.new.m.state) setting c.run.ensures.runs in
-    let (told, receives) = r.receives (sym denied) c.run.new.m.state runs in
+    let (told, receives) = r.receives c.run.new.m.state runs in
     record {
       idle = c.run.ensures.idle;
       pools = c.run.ensures.pools ∙ (c.receive.ensures.pools ∙ c.requires.rests.pools);
       fits = subst (FitsIn p.setting.env) (sym (c.run.ensures.frames ∙ c.receive.ensures.frames)) c.requires.rests.fits;
-      rest = arrives_rest p.setting p.nodes program port spec bytes w c.run.new.m.state.world Got told c.env-env.ensures.pipeline
+      rest = c.env-env.ensures.safe.arrives program port spec bytes w c.run.new.m.state.world Got told
           c.port_program-program.ensures.same at.spec_is c.requires.rests.rest receives;
     }

@@ -23,7 +23,7 @@ run-requires-clause-sound g c =
     let program = c.ring_program-program.result.now in
     let setting = setting_is p.setting c.env.result.now c.tables.result.now c.pattern.result.now c.env.ensures.same c.tables.ensures c.pattern.ensures in
     subst (λ (x : Setting). CanRun x program m1.state) (sym setting)
-    (next_runs p.setting p.nodes program m0 m1 ring c.env.ensures.pipeline c.ring_program-program.ensures.same c.requires.rests.rest n)
+    (next_runs p.setting p.nodes program m0 m1 ring c.env.ensures.safe c.ring_program-program.ensures.same c.requires.rests.rest n)
 
 pub returns-clause-serves : goal.returns-clause-serves
 returns-clause-serves g c =
@@ -62,5 +62,5 @@ returns-clause-rests g c =
       idle = c.run.ensures.idle;
       pools = c.run.ensures.pools ∙ (ap (λ (x : Core). x.pools) n.taken ∙ c.requires.rests.pools);
       fits = subst (FitsIn p.setting.env) (sym (c.run.ensures.frames ∙ ap (λ (x : Core). x.frames) n.taken)) c.requires.rests.fits;
-      rest = served_rests p m0 c.run.new.m c.run.result c.env.ensures.pipeline c.requires.rests.rest one;
+      rest = served_rests p m0 c.run.new.m c.run.result c.env.ensures.safe c.requires.rests.rest one;
     }

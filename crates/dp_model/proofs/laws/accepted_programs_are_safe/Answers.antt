@@ -1,7 +1,8 @@
 -- Each clause is a lemma.
 use Rattle.dp_model.proofs.SafeRuns.{accepted_is_safe}
 use Rattle.dp_model.proofs.SafeTurns.{turn_safe}
-use Rattle.dp_model.proofs.SafeWhole.{start_rest, run_safe}
+use Rattle.dp_model.proofs.SafeWhole.{run_safe}
+use Rattle.dp_model.specs.Laws.Runs.{start_rest}
 use Rattle.dp_model.proofs.CountTurns.{turn_calls}
 use Rattle.dp_model.proofs.laws.accepted_programs_are_safe.Goals as goal
 

@@ -1,5 +1,6 @@
 -- Each clause is a lemma.
-use Rattle.dp_model.proofs.BudgetLaws.{acts_lead, freed_in_order, jumps_taken, node_took, turn_took}
+use Rattle.dp_model.proofs.BudgetLaws.{acts_lead, jumps_taken, node_took, turn_took}
+use Rattle.dp_model.specs.Laws.Steps.{freed_in_order}
 use Rattle.dp_model.proofs.words.budgets_are_as_they_read.Goals as goal
 
 pub returns : goal.returns

@@ -1,8 +1,9 @@
 -- Each clause is a lemma.
-use Rattle.dp_model.proofs.Budget.{step_within}
+use Rattle.dp_model.specs.Laws.StepsWithin.{step_within}
 use Rattle.dp_model.proofs.OwnedSteps.{step_owned}
 use Rattle.dp_model.proofs.PacketSteps.{step_packets}
-use Rattle.dp_model.proofs.SafeWhole.{start_rest, drained_rest}
+use Rattle.dp_model.proofs.SafeWhole.{drained_rest}
+use Rattle.dp_model.specs.Laws.Runs.{start_rest}
 use Rattle.dp_model.proofs.Few.{refs_small}
 use Rattle.dp_model.proofs.words.worlds_stay_well_formed.Goals as goal
 

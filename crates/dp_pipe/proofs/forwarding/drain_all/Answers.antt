@@ -1,7 +1,7 @@
 use Rattle.std.proofs.Common.{ℕ, suc, ◌≡◌, ◌+◌, ◌<◌, false, List, [], ◌∷◌, length, map, refl, sym, ap, ◌∙◌, subst, arith}
 use Rattle.std.specs.Prelude.{slice_get, slice_set, Some, IsTrue}
 use Rattle.std.proofs.lemmas.Option.{slice_get_read, same_Some}
-use Rattle.dp_model.proofs.Refs.{get_set_same}
+use Rattle.dp_model.specs.Laws.Lists.{get_set_same}
 use Rattle.dp_engine.specs.Engines.{EngineState, drained}
 use Rattle.std.specs.Prelude.{flat_map}
 use Rattle.std.specs.Io.KnownBytes.{Appends}

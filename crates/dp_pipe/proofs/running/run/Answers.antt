@@ -65,14 +65,14 @@ returns-in-Ok-open-clause-untouched g c =
 pub returns-in-Ok-open-clause-forwarded : goal.returns-in-Ok-open-clause-forwarded
 returns-in-Ok-open-clause-forwarded g c =
     let ready = is_ready_in c.args.pipeline c.args.pattern.items c.into_parts-env.result.0 c.into_parts-env.result.1.items _ c.into_parts-env.ensures.env c.into_parts-env.ensures.tables c.as_slice.ensures.value
-    c.within_limits.ensures c.into_parts-env.ensures.plan c.tell_hops.ensures in
+    c.within_limits.ensures c.into_parts-env.ensures.plan c.tell_hops.ensures (record { safe = c.runs_keep_safe.ensures; copies = c.clones_are_copies.ensures }) in
     all_forwarded c.args.pipeline c.args.pattern.items (map g.R.Feed.remaining c.args.ins.now) (map g.R.Feed.remaining c.run_through.new.ins) (map g.W.Sink.contents c.args.outs.now) (map g.W.Sink.contents c.run_through.new.outs)
     c.run_through.result ready (returns-in-Ok-open-clause-answers g c)
 
 pub returns-in-Ok-open-clause-stopped : goal.returns-in-Ok-open-clause-stopped
 returns-in-Ok-open-clause-stopped g c =
     let ready = is_ready_in c.args.pipeline c.args.pattern.items c.into_parts-env.result.0 c.into_parts-env.result.1.items _ c.into_parts-env.ensures.env c.into_parts-env.ensures.tables c.as_slice.ensures.value
-    c.within_limits.ensures c.into_parts-env.ensures.plan c.tell_hops.ensures in
+    c.within_limits.ensures c.into_parts-env.ensures.plan c.tell_hops.ensures (record { safe = c.runs_keep_safe.ensures; copies = c.clones_are_copies.ensures }) in
     all_stopped c.args.pipeline c.args.pattern.items (map g.R.Feed.remaining c.args.ins.now) (map g.R.Feed.remaining c.run_through.new.ins) (map g.W.Sink.contents c.args.outs.now) (map g.W.Sink.contents c.run_through.new.outs)
     c.run_through.result ready c.requires.pattern (length-map c.args.outs.now g.W.Sink.contents ∙ c.requires.writers) (returns-in-Ok-open-clause-answers g c)
 

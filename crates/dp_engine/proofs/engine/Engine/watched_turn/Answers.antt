@@ -1,7 +1,7 @@
 use Rattle.std.proofs.Common.{◌+◌, ◌<◌, Bool, List, length, sym, ◌∙◌, ap, subst, arith}
 use Rattle.dp_model.specs.Runs.{Turn as IsTurn, NeverStuck}
 use Rattle.dp_model.specs.Safety.{Beginning, IsOfTurn}
-use Rattle.dp_model.proofs.SafeTurns.{turn_runs_safe, safe_never_stuck}
+use Rattle.dp_model.specs.Laws.Runs.{safe_never_stuck}
 use Rattle.dp_engine.specs.Outcomes.{outcome_of}
 use Rattle.dp_engine.specs.declared.report.Tallies.{Tallies}
 use Rattle.dp_engine.specs.Engines.{EngineState, IsEngine, records_of}
@@ -58,7 +58,7 @@ returns-clause-never_stuck g c =
     subst (λ (v : EngineState). (b : Beginning) → IsOfTurn v.setting v.nodes port bytes v.world b
     → NeverStuck v.setting b.program b.packet b.number b.world) c.self.view_is
     (λ b of. safe_never_stuck engine.plan.setting b
-    (turn_runs_safe engine.plan.setting engine.plan.nodes port bytes engine.machine.state.world b c.env-env.ensures.pipeline c.self.invariant.rests.rest of))
+    (c.env-env.ensures.safe.turn_runs port bytes engine.machine.state.world b c.self.invariant.rests.rest of))
 
 pub returns-clause-lists : goal.returns-clause-lists
 returns-clause-lists g c = c.serve-served.ensures.rests.rest.ready.world.outboxes

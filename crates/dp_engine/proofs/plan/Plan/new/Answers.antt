@@ -5,7 +5,7 @@ use Rattle.dp_model.specs.Prefixes.{Route}
 use Rattle.dp_model.specs.Rules.{Question}
 use Rattle.dp_lpm.specs.Routes.{RouteTable}
 use Rattle.dp_check.specs.Faults.{IsChecked}
-use Rattle.dp_engine.proofs.Pipelines.{plan_of}
+use Rattle.dp_engine.specs.Laws.{plan_of}
 use Rattle.dp_engine.proofs.plan.Plan.new.Goals as goal
 
 pub invariant_of-result : goal.invariant_of-result

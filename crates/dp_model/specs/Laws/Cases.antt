@@ -1,0 +1,22 @@
+-- Laws of tests: what follows either way.
+use Rattle.std.proofs.Common.{◌≡◌, ℕ, Bool, true, false, cond, refl}
+use Rattle.std.specs.Prelude.{MatchBool}
+
+-- what follows whether a test is true or false follows
+pub by_cases : {G : Type 0} (b : Bool) → (b ≡ true → G) → (b ≡ false → G) → G
+by_cases true f g = f refl
+by_cases false f g = g refl
+
+-- where a test is false, the second of two facts is to be shown
+pub match_false : (b : Bool) (P Q : Type 0) → b ≡ false → Q → MatchBool b P Q
+match_false false P Q e x = x
+match_false true P Q e x = cc
+
+-- what follows from each of two facts follows from the one that a test chooses
+pub matched : {G : Type 0} (b : Bool) (P Q : Type 0) → MatchBool b P Q → (P → G) → (Q → G) → G
+matched true P Q h f g = f h
+matched false P Q h f g = g h
+
+-- what a test counts for
+abbrev pub one_if : Bool → ℕ
+one_if b = cond b 1 0

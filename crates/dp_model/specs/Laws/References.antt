@@ -1,0 +1,100 @@
+-- Laws of references: what each packet adds, and what registers hold.
+use Rattle.std.proofs.Common.{◌≡◌, ◌≢◌, ℕ, zero, suc, ◌+◌, ◌≤◌, true, cond, List, [], ◌∷◌, ◌++◌, Option, Some, None, refl, ◌∙◌, ap, arith, false, not, ◌||◌}
+use Rattle.std.specs.Prelude.{slice_get, slice_set}
+use Rattle.std.proofs.lemmas.List.Sums.{sum_by-append, sum_by-cons}
+use Rattle.std.proofs.lemmas.Option.{same_Some}
+use Rattle.std.proofs.lemmas.Bool.{and_parts, not-true, or_parts}
+use Rattle.dp_model.specs.Buffers.{Number, same_number}
+use Rattle.dp_model.specs.Packets.{Segment, Packet, refs, IsSole, is_free}
+use Rattle.dp_model.specs.Machine.{segments_held, segments_listed, State, live}
+use Rattle.dp_model.specs.Meaning.{IsShared}
+use Rattle.dp_model.specs.Laws.Cases.{one_if}
+use Rattle.dp_model.specs.Laws.Lists.{get_set_other}
+use Rattle.dp_model.specs.Laws.Stored.{same_number_refl}
+
+-- two lists of segments joined
+pub refs-append : (xs ys : List Segment) (b : Number) → refs (xs ++ ys) b ≡ refs xs b + refs ys b
+refs-append xs ys b = sum_by-append (λ s. cond (same_number s.buffer b) 1 0) xs ys
+
+-- the references of what a register holds
+abbrev pub refs_of : Option Packet → Number → ℕ
+refs_of None b = 0
+refs_of (Some k) b = refs k b
+
+-- a register set
+pub refs_set : (packets : List (Option Packet)) (p : ℕ) (o o' : Option Packet) (b : Number) → slice_get packets p ≡ Some o
+    → refs (segments_held (slice_set packets p o')) b + refs_of o b ≡ refs (segments_held packets) b + refs_of o' b
+refs_set [] p o o' b h = cc
+refs_set (None ∷ packets) zero None None b h = refl
+refs_set (None ∷ packets) zero None (Some k) b h = omega (arith, refs-append k (segments_held packets) b)
+refs_set (None ∷ packets) zero (Some k) o' b h = cc
+refs_set (Some k ∷ packets) zero None o' b h = cc
+refs_set (Some k ∷ packets) zero (Some k') None b h =
+    let e : refs k b ≡ refs k' b = ap (λ o. refs_of o b) (same_Some (Some k) (Some k') h) in
+    omega (arith, e, refs-append k (segments_held packets) b)
+refs_set (Some k ∷ packets) zero (Some k') (Some l) b h =
+    let e : refs k b ≡ refs k' b = ap (λ o. refs_of o b) (same_Some (Some k) (Some k') h) in
+    omega (arith, e, refs-append k (segments_held packets) b, refs-append l (segments_held packets) b)
+refs_set (None ∷ packets) (suc p) o o' b h = refs_set packets p o o' b h
+refs_set (Some k ∷ packets) (suc p) o o' b h =
+    omega (arith, refs_set packets p o o' b h, refs-append k (segments_held packets) b, refs-append k (segments_held (slice_set packets p o')) b)
+
+-- what a register holds is part of what is held
+pub refs_held : (packets : List (Option Packet)) (i : ℕ) (o : Option Packet) (b : Number) → slice_get packets i ≡ Some o
+    → refs_of o b ≤ refs (segments_held packets) b
+refs_held packets i o b h = omega (arith, refs_set packets i o None b h)
+
+-- what two registers hold is part of what is held
+pub refs_two : (packets : List (Option Packet)) (i p : ℕ) (o u : Option Packet) (b : Number) → i ≢ p → slice_get packets i ≡ Some o
+    → slice_get packets p ≡ Some u → refs_of o b + refs_of u b ≤ refs (segments_held packets) b
+refs_two packets i p o u b ne hi hp =
+    omega (arith, refs_set packets p u None b hp, refs_held (slice_set packets p None) i o b (get_set_other packets p i None ne ∙ hi))
+
+-- where the packet has a buffer with one reference, it still has one
+abbrev pub Keeps : List Segment → List Segment → Packet → Type 0
+Keeps live live' k = (b : Number) → 1 ≤ refs k b → refs live b ≡ 1 → refs live' b ≡ 1
+
+-- one more segment
+pub refs-cons : (s : Segment) (rest : Packet) (b : Number) → refs (s ∷ rest) b ≡ one_if (same_number s.buffer b) + refs rest b
+refs-cons s rest b = sum_by-cons (λ x. cond (same_number x.buffer b) 1 0) s rest
+
+-- a packet refers to its first segment's buffer
+pub refs_first : (s : Segment) (rest : Packet) → 1 ≤ refs (s ∷ rest) s.buffer
+refs_first s rest =
+    let one : ℕ = 1 in
+    let e : cond (same_number s.buffer s.buffer) one 0 ≡ one = ap (λ b. cond b one 0) (same_number_refl s.buffer) in
+    omega (arith, e, refs-cons s rest s.buffer)
+
+-- a sole packet stays so where its buffers keep their one reference
+pub sole_kept : (live live' k rest : List Segment) → Keeps live live' k → ((b : Number) → 1 ≤ refs rest b → 1 ≤ refs k b) → IsSole live rest → IsSole live' rest
+sole_kept live live' k [] keeps part h = tt
+sole_kept live live' k (s ∷ rest) keeps part h =
+    (keeps s.buffer (part s.buffer (refs_first s rest)) h.0, sole_kept live live' k rest keeps (λ b m. part b (omega (arith, refs-cons s rest b))) h.1)
+
+-- so what is known of how a packet is shared stays
+pub share_kept : (live live' : List Segment) (share : ℕ) (k : Packet) → Keeps live live' k → IsShared live share k → IsShared live' share k
+share_kept live live' zero k keeps h = tt
+share_kept live live' (suc zero) [] keeps h = tt
+share_kept live live' (suc zero) (s ∷ rest) keeps h = keeps s.buffer (refs_first s rest) h
+share_kept live live' (suc (suc zero)) k keeps h = sole_kept live live' k k keeps (λ b m. m) h
+share_kept live live' (suc (suc (suc share))) k keeps h = tt
+
+-- there is no reference to a free number
+pub free_zero : (live : List Segment) (n : Number) → is_free live n ≡ true → refs live n ≡ 0
+free_zero [] n h = refl
+free_zero (s ∷ rest) n h =
+    let t = and_parts (not (same_number s.mbuf n || same_number s.buffer n)) (is_free rest n) h in
+    let other : same_number s.buffer n ≡ false =
+    (or_parts (same_number s.mbuf n) (same_number s.buffer n) (not-true (same_number s.mbuf n || same_number s.buffer n) t.0)).1 in
+    let none : one_if (same_number s.buffer n) ≡ 0 = ap one_if other in
+    omega (arith, none, refs-cons s rest n, free_zero rest n t.1)
+
+-- the references of a state are those of its registers, of its rings and of its transmit lists
+pub live_parts : (s : State) (b : Number)
+    → refs (live s) b ≡ refs (segments_held s.packets) b + (refs (segments_listed s.world.rings) b + refs (segments_listed s.world.outboxes) b)
+live_parts s b =
+    omega (
+      arith,
+      refs-append (segments_held s.packets) (segments_listed s.world.rings ++ segments_listed s.world.outboxes) b,
+      refs-append (segments_listed s.world.rings) (segments_listed s.world.outboxes) b,
+    )

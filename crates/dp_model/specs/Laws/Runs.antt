@@ -1,0 +1,128 @@
+-- Laws of runs: where they begin, and one more turn.
+use Rattle.std.proofs.Common.{◌≡◌, ℕ, zero, suc, Bool, List, [], ◌∷◌, ◌++◌, length, replicate, map, refl, sym, ◌∙◌, ap, subst, arith, append_assoc}
+use Rattle.std.specs.List.{AllZip, AllByRecursion}
+use Rattle.std.proofs.lemmas.List.{append-nil, length-map}
+use Rattle.dp_model.specs.declared.env.RingSpec.{RingSpec}
+use Rattle.dp_model.specs.declared.env.PoolSpec.{PoolSpec}
+use Rattle.dp_model.specs.Packets.{Segment, AreOwned}
+use Rattle.dp_model.specs.Machine.{Setting, World, live, segments_listed}
+use Rattle.dp_model.specs.Meaning.{RingHolds, TablesFit}
+use Rattle.dp_model.specs.Runs.{Outcome, between, Nodes, Turn, Arrival, Run, records_at, with_empty_outboxes, joined, NodeRun, NeverStuck}
+use Rattle.dp_model.specs.Starts.{IsStart}
+use Rattle.dp_model.specs.Safety.{IsPacket, ArePackets, IsAtRest, Beginning, IsSafeBeginning}
+use Rattle.dp_model.specs.Laws.{Ready}
+use Rattle.dp_model.specs.Laws.Places.{start_inside}
+
+empty_rings : (pools : List PoolSpec) (segments : List Segment) (specs : List RingSpec) → AllZip (RingHolds pools segments) specs (map (λ _. []) specs)
+empty_rings pools segments [] = tt
+empty_rings pools segments (spec ∷ specs) = (tt, empty_rings pools segments specs)
+
+-- the world before the first record is ready for it
+pub start_ready : (c : Setting) (w : World) → TablesFit c → IsStart c.env w → Ready c w
+start_ready c w tables start =
+    record {
+      world = record {
+        rings = subst (AllZip (RingHolds c.env.pools (live (between w))) c.env.rings) (sym start.rings)
+            (empty_rings c.env.pools (live (between w)) c.env.rings);
+        outboxes = ap length start.outboxes ∙ length-map c.env.ports (λ _. []);
+      };
+      tables = tables;
+      within = start_inside c w start;
+    }
+
+module _ {A : Type 0} where
+  joined_none_left : (n : ℕ) (xs : List (List A)) → length xs ≡ n → joined (replicate n []) xs ≡ xs
+  joined_none_left zero [] is = refl
+  joined_none_left zero (x ∷ xs) is = absurd (omega (arith, is))
+  joined_none_left (suc n) [] is = absurd (omega (arith, is))
+  joined_none_left (suc n) (x ∷ xs) is = ap (λ ys. x ∷ ys) (joined_none_left n xs (omega (arith, is)))
+
+  joined_none_right : (n : ℕ) (xs : List (List A)) → length xs ≡ n → joined xs (replicate n []) ≡ xs
+  joined_none_right zero [] is = refl
+  joined_none_right zero (x ∷ xs) is = absurd (omega (arith, is))
+  joined_none_right (suc n) [] is = absurd (omega (arith, is))
+  joined_none_right (suc n) (x ∷ xs) is = ap (λ y. y ∷ joined xs (replicate n [])) (append-nil x)
+      ∙ ap (λ ys. x ∷ ys) (joined_none_right n xs (omega (arith, is)))
+
+  joined_assoc : (xs ys zs : List (List A)) → joined (joined xs ys) zs ≡ joined xs (joined ys zs)
+  joined_assoc [] ys zs = refl
+  joined_assoc (x ∷ xs) [] zs = refl
+  joined_assoc (x ∷ xs) (y ∷ ys) [] = refl
+  joined_assoc (x ∷ xs) (y ∷ ys) (z ∷ zs) = ap (λ a. a ∷ joined (joined xs ys) zs) (append_assoc x y z)
+      ∙ ap (λ as_. (x ++ (y ++ z)) ∷ as_) (joined_assoc xs ys zs)
+
+-- a run and one more turn is a run
+pub run_push : {T : Type 0} (c : Setting) (nodes : Nodes) (arrivals : List (Arrival T)) (a : Arrival T) (w v mid : World) (told now : List Bool)
+    (outcomes : List Outcome) (outcome : Outcome) (runs : ℕ) (captures : List (List (T × List ℕ))) → length mid.outboxes ≡ length c.env.ports
+    → Run c nodes arrivals w told outcomes captures v → Turn c nodes a.port a.bytes v outcome runs now mid
+    → Run c nodes (arrivals ++ a ∷ []) w (told ++ now) (outcomes ++ outcome ∷ []) (joined captures (records_at a.time mid)) (with_empty_outboxes mid)
+run_push {T} c nodes [] a w v mid told now outcomes outcome runs captures ports (none, no_outcomes, are, is) turn =
+    let records : List (List (T × List ℕ)) = records_at a.time mid in
+    let long : length records ≡ length c.env.ports = length-map mid.outboxes _ ∙ ports in (
+      outcome,
+      [],
+      now,
+      [],
+      runs,
+      mid,
+      replicate (length c.env.ports) [],
+      subst (λ x. Turn c nodes a.port a.bytes x outcome runs now mid) is turn,
+      (refl, refl, refl, refl),
+      ap (λ ts. ts ++ now) none ∙ sym (append-nil now),
+      ap (λ os. os ++ outcome ∷ []) no_outcomes,
+      ap (λ cs. joined cs records) are ∙ (joined_none_left (length c.env.ports) records long ∙ sym (joined_none_right (length c.env.ports) records long)),
+    )
+run_push {T} c nodes (b ∷ arrivals) a w v mid told now outcomes outcome runs captures ports
+    (outcome', rest, now', later, runs', mid', more, turn', run, is_told, are_outcomes, are) turn =
+    let records : List (List (T × List ℕ)) = records_at a.time mid in (
+      outcome',
+      rest ++ outcome ∷ [],
+      now',
+      later ++ now,
+      runs',
+      mid',
+      joined more records,
+      turn',
+      run_push c nodes arrivals a (with_empty_outboxes mid') v mid later now rest outcome runs more ports run turn,
+      ap (λ ts. ts ++ now) is_told ∙ append_assoc now' later now,
+      ap (λ os. os ++ outcome ∷ []) are_outcomes,
+      ap (λ cs. joined cs records) are ∙ joined_assoc (records_at b.time mid') more records,
+    )
+
+-- lists without a packet have no segment
+pub nothing_mapped : {Z : Type 0} (zs : List Z) → segments_listed (map (λ _. []) zs) ≡ []
+nothing_mapped [] = refl
+nothing_mapped (z ∷ zs) = nothing_mapped zs
+
+-- nor a packet that is out of its limits
+pub no_lists : {Z : Type 0} (zs : List Z) → AllByRecursion (AllByRecursion IsPacket) (map (λ _. []) zs)
+no_lists [] = tt
+no_lists (z ∷ zs) = (tt, no_lists zs)
+
+-- the world before the first record is at rest
+pub start_rest : (c : Setting) (w : World) → TablesFit c → IsStart c.env w → IsAtRest c w
+start_rest c w tables start = record { ready = start_ready c w tables start; owned = subst (AreOwned c.env.pools) (sym none) nobody; packets = no_packets }
+  where
+    none : live (between w) ≡ []
+    none = ap (λ rings. segments_listed rings ++ segments_listed w.outboxes) start.rings
+        ∙ (ap (λ boxes. segments_listed (map (λ _. []) c.env.rings) ++ segments_listed boxes) start.outboxes
+        ∙ (ap (λ xs. xs ++ segments_listed (map (λ _. []) c.env.ports)) (nothing_mapped c.env.rings) ∙ nothing_mapped c.env.ports))
+
+    no_packets : ArePackets (between w)
+    no_packets = record {
+      held = tt;
+      rings = subst (AllByRecursion (AllByRecursion IsPacket)) (sym start.rings) (no_lists c.env.rings);
+      outboxes = subst (AllByRecursion (AllByRecursion IsPacket)) (sym start.outboxes) (no_lists c.env.ports);
+    }
+
+    nobody : AreOwned c.env.pools []
+    nobody = record { mbufs = tt; once = tt; direct = tt }
+
+-- a safe node run is never stuck
+pub safe_never_stuck : (c : Setting) (b : Beginning) → IsSafeBeginning c b → NeverStuck c b.program b.packet b.number b.world
+safe_never_stuck c b s = subst (λ p. NeverStuck c p b.packet b.number b.world) s.program_is (λ n label told t goes. (s.safe.stays n label told t goes).has_step)
+
+-- it leaves the world at rest for the next
+pub safe_rests : (c : Setting) (b : Beginning) (told : List Bool) (w' : World) → IsSafeBeginning c b → NodeRun c b.program b.packet b.number b.world told w'
+    → IsAtRest c w'
+safe_rests c b told w' s run = s.safe.rests told w' (subst (λ p. NodeRun c p b.packet b.number b.world told w') (sym s.program_is) run)

@@ -1,0 +1,174 @@
+-- Laws of the bytes of buffers, when one of them is written.
+use Rattle.std.proofs.Common.{◌≡◌, ◌≢◌, ℕ, zero, suc, ◌+◌, ◌-◌, ◌≤◌, true, List, [], ◌∷◌, ◌++◌, refl, ◌∙◌, ap, arith, ◌<◌, false, length, sym, subst, get_or, set, ⊎_elim, ◌⊎◌, take, drop, inl, inr, length-append, length-take, length-drop}
+use Rattle.std.proofs.lemmas.Bool.{eq-eqb, and_from, and_parts, eqb-true, cases_eq, cases_lt, both_ways, cases_Bool}
+use Rattle.std.proofs.Math.ListN.{get_or-append}
+use Rattle.std.specs.Prelude.{slice_range}
+use Rattle.std.proofs.lemmas.List.{get_or-set_same, get_or-set_other, set_past, get_or-append-add, get_or-take, get_or-drop, length-take-le, ext_get_or}
+use Rattle.dp_model.specs.Buffers.{Number, same_number, Buffers, bytes_of, with_bytes, overwritten}
+
+-- a number is the same as itself
+pub same_number_refl : (n : Number) → same_number n n ≡ true
+same_number_refl n = and_from _ _ (eq-eqb n.pool n.pool refl) (eq-eqb n.index n.index refl)
+
+-- numbers with equal parts are equal
+pub number_path : (a b : Number) → a.pool ≡ b.pool → a.index ≡ b.index → a ≡ b
+number_path a b p q = λ i. record { pool = p i; index = q i }
+
+-- numbers that are the same are equal
+pub same_is : (a b : Number) → same_number a b ≡ true → a ≡ b
+same_is a b h =
+    let t = and_parts _ _ h in
+    number_path a b (eqb-true a.pool b.pool t.0) (eqb-true a.index b.index t.1)
+
+inner : (xs : List (List ℕ)) (i j : ℕ) (bytes : List ℕ) → i ≢ j → get_or (set xs i bytes) j [] ≡ get_or xs j []
+inner xs i j bytes apart = get_or-set_other xs i j bytes [] (λ e. apart (sym e))
+
+-- the bytes of another buffer stay
+pub bytes_other : (buffers : Buffers) (n b : Number) (bytes : List ℕ) → same_number n b ≡ false → bytes_of (with_bytes buffers n bytes) b ≡ bytes_of buffers b
+bytes_other buffers n b bytes h = ⊎_elim
+    (λ same. ⊎_elim
+    (λ within.
+    let e : get_or (set buffers n.pool (set (get_or buffers n.pool []) n.index bytes)) b.pool [] ≡ set (get_or buffers n.pool []) n.index bytes =
+    ap (λ p. get_or (set buffers n.pool (set (get_or buffers n.pool []) n.index bytes)) p []) (sym same)
+    ∙ get_or-set_same buffers n.pool (set (get_or buffers n.pool []) n.index bytes) [] within in
+    let apart : n.index ≢ b.index = λ i. both_ways (same_number n b) h (and_from _ _ (eq-eqb n.pool b.pool same) (eq-eqb n.index b.index i)) in
+    ap (λ xs. get_or xs b.index []) e ∙ inner (get_or buffers n.pool []) n.index b.index bytes apart ∙ ap (λ p. get_or (get_or buffers p []) b.index []) same)
+    (λ past. ap (λ bs. bytes_of bs b) (set_past buffers n.pool (set (get_or buffers n.pool []) n.index bytes) past))
+    (cases_lt n.pool (length buffers)))
+    (λ apart. ap (λ xs. get_or xs b.index []) (get_or-set_other buffers n.pool b.pool _ [] (λ e. apart (sym e))))
+    (cases_eq n.pool b.pool)
+
+-- a buffer that has bytes is there
+there_inside : (xs : List (List ℕ)) (i : ℕ) → 0 < length (get_or xs i []) → i < length xs
+there_inside [] i h = absurd (omega arith)
+there_inside (x ∷ xs) zero h = omega arith
+there_inside (x ∷ xs) (suc i) h = omega (arith, there_inside xs i h)
+
+there_outside : (buffers : Buffers) (p i : ℕ) → 0 < length (get_or (get_or buffers p []) i []) → p < length buffers
+there_outside [] p i h = absurd (omega arith)
+there_outside (x ∷ xs) zero i h = omega arith
+there_outside (x ∷ xs) (suc p) i h = omega (arith, there_outside xs p i h)
+
+-- the bytes of a buffer that is written, where there is one with bytes
+pub bytes_same : (buffers : Buffers) (n : Number) (bytes : List ℕ) → 0 < length (bytes_of buffers n) → bytes_of (with_bytes buffers n bytes) n ≡ bytes
+bytes_same buffers n bytes some =
+    ap (λ xs. get_or xs n.index [])
+    (get_or-set_same buffers n.pool (set (get_or buffers n.pool []) n.index bytes) [] (there_outside buffers n.pool n.index some))
+    ∙ get_or-set_same (get_or buffers n.pool []) n.index bytes [] (there_inside (get_or buffers n.pool []) n.index some)
+
+-- a buffer that is written has the new bytes, or there is none
+pub bytes_either : (buffers : Buffers) (n : Number) (bytes : List ℕ)
+    → (bytes_of (with_bytes buffers n bytes) n ≡ bytes) ⊎ (bytes_of (with_bytes buffers n bytes) n ≡ bytes_of buffers n)
+bytes_either buffers n bytes = ⊎_elim
+    (λ there. ⊎_elim
+    (λ within. inl (ap (λ xs. get_or xs n.index []) (get_or-set_same buffers n.pool (set (get_or buffers n.pool []) n.index bytes) [] there)
+    ∙ get_or-set_same (get_or buffers n.pool []) n.index bytes [] within))
+    (λ past. inr (ap (λ xs. get_or xs n.index []) (get_or-set_same buffers n.pool (set (get_or buffers n.pool []) n.index bytes) [] there)
+    ∙ ap (λ xs. get_or xs n.index []) (set_past (get_or buffers n.pool []) n.index bytes past)))
+    (cases_lt n.index (length (get_or buffers n.pool []))))
+    (λ past. inr (ap (λ bs. bytes_of bs n) (set_past buffers n.pool (set (get_or buffers n.pool []) n.index bytes) past)))
+    (cases_lt n.pool (length buffers))
+
+-- what holds of the old bytes and of those that are written holds of each buffer
+pub written_each : (P : List ℕ → Type 0) (buffers : Buffers) (n b : Number) (bytes : List ℕ) → P (bytes_of buffers b) → (n ≡ b → P bytes)
+    → P (bytes_of (with_bytes buffers n bytes) b)
+written_each P buffers n b bytes old new = ⊎_elim
+    (λ yes. let e = same_is n b yes in ⊎_elim
+    (λ is. subst P (sym (ap (bytes_of (with_bytes buffers n bytes)) (sym e) ∙ is)) (new e))
+    (λ is. subst P (sym (ap (bytes_of (with_bytes buffers n bytes)) (sym e) ∙ (is ∙ ap (bytes_of buffers) e))) old)
+    (bytes_either buffers n bytes))
+    (λ no. subst P (sym (bytes_other buffers n b bytes no)) old)
+    (cases_Bool (same_number n b))
+
+-- bytes that are overwritten stay as many
+pub length_overwritten : (old new : List ℕ) (place : ℕ) → place + length new ≤ length old → length (overwritten old place new) ≡ length old
+length_overwritten old new place h =
+    omega (
+      arith,
+      length-append (take place old) (new ++ drop (place + length new) old),
+      length-append new
+          (drop (place + length new) old),
+      length-take place old,
+      length-drop (place + length new) old,
+    )
+
+-- a byte in front of what is written stays
+overwritten_before : (old new : List ℕ) (place k : ℕ) → place ≤ length old → k < place → get_or (overwritten old place new) k 0 ≡ get_or old k 0
+overwritten_before old new place k fits less =
+    let front : length (take place old) ≡ place = length-take-le place old fits in
+    get_or-append (take place old) (new ++ drop (place + length new) old) 0 k (omega (arith, front, less))
+    ∙ get_or-take place old k 0 less
+
+-- a byte that is written is the new one
+overwritten_in : (old new : List ℕ) (place k : ℕ) → place ≤ length old → place ≤ k → k < place + length new
+    → get_or (overwritten old place new) k 0 ≡ get_or new (k - place) 0
+overwritten_in old new place k fits from to =
+    let front : length (take place old) ≡ place = length-take-le place old fits in
+    let at : k ≡ length (take place old) + (k - place) = omega (arith, front, from) in
+    ap (λ j. get_or (overwritten old place new) j 0) at
+    ∙ get_or-append-add (take place old) (new ++ drop (place + length new) old) (k - place) 0
+    ∙ get_or-append new (drop (place + length new) old) 0 (k - place) (omega (arith, from, to))
+
+-- a byte behind it stays
+overwritten_behind : (old new : List ℕ) (place k : ℕ) → place ≤ length old → place + length new ≤ k
+    → get_or (overwritten old place new) k 0 ≡ get_or old k 0
+overwritten_behind old new place k fits past =
+    let front : length (take place old) ≡ place = length-take-le place old fits in
+    let rest : ℕ = k - place - length new in
+    let at : k ≡ length (take place old) + (length new + rest) = omega (arith, front, past) in
+    let again : place + length new + rest ≡ k = omega (arith, past) in
+    ap (λ j. get_or (overwritten old place new) j 0) at
+    ∙ get_or-append-add (take place old) (new ++ drop (place + length new) old) (length new + rest) 0
+    ∙ get_or-append-add new (drop (place + length new) old) rest 0
+    ∙ get_or-drop (place + length new) old rest 0
+    ∙ ap (λ j. get_or old j 0) again
+
+-- a byte of a part
+range_at : (xs : List ℕ) (offset len k : ℕ) → k < len → get_or (slice_range xs offset (offset + len)) k 0 ≡ get_or xs (offset + k) 0
+range_at xs offset len k less = get_or-take (offset + len - offset) (drop offset xs) k 0 (omega (arith, less)) ∙ get_or-drop offset xs k 0
+
+-- a part has as many bytes as are asked for
+range_long : (xs : List ℕ) (offset len : ℕ) → offset + len ≤ length xs → length (slice_range xs offset (offset + len)) ≡ len
+range_long xs offset len fits =
+    let many : length (slice_range xs offset (offset + len)) ≡ offset + len - offset = length-take-le (offset + len - offset) (drop offset xs)
+    (omega (arith, length-drop offset xs, fits)) in
+    omega (arith, many)
+
+-- a part that is written within
+pub range_overwritten : (old new : List ℕ) (offset len place : ℕ) → place + length new ≤ len → offset + len ≤ length old
+    → slice_range (overwritten old (offset + place) new) offset (offset + len) ≡ overwritten (slice_range old offset (offset + len)) place new
+range_overwritten old new offset len place short long =
+    ext_get_or 0 (slice_range written offset (offset + len)) (overwritten part place new) (omega (arith, left, right, many)) (λ k h. each k (omega (arith, h, left)))
+  where
+    written : List ℕ
+    written = overwritten old (offset + place) new
+
+    part : List ℕ
+    part = slice_range old offset (offset + len)
+
+    many : length part ≡ len
+    many = range_long old offset len long
+
+    left : length (slice_range written offset (offset + len)) ≡ len
+    left = range_long written offset len (omega (arith, length_overwritten old new (offset + place) (omega (arith, short, long)), long))
+
+    right : length (overwritten part place new) ≡ length part
+    right = length_overwritten part new place (omega (arith, many, short))
+
+    moved : (k : ℕ) → place ≤ k → offset + k - (offset + place) ≡ k - place
+    moved k from = omega (arith, from)
+
+    each : (k : ℕ) → k < len → get_or (slice_range written offset (offset + len)) k 0 ≡ get_or (overwritten part place new) k 0
+    each k less = range_at written offset len k less ∙ ⊎_elim
+        (λ before. overwritten_before old new (offset + place) (offset + k) (omega (arith, short, long)) (omega (arith, before))
+        ∙ sym (range_at old offset len k less)
+        ∙ sym (overwritten_before part new place k (omega (arith, many, short)) before))
+        (λ from. ⊎_elim
+        (λ to. overwritten_in old new (offset + place) (offset + k) (omega (arith, short, long)) (omega (arith, from)) (omega (arith, to))
+        ∙ ap (λ j. get_or new j 0) (moved k from)
+        ∙ sym (overwritten_in part new place k (omega (arith, many, short)) from to))
+        (λ past. overwritten_behind old new (offset + place) (offset + k) (omega (arith, short, long)) (omega (arith, past))
+        ∙ sym (range_at old offset len k less)
+        ∙ sym (overwritten_behind part new place k (omega (arith, many, short)) past))
+        (cases_lt k (place + length new)))
+        (cases_lt k place)

@@ -1,0 +1,100 @@
+-- Laws of packets that wait in rings.
+use Rattle.std.proofs.Common.{◌≡◌, ℕ, zero, suc, List, [], ◌∷◌, ◌++◌, Option, Some, None, refl, ◌∙◌, ap, subst, arith, sym, map}
+use Rattle.std.specs.Prelude.{slice_get, slice_set, flat_map, option_map}
+use Rattle.std.specs.List.{AllByRecursion, AllZip}
+use Rattle.std.proofs.lemmas.Option.{same_Some}
+use Rattle.dp_model.specs.declared.env.PoolSpec.{PoolSpec}
+use Rattle.dp_model.specs.declared.env.RingSpec.{RingSpec}
+use Rattle.dp_model.specs.Packets.{Segment, Packet, refs}
+use Rattle.dp_model.specs.Rows.{Holding, holding}
+use Rattle.dp_model.specs.Machine.{live, segments_listed}
+use Rattle.dp_model.specs.Meaning.{Meets, Describes, RingHolds}
+use Rattle.dp_model.specs.Runs.{Waiting, behind, first_waiting}
+use Rattle.dp_model.specs.Laws.References.{refs-append, Keeps, share_kept}
+use Rattle.dp_model.specs.Laws.Lists.{all_left, all_right, all_join}
+
+module _ (pools : List PoolSpec) where
+  -- a packet meets a fact as before where its buffers keep their one reference
+  pub meets_kept : (live live' : List Segment) (h : Holding) (k : Packet) → Keeps live live' k → Meets pools live h k → Meets pools live' h k
+  meets_kept live live' h k keeps m =
+      record {
+        some = m.some;
+        share = share_kept live live' h.share k keeps m.share;
+        head = m.head;
+        tail = m.tail;
+        first = m.first;
+        last = m.last;
+        segs = m.segs;
+      }
+
+  -- so it is with what a register holds
+  pub describes_kept : (live live' : List Segment) (h : Option Holding) (o : Option Packet) → ((k : Packet) → o ≡ Some k → Keeps live live' k)
+      → Describes pools live h o → Describes pools live' h o
+  describes_kept live live' None None keeps d = tt
+  describes_kept live live' (Some h) (Some k) keeps d = meets_kept live live' h k (keeps k refl) d
+  describes_kept live live' None (Some k) keeps d = d
+  describes_kept live live' (Some h) None keeps d = d
+
+  ring_kept : (live live' : List Segment) (spec : RingSpec) (packets : List Packet) → Keeps live live' (flat_map (λ k. k) packets)
+      → RingHolds pools live spec packets → RingHolds pools live' spec packets
+  ring_kept live live' spec [] keeps h = tt
+  ring_kept live live' spec (k ∷ packets) keeps h = (
+    describes_kept live live' (holding spec.fact) (Some k)
+        (λ j ej b one. keeps b
+        (let e : refs k b ≡ refs j b = ap (λ x. refs x b) (same_Some k j ej) in omega (arith, e, refs-append k (flat_map (λ k. k) packets) b)))
+        h.0,
+    ring_kept live live' spec packets (λ b one. keeps b (omega (arith, refs-append k (flat_map (λ k. k) packets) b))) h.1,
+  )
+
+  -- and with all packets in rings
+  pub rings_kept : (live live' : List Segment) (specs : List RingSpec) (rings : List (List Packet)) → Keeps live live' (segments_listed rings)
+      → AllZip (RingHolds pools live) specs rings → AllZip (RingHolds pools live') specs rings
+  rings_kept live live' [] [] keeps h = tt
+  rings_kept live live' [] (r ∷ rings) keeps h = h
+  rings_kept live live' (spec ∷ specs) [] keeps h = h
+  rings_kept live live' (spec ∷ specs) (r ∷ rings) keeps h = (
+    ring_kept live live' spec r (λ b one. keeps b (omega (arith, refs-append (flat_map (λ k. k) r) (segments_listed rings) b))) h.0,
+    rings_kept live live' specs rings (λ b one. keeps b (omega (arith, refs-append (flat_map (λ k. k) r) (segments_listed rings) b))) h.1,
+  )
+
+-- the packet is the first of its ring, and the rings that are left have it no more
+abbrev pub IsTaken : List (List Packet) → Waiting → Type 0
+IsTaken rings next = (packets : List Packet) × (slice_get rings next.ring ≡ Some (next.packet ∷ packets)) × (next.rings ≡ slice_set rings next.ring packets)
+
+-- the first packet that waits, and the rings without it
+pub waits : (rings : List (List Packet)) (next : Waiting) → first_waiting rings ≡ Some next → IsTaken rings next
+waits [] next e = cc
+waits ([] ∷ rings) next e = later (first_waiting rings) refl (waits rings)
+  where
+    later : (o : Option Waiting) → first_waiting rings ≡ o
+        → ((n : Waiting) → first_waiting rings ≡ Some n → IsTaken rings n) → IsTaken ([] ∷ rings) next
+    later None f rest = let no : None ≡ Some next = sym (ap (option_map (behind [])) f) ∙ e in cc
+    later (Some n) f rest =
+        let same : behind [] n ≡ next = same_Some (behind [] n) next (sym (ap (option_map (behind [])) f) ∙ e) in
+        let (packets, there, are) = rest n f in
+        subst (IsTaken ([] ∷ rings)) same (packets, there, ap (λ r. [] ∷ r) are)
+waits ((k ∷ packets) ∷ rings) next e =
+    subst (IsTaken ((k ∷ packets) ∷ rings)) (same_Some _ next e) (packets, refl, refl)
+
+-- what holds of all segments in rings holds of the packet and of those that stay
+pub all_pop : (P : Segment → Type 0) (lists : List (List Packet)) (i : ℕ) (k : Packet) (packets : List Packet) → slice_get lists i ≡ Some (k ∷ packets)
+    → AllByRecursion P (segments_listed lists) → AllByRecursion P k × AllByRecursion P (segments_listed (slice_set lists i packets))
+all_pop P [] i k packets e all = cc
+all_pop P (l ∷ lists) zero k packets e all =
+    let here : AllByRecursion P (k ++ flat_map (λ k. k) packets) = subst (λ ks. AllByRecursion P (flat_map (λ k. k) ks)) (same_Some l (k ∷ packets) e)
+    (all_left P (flat_map (λ k. k) l) (segments_listed lists) all) in (
+      all_left P k (flat_map (λ k. k) packets) here,
+      all_join P (flat_map (λ k. k) packets) (segments_listed lists)
+          (all_right P k (flat_map (λ k. k) packets) here) (all_right P (flat_map (λ k. k) l) (segments_listed lists) all),
+    )
+all_pop P (l ∷ lists) (suc i) k packets e all =
+    let rest = all_pop P lists i k packets e (all_right P (flat_map (λ k. k) l) (segments_listed lists) all) in (
+      rest.0,
+      all_join P (flat_map (λ k. k) l) (segments_listed (slice_set lists i packets))
+          (all_left P (flat_map (λ k. k) l) (segments_listed lists) all) rest.1,
+    )
+
+-- emptied lists have no segment
+pub nothing_listed : (lists : List (List Packet)) → segments_listed (map (λ _. []) lists) ≡ []
+nothing_listed [] = refl
+nothing_listed (l ∷ lists) = nothing_listed lists
