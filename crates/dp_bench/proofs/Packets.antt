@@ -1,10 +1,12 @@
 -- Packets that come and go, and rounds that leave all as it was.
-use Rattle.std.proofs.Common.{◌≡◌, ℕ, zero, suc, ◌+◌, ◌-◌, ◌*◌, ◌/◌, ◌<◌, ◌≤◌, false, List, [], ◌∷◌, length, Option, Some, None, refl, sym, ◌∙◌, ap, ap₂, subst, arith, get_or}
+use Rattle.std.proofs.Common.{◌≡◌, ℕ, zero, suc, ◌+◌, ◌-◌, ◌*◌, ◌/◌, ◌<◌, ◌≤◌, false, List, [], ◌∷◌, length, Option, Some, None, refl, sym, ◌∙◌, ap, ap₂}
+use Rattle.std.proofs.Common.{subst, arith, get_or}
 use Rattle.std.specs.Prelude.{max, replicate, slice_get, slice_set, slice_index_or}
 use Rattle.std.specs.List.{AllByRecursion}
 use Rattle.std.proofs.lemmas.Option.{none-some, same_Some}
 use Rattle.dp_model.specs.Buffers.{Number, Buffers, ChangesOnly}
-use Rattle.dp_model.specs.Packets.{Segment, Packet, headroom, first_len, at_front, more_before, less_before, zeroed_before, refs, IsHeadSole, allocated, cloned, needed, received, Filled}
+use Rattle.dp_model.specs.Packets.{Segment, Packet, headroom, first_len, at_front, more_before, less_before, zeroed_before, refs, IsHeadSole, allocated}
+use Rattle.dp_model.specs.Packets.{cloned, needed, received, Filled}
 use Rattle.dp_model.specs.Environments.{room_at}
 use Rattle.dp_model.specs.Machine.{segments_held}
 use Rattle.dp_model.specs.Stores.{Store, Has, HasSome, IsLive, Becomes, unwritten, with_slot, Gives, Allocates, Clones, ReceivesInto}
@@ -27,18 +29,22 @@ get_put (y ∷ xs) zero o x is = refl
 get_put (y ∷ xs) (suc h) o x is = get_put xs h o x is
 
 -- what is given is live, and once it is given up the packets are as before
-module _ (s s' : Store) (pool need h : ℕ) (packet : List Number → Packet) (Changes : List Number → Buffers → Buffers → Type 0) (g : Gives s pool need packet Changes s' (Some h)) where
+module _ (s s' : Store) (pool need h : ℕ) (packet : List Number → Packet) (Changes : List Number → Buffers → Buffers →
+    Type 0) (g : Gives s pool need packet Changes s' (Some h)) where
   given_live : IsLive s' h
   given_live = (packet g.2, ap (λ (x : Store). slice_get x.slots h) g.6 ∙ get_put s.slots h None (Some (packet g.2)) g.1, tt)
 
   given_back : (s'' : Store) → s'' ≡ with_slot h None s' → (s''.slots ≡ s.slots) × (s''.pools ≡ s.pools)
-  given_back s'' e =
-      (ap (λ (x : Store). x.slots) e ∙ (ap (λ (x : Store). slice_set x.slots h None) g.6 ∙ put_back s.slots h None (Some (packet g.2)) g.1), ap (λ (x : Store). x.pools) e ∙ ap (λ (x : Store). x.pools) g.6)
+  given_back s'' e = (
+    ap (λ (x : Store). x.slots) e ∙ (ap (λ (x : Store). slice_set x.slots h None) g.6 ∙ put_back s.slots h None (Some (packet g.2)) g.1),
+    ap (λ (x : Store). x.pools) e ∙ ap (λ (x : Store). x.pools) g.6,
+  )
 
 pub alloc_live : (s s' : Store) (pool h : ℕ) → Allocates s pool s' (Some h) → IsLive s' h
 alloc_live s s' pool h g = given_live s s' pool 1 h (allocated s.pools) ChangesOnly g
 
-pub alloc_back : (s s' : Store) (pool h : ℕ) → Allocates s pool s' (Some h) → (s'' : Store) → s'' ≡ with_slot h None s' → (s''.slots ≡ s.slots) × (s''.pools ≡ s.pools)
+pub alloc_back : (s s' : Store) (pool h : ℕ) → Allocates s pool s' (Some h) → (s'' : Store) → s'' ≡ with_slot h None s' →
+    (s''.slots ≡ s.slots) × (s''.pools ≡ s.pools)
 alloc_back s s' pool h g = given_back s s' pool 1 h (allocated s.pools) ChangesOnly g
 
 pub alloc_none : (s s' : Store) (pool : ℕ) → Allocates s pool s' None → s' ≡ s
@@ -171,7 +177,8 @@ no_more [] first none = refl
 no_more (None ∷ xs) first none = ap (λ (l : List (Option PoolView)). None ∷ l) (all_none xs first)
 no_more (Some p ∷ xs) first none = absurd (omega (arith, none))
 
-pub back_one : (region : Home) (p : PoolView) (xs : List (Option PoolView)) → length xs ≡ 8 → PoolsFirst xs → zones_of (present xs) ≡ p.zones ∷ [] → p.zones.home ≡ region → IsOnePool region xs
+pub back_one : (region : Home) (p : PoolView) (xs : List (Option PoolView)) → length xs ≡ 8 → PoolsFirst xs → zones_of (present xs) ≡ p.zones ∷ [] →
+    p.zones.home ≡ region → IsOnePool region xs
 back_one region p [] long first zones home = absurd (omega (arith, long))
 back_one region p (None ∷ xs) long first zones home = let l = ap length zones in absurd (omega (arith, l))
 back_one region p (Some q ∷ xs) long first zones home =
@@ -186,7 +193,8 @@ back_one region p (Some q ∷ xs) long first zones home =
     head_of (z ∷ zs) = z
 
 -- a packet that was taken goes when the others are as before
-pub returned : (s s1 s2 s3 : Store) (pool h : ℕ) → Allocates s pool s1 (Some h) → s2.slots ≡ s1.slots → s2.pools ≡ s1.pools → s3 ≡ with_slot h None s2 → (s3.slots ≡ s.slots) × (s3.pools ≡ s.pools)
+pub returned : (s s1 s2 s3 : Store) (pool h : ℕ) → Allocates s pool s1 (Some h) → s2.slots ≡ s1.slots → s2.pools ≡ s1.pools → s3 ≡ with_slot h None s2 →
+    (s3.slots ≡ s.slots) × (s3.pools ≡ s.pools)
 returned s s1 s2 s3 pool h g slots pools e =
     let back = alloc_back s s1 pool h g (with_slot h None s1) refl in
     (ap (λ (x : Store). x.slots) e ∙ (ap (λ l. slice_set l h None) slots ∙ back.0), ap (λ (x : Store). x.pools) e ∙ (pools ∙ back.1))

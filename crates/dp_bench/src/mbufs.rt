@@ -208,7 +208,8 @@ fn served_by(m: &mut Mbufs, deed: Deed, rounds: u32) -> u32
 fn make(heap: &mut Heap, zones: &mut Zones) -> Option<Pool>
     ensures pool { IfSome result (IsReadyPool heap.old.home) }
     ensures home { heap.new.home ≡ heap.old.home }
-    ensures counted { MatchOption result (count_of is_busy heap.new.elements ≡ count_of is_busy heap.old.elements) (λ _. count_of is_busy heap.new.elements ≡ count_of is_busy heap.old.elements + 2) }
+    ensures counted { MatchOption result (count_of is_busy heap.new.elements ≡ count_of is_busy heap.old.elements) (λ _. count_of is_busy heap.new.elements
+        ≡ count_of is_busy heap.old.elements + 2) }
 {
     let Ok(pool) = Pool::make(heap, zones, "mbufs", OBJECTS, SIZE, CACHE) else {
         return None;

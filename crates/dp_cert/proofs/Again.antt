@@ -1,5 +1,6 @@
 -- What is spelled is read again.
-use Rattle.std.proofs.Common.{◌≡◌, ℕ, ◌+◌, ◌-◌, ◌*◌, ◌/◌, ◌%◌, ◌<◌, Bool, true, false, eqb, List, [], ◌∷◌, ◌++◌, length, take, drop, get_or, Ok, refl, ap, ◌∙◌, eq-eqb, arith}
+use Rattle.std.proofs.Common.{◌≡◌, ℕ, ◌+◌, ◌-◌, ◌*◌, ◌/◌, ◌%◌, ◌<◌, Bool, true, false, eqb, List, [], ◌∷◌, ◌++◌, length, take, drop, get_or, Ok, refl, ap}
+use Rattle.std.proofs.Common.{◌∙◌, eq-eqb, arith}
 use Rattle.std.specs.List.{flat_map, AllByRecursion, list_all}
 use Rattle.std.specs.Str.{bytes_eq}
 use Rattle.std.proofs.lemmas.List.{take_at, drop_at, length-append, get_or-append_right}
@@ -42,10 +43,12 @@ module _ (version : Version) where
       let t1 : eqb (length line) 307 ≡ true = eq-eqb (length line) 307 size2 in
       let t2 : list_all is_digit (digits_in line) ≡ true = rw inner (digits_good bytes (Low-row row fits)) in
       let here : length line - 1 - 306 ≡ 0 = omega (arith, size2) in
-      let last : get_or line (length line - 1) 0 ≡ 10 = get_or-append_right digits (10 ∷ []) 306 (length line - 1) 0 size (omega (arith, size2)) ∙ ap (λ (k : ℕ). get_or (10 ∷ []) k 0) here in
+      let last : get_or line (length line - 1) 0 ≡ 10 = get_or-append_right digits (10 ∷ []) 306 (length line - 1) 0 size (omega (arith, size2))
+      ∙ ap (λ (k : ℕ). get_or (10 ∷ []) k 0) here in
       let t3 : eqb (get_or line (length line - 1) 0) 10 ≡ true = eq-eqb (get_or line (length line - 1) 0) 10 last in
       let good : is_line line ≡ true = rw (t1, t2, t3) refl in
-      let read : decode_sized (digits_in line) 153 ≡ Ok bytes = rw inner (decode_sized-encode_lower bytes 153 (length-row row fits) (IsBytes-from bytes (Low-row row fits))) in
+      let read : decode_sized (digits_in line) 153 ≡ Ok bytes = rw inner
+      (decode_sized-encode_lower bytes 153 (length-row row fits) (IsBytes-from bytes (Low-row row fits))) in
       let same : bytes_eq line line ≡ true = (bytes_eq-Decides line line).1 refl in
       rw (good, read, row_again row fits, same, fits.well_formed) refl
 
@@ -54,13 +57,20 @@ module _ (version : Version) where
   rows_again line [] h = refl
   rows_again line (row ∷ rows) h =
       let rest = flat_map row_line rows in
-      let size : length (row_line row) ≡ 307 = omega (arith, length-encode_with lower_digits (row_bytes row), length-row row h.0, length-append (encode_lower (row_bytes row)) (10 ∷ [])) in
+      let size : length (row_line row) ≡ 307 = omega (
+        arith,
+        length-encode_with lower_digits (row_bytes row),
+        length-row row h.0,
+        length-append (encode_lower (row_bytes row)) (10 ∷ []),
+      ) in
       let front : take 307 (row_line row ++ rest) ≡ row_line row = take_at (row_line row) rest 307 size in
       let back : drop 307 (row_line row ++ rest) ≡ rest = drop_at (row_line row) rest 307 size in
-      one_row version line (length rows) (row_line row ++ rest) (Ok row) (omega (arith, size, length-append (row_line row) rest)) (rw front (line_again row h.0))
+      one_row version line (length rows) (row_line row ++ rest) (Ok row) (omega (arith, size, length-append (row_line row) rest))
+      (rw front (line_again row h.0))
       ∙ rw (back, rows_again (line + 1) rows h.1) refl
 
-parts_again : (version : Version) (rows : List Row) → AllByRecursion (IsRow version) rows → cert_of (length rows) (head_line version ++ flat_map row_line rows) ≡ Ok (record { version = version; rows = rows })
+parts_again : (version : Version) (rows : List Row) → AllByRecursion (IsRow version) rows →
+    cert_of (length rows) (head_line version ++ flat_map row_line rows) ≡ Ok (record { version = version; rows = rows })
 unfolding cert_of
 parts_again One rows h = ap (certified One) (rows_again One 2 rows h)
 parts_again Two rows h = ap (certified Two) (rows_again Two 2 rows h)
@@ -71,7 +81,12 @@ cert_again cert h = parts_again cert.version cert.rows h
 -- ---- one spelling
 
 length-line : {version : Version} (row : Row) → IsRow version row → length (row_line row) ≡ 307
-length-line row fits = omega (arith, length-encode_with lower_digits (row_bytes row), length-row row fits, length-append (encode_lower (row_bytes row)) (10 ∷ []))
+length-line row fits = omega (
+  arith,
+  length-encode_with lower_digits (row_bytes row),
+  length-row row fits,
+  length-append (encode_lower (row_bytes row)) (10 ∷ []),
+)
 
 length-lines : (version : Version) (rows : List Row) → AllByRecursion (IsRow version) rows → length (flat_map row_line rows) ≡ 307 * length rows
 length-lines version [] h = omega arith
@@ -85,7 +100,12 @@ length-head One = refl
 length-head Two = refl
 
 pub length-spelling : (cert : Certificate) → IsCertificate cert → length (spelling cert) ≡ 11 + 307 * length cert.rows
-length-spelling cert h = omega (arith, length-lines cert.version cert.rows h, length-head cert.version, length-append (head_line cert.version) (flat_map row_line cert.rows))
+length-spelling cert h = omega (
+  arith,
+  length-lines cert.version cert.rows h,
+  length-head cert.version,
+  length-append (head_line cert.version) (flat_map row_line cert.rows),
+)
 
 pub one_spelling : (cert cert' : Certificate) → IsCertificate cert → IsCertificate cert' → spelling cert ≡ spelling cert' → cert ≡ cert'
 one_spelling cert cert' h h' e =

@@ -1,5 +1,6 @@
 -- What is wrong where nothing is read.
-use Rattle.std.proofs.Common.{◌≡◌, ◌⊎◌, ℕ, zero, suc, ◌+◌, Bool, true, false, List, [], ◌∷◌, ◌++◌, length, take, drop, Result, Ok, Err, refl, sym, ap, subst, ◌∙◌, append_assoc, inl, inr, arith}
+use Rattle.std.proofs.Common.{◌≡◌, ◌⊎◌, ℕ, zero, suc, ◌+◌, Bool, true, false, List, [], ◌∷◌, ◌++◌, length, take, drop, Result, Ok, Err, refl, sym, ap, subst}
+use Rattle.std.proofs.Common.{◌∙◌, append_assoc, inl, inr, arith}
 use Rattle.std.specs.Prelude.{Option, Some, None, IfErr, nat_eq}
 use Rattle.std.specs.List.{flat_map, AllByRecursion, starts_with}
 use Rattle.std.proofs.lemmas.List.{take-append-drop}
@@ -27,7 +28,8 @@ record Stops (version : Version) (start n : ℕ) (bytes : List ℕ) (fault : Fau
   pub wrong : IsWrong version n rows rest fault.cause
 
 -- with one row more in front
-later : (version : Version) (n : ℕ) (row : Row) (rows : List Row) (rest : List ℕ) (cause : Cause) → IsWrong version n rows rest cause → IsWrong version (suc n) (row ∷ rows) rest cause
+later : (version : Version) (n : ℕ) (row : Row) (rows : List Row) (rest : List ℕ) (cause : Cause) → IsWrong version n rows rest cause →
+    IsWrong version (suc n) (row ∷ rows) rest cause
 later version n row rows rest BadHead h = h
 later version n row rows rest BadLine h = (omega arith, h.1, h.2)
 later version n row rows rest BadRow h = (omega arith, h.1, h.2)
@@ -49,20 +51,24 @@ onto_err : (row : Row) (r : Result (List Row) Fault) (fault : Fault) → (r >>= 
 onto_err row (Ok rows) fault h = absurd cc
 onto_err row (Err f) fault h = h
 
-here : (version : Version) (start n : ℕ) (bytes : List ℕ) (fault : Fault) → fault.line ≡ start → IsWrong version n [] bytes fault.cause → Stops version start n bytes fault
+here : (version : Version) (start n : ℕ) (bytes : List ℕ) (fault : Fault) → fault.line ≡ start → IsWrong version n [] bytes fault.cause →
+    Stops version start n bytes fault
 here version start n bytes fault at bad = record { rows = []; rest = bytes; read = refl; well_formed = tt; line = omega (arith, at); wrong = bad }
 
-further : (version : Version) (start n : ℕ) (bytes : List ℕ) (fault : Fault) (row : Row) → Spells version (take 307 bytes) row → Stops version (start + 1) n (drop 307 bytes) fault → Stops version start (suc n) bytes fault
+further : (version : Version) (start n : ℕ) (bytes : List ℕ) (fault : Fault) (row : Row) → Spells version (take 307 bytes) row →
+    Stops version (start + 1) n (drop 307 bytes) fault → Stops version start (suc n) bytes fault
 further version start n bytes fault row one s = record {
   rows = row ∷ s.rows;
   rest = s.rest;
-  read = sym (take-append-drop 307 bytes) ∙ ap (λ (x : List ℕ). x ++ drop 307 bytes) one.text ∙ ap (λ (x : List ℕ). row_line row ++ x) s.read ∙ sym (append_assoc (row_line row) (flat_map row_line s.rows) s.rest);
+  read = sym (take-append-drop 307 bytes) ∙ ap (λ (x : List ℕ). x ++ drop 307 bytes) one.text ∙ ap (λ (x : List ℕ). row_line row ++ x) s.read
+      ∙ sym (append_assoc (row_line row) (flat_map row_line s.rows) s.rest);
   well_formed = (one.well_formed, s.well_formed);
   line = omega (arith, s.line);
   wrong = later version n row s.rows s.rest fault.cause s.wrong;
 }
 
-counted : (version : Version) (start n : ℕ) (bytes : List ℕ) (fault : Fault) → IsWrong version n [] bytes BadCount → wrong {A = List Row} (record { line = start; cause = BadCount }) ≡ wrong fault → Stops version start n bytes fault
+counted : (version : Version) (start n : ℕ) (bytes : List ℕ) (fault : Fault) → IsWrong version n [] bytes BadCount →
+    wrong {A = List Row} (record { line = start; cause = BadCount }) ≡ wrong fault → Stops version start n bytes fault
 counted version start n bytes fault bad h =
     let same : record { line = start; cause = BadCount } ≡ fault = same_error (record { line = start; cause = BadCount }) fault h in
     here version start n bytes fault (sym (ap (λ (f : Fault). f.line) same)) (subst (λ (f : Fault). IsWrong version n [] bytes f.cause) same bad)
@@ -78,10 +84,12 @@ stops version start (suc n) (b ∷ bytes) fault h =
     elim (bind_err (at_line start (row_of version front)) (λ row. rows_of version (start + 1) n back >>= onto row) fault h) [
       | inl bad ↦
           let p = line_err start (row_of version front) fault bad in
-          here version start (suc n) (b ∷ bytes) fault p.1 (next_wrong version (suc n) [] (b ∷ bytes) fault.cause (omega arith) (omega arith) (line_wrong version front fault.cause p.0))
+          here version start (suc n) (b ∷ bytes) fault p.1 (next_wrong version (suc n) [] (b ∷ bytes) fault.cause (omega arith) (omega arith)
+          (line_wrong version front fault.cause p.0))
       | inr more ↦
           let one = row_found version front more.0 (from_line start (row_of version front) more.0 more.1) in
-          further version start n (b ∷ bytes) fault more.0 one (stops version (start + 1) n back fault (onto_err more.0 (rows_of version (start + 1) n back) fault more.2))
+          further version start n (b ∷ bytes) fault more.0 one (stops version (start + 1) n back fault
+          (onto_err more.0 (rows_of version (start + 1) n back) fault more.2))
     ]
 
 certified_err : (version : Version) (r : Result (List Row) Fault) (fault : Fault) → certified version r ≡ Err fault → r ≡ Err fault
@@ -92,7 +100,8 @@ certified_err version (Err f) fault h = ap (λ (z : _). Err z) (same_error {A = 
 no_head : (text : List ℕ) → version_in text ≡ None → (version : Version) → starts_with nat_eq text (head_line version) ≡ false
 no_head text h version = go (starts_with nat_eq text (head_line One)) refl
   where
-    two : (b : Bool) → starts_with nat_eq text (head_line Two) ≡ b → starts_with nat_eq text (head_line One) ≡ false → (version : Version) → starts_with nat_eq text (head_line version) ≡ false
+    two : (b : Bool) → starts_with nat_eq text (head_line Two) ≡ b → starts_with nat_eq text (head_line One) ≡ false →
+        (version : Version) → starts_with nat_eq text (head_line version) ≡ false
     two true e f version = let wrong : Some Two ≡ None = sym (rw (f, e) refl) ∙ h in cc
     two false e f One = f
     two false e f Two = e
@@ -115,7 +124,8 @@ is_fault_of n text fault h = go (version_in text) refl
         inr (record {
           cert = record { version = version; rows = s.rows };
           rest = s.rest;
-          read = head_found text version e ∙ ap (λ (x : List ℕ). head_line version ++ x) s.read ∙ sym (append_assoc (head_line version) (flat_map row_line s.rows) s.rest);
+          read = head_found text version e ∙ ap (λ (x : List ℕ). head_line version ++ x) s.read
+              ∙ sym (append_assoc (head_line version) (flat_map row_line s.rows) s.rest);
           well_formed = s.well_formed;
           line = s.line;
           wrong = s.wrong;

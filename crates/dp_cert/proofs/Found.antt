@@ -1,5 +1,6 @@
 -- What is read is spelled so.
-use Rattle.std.proofs.Common.{◌≡◌, ℕ, zero, suc, ◌+◌, ◌&&◌, Bool, true, false, cond, List, [], ◌∷◌, ◌++◌, length, take, drop, Result, Ok, Err, refl, sym, ap, subst, ◌∙◌}
+use Rattle.std.proofs.Common.{◌≡◌, ℕ, zero, suc, ◌+◌, ◌&&◌, Bool, true, false, cond, List, [], ◌∷◌, ◌++◌, length, take, drop, Result, Ok, Err, refl, sym, ap}
+use Rattle.std.proofs.Common.{subst, ◌∙◌}
 use Rattle.std.specs.Prelude.{IfOk, IsTrue, nat_eq}
 use Rattle.std.specs.Global.{Vec}
 use Rattle.std.specs.List.{flat_map, list_all, AllByRecursion, starts_with}
@@ -19,7 +20,8 @@ use Rattle.dp_cert.specs.declared.cert.Version.{Version}
 use Rattle.dp_cert.specs.declared.cert.Version.TheVariants.{One, Two}
 use Rattle.std.proofs.lemmas.Option.{same_Some}
 use Rattle.std.specs.Prelude.{Option, Some, None}
-use Rattle.dp_cert.specs.Reading.{◌>>=◌, at_line, onto, is_line, digits_in, of_bytes, spelled_row, row_in, row_of, rows_of, version_in, certified, cert_of, Gives}
+use Rattle.dp_cert.specs.Reading.{◌>>=◌, at_line, onto, is_line, digits_in, of_bytes, spelled_row, row_in, row_of, rows_of, version_in, certified, cert_of}
+use Rattle.dp_cert.specs.Reading.{Gives}
 
 pub chosen : {A E : Type 0} (b : Bool) (r : Result A E) (e : E) (x : A) → cond b r (Err e) ≡ Ok x → (b ≡ true) × (r ≡ Ok x)
 chosen true r e x h = (refl, h)
@@ -66,7 +68,8 @@ module _ (version : Version) where
 
   pub row_found : (line : List ℕ) (row : Row) → row_of version line ≡ Ok row → Spells line row
   unfolding row_of
-  row_found line row h = bytes_found line (decode_sized (digits_in line) 153) row (chosen (is_line line) (of_bytes version line (decode_sized (digits_in line) 153)) BadLine row h).1
+  row_found line row h = bytes_found line (decode_sized (digits_in line) 153) row
+      (chosen (is_line line) (of_bytes version line (decode_sized (digits_in line) 153)) BadLine row h).1
 
   -- the bytes spell so many rows
   pub record SpellAll (n : ℕ) (bytes : List ℕ) (rows : List Row) : Type 0 where
@@ -76,7 +79,8 @@ module _ (version : Version) where
 
   rows_found : (line n : ℕ) (bytes : List ℕ) (rows : List Row) → rows_of version line n bytes ≡ Ok rows → SpellAll n bytes rows
   unfolding rows_of
-  rows_found line zero [] rows h = let P : List Row → Type 0 = λ rs. SpellAll 0 [] rs in subst P (ok_is {E = Fault} [] rows h) (record { text = refl; count = refl; well_formed = tt })
+  rows_found line zero [] rows h = let P : List Row → Type 0 = λ rs. SpellAll 0 [] rs in
+      subst P (ok_is {E = Fault} [] rows h) (record { text = refl; count = refl; well_formed = tt })
   rows_found line zero (b ∷ bytes) rows h = absurd cc
   rows_found line (suc n) [] rows h = absurd cc
   rows_found line (suc n) (b ∷ bytes) rows h =
@@ -123,7 +127,12 @@ cert_found n text cert h = go (version_in text) refl
         let p = bind_ok (rows_of version 2 n (drop 11 text)) (λ rows. Ok (record { version = version; rows = rows })) cert read in
         let all = rows_found version 2 n (drop 11 text) p.0 p.1 in
         let is : record { version = version; rows = p.0 } ≡ cert = ok_is {E = Fault} (record { version = version; rows = p.0 }) cert p.2 in
-        subst (CertText n text) is (record { text = head_found text version e ∙ ap (λ (x : List ℕ). head_line version ++ x) all.text; count = all.count; well_formed = all.well_formed })
+        subst (CertText n text) is (record {
+          text = head_found text version e
+              ∙ ap (λ (x : List ℕ). head_line version ++ x) all.text;
+          count = all.count;
+          well_formed = all.well_formed;
+        })
 
 pub is_found : (n : ℕ) (text : List ℕ) (r : Result Certificate CertError) → Gives (λ c. c) r (cert_of n text) → IfOk r (λ c. CertText n text c)
 is_found n text (Ok c) h = cert_found n text c h
@@ -133,6 +142,7 @@ all_true : (version : Version) (rows : List Row) → AllByRecursion (λ row. is_
 all_true version [] h = refl
 all_true version (row ∷ rows) h = rw (h.0, all_true version rows h.1) refl
 
-pub are_well_formed : (version : Version) (n : ℕ) (text : List ℕ) (r : Result (Vec Row) CertError) → Gives (λ v. v.items) r (rows_of version 2 n text) → IfOk r (λ v. IsTrue (list_all (is_row_of version) v.items))
+pub are_well_formed : (version : Version) (n : ℕ) (text : List ℕ) (r : Result (Vec Row) CertError) → Gives (λ v. v.items) r (rows_of version 2 n text) →
+    IfOk r (λ v. IsTrue (list_all (is_row_of version) v.items))
 are_well_formed version n text (Ok v) h = all_true version v.items (rows_found version 2 n text v.items h).well_formed
 are_well_formed version n text (Err e) h = tt

@@ -16,10 +16,12 @@ of_head : (n : ℕ) (text : List ℕ) (version : Version) → version_in text �
 unfolding cert_of
 of_head n text version e = rw e refl
 
-pub all_of : (n : ℕ) (text : List ℕ) (version : Version) (rows : List Row) (cert : Certificate) → version_in text ≡ Some version → rows_of version 2 n (drop 11 text) ≡ Ok rows → cert.rows ≡ rows → cert.version ≡ version → cert_of n text ≡ Ok cert
+pub all_of : (n : ℕ) (text : List ℕ) (version : Version) (rows : List Row) (cert : Certificate) → version_in text ≡ Some version →
+    rows_of version 2 n (drop 11 text) ≡ Ok rows → cert.rows ≡ rows → cert.version ≡ version → cert_of n text ≡ Ok cert
 all_of n text version rows cert e read same_rows same_version =
     of_head n text version e ∙ (ap (certified version) read ∙ λ i. Ok (record { version = sym same_version i; rows = sym same_rows i }))
 
-pub error_of : (n : ℕ) (text : List ℕ) (version : Version) (error : CertError) → version_in text ≡ Some version → Fails error (rows_of version 2 n (drop 11 text)) → Fails error (cert_of n text)
+pub error_of : (n : ℕ) (text : List ℕ) (version : Version) (error : CertError) → version_in text ≡ Some version →
+    Fails error (rows_of version 2 n (drop 11 text)) → Fails error (cert_of n text)
 error_of n text version errors.Memory e h = tt
 error_of n text version (errors.Fault f) e h = of_head n text version e ∙ ap (certified version) h

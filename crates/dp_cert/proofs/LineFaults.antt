@@ -1,5 +1,6 @@
 -- What is wrong with a line.
-use Rattle.std.proofs.Common.{◌≡◌, ◌≢◌, ℕ, ◌-◌, ◌*◌, ◌<◌, ◌&&◌, ◌||◌, Bool, true, false, cond, eqb, get_or, Some, None, List, [], ◌∷◌, length, take, Result, Ok, Err, refl, sym, subst, arith}
+use Rattle.std.proofs.Common.{◌≡◌, ◌≢◌, ℕ, ◌-◌, ◌*◌, ◌<◌, ◌&&◌, ◌||◌, Bool, true, false, cond, eqb, get_or, Some, None, List, [], ◌∷◌, length, take, Result}
+use Rattle.std.proofs.Common.{Ok, Err, refl, sym, subst, arith}
 use Rattle.std.specs.Prelude.{IsOk, is_some, nat_le}
 use Rattle.std.specs.List.{list_all}
 use Rattle.std.specs.Str.{bytes_eq}
@@ -65,7 +66,8 @@ pub row_wrong : (b : Bool) (row : Row) (cause : Cause) → cond b (Ok row) (Err 
 row_wrong true row cause h = absurd cc
 row_wrong false row cause h = cc
 
-pub bytes_wrong : (version : Version) (line : List ℕ) (d : Result (List ℕ) FromHexError) (cause : Cause) → IsOk d → of_bytes version line d ≡ Err cause → cause ≡ BadRow
+pub bytes_wrong : (version : Version) (line : List ℕ) (d : Result (List ℕ) FromHexError) (cause : Cause) → IsOk d → of_bytes version line d ≡ Err cause →
+    cause ≡ BadRow
 bytes_wrong version line (Ok bytes) cause ok h = row_wrong (bytes_eq (row_line (row_in bytes)) line && is_row_of version (row_in bytes)) (row_in bytes) cause h
 bytes_wrong version line (Err e) cause ok h = absurd cc
 
@@ -83,7 +85,8 @@ line_wrong version line cause h = go (is_line line) refl
         subst (λ (x : Cause). IsWrongLine version line x) (same_error BadLine cause read) e
 
 -- the next of the lines is wrong
-pub next_wrong : (version : Version) (n : ℕ) (rows : List Row) (rest : List ℕ) (cause : Cause) → length rows < n → 0 < length rest → IsWrongLine version (take 307 rest) cause → IsWrong version n rows rest cause
+pub next_wrong : (version : Version) (n : ℕ) (rows : List Row) (rest : List ℕ) (cause : Cause) → length rows < n → 0 < length rest →
+    IsWrongLine version (take 307 rest) cause → IsWrong version n rows rest cause
 next_wrong version n rows rest BadHead lt some h = h
 next_wrong version n rows rest BadLine lt some h = (lt, some, h)
 next_wrong version n rows rest BadRow lt some h = (lt, h.0, h.1)

@@ -1,5 +1,6 @@
 -- One more row, in a loop that reads rows.
-use Rattle.std.proofs.Common.{◌≡◌, ℕ, suc, ◌+◌, ◌-◌, ◌<◌, ◌≤◌, List, [], ◌∷◌, ◌++◌, length, take, drop, Result, Ok, Err, refl, sym, ap, ◌∙◌, append_assoc, arith}
+use Rattle.std.proofs.Common.{◌≡◌, ℕ, suc, ◌+◌, ◌-◌, ◌<◌, ◌≤◌, List, [], ◌∷◌, ◌++◌, length, take, drop, Result, Ok, Err, refl, sym, ap, ◌∙◌, append_assoc}
+use Rattle.std.proofs.Common.{arith}
 use Rattle.std.proofs.lemmas.List.{append-nil}
 use Rattle.dp_model.specs.declared.row.Row.{Row}
 use Rattle.dp_cert.specs.declared.error.Fault.{Fault}
@@ -22,8 +23,10 @@ module _ (version : Version) where
   one_row line n [] read lt e = absurd (omega arith)
   one_row line n (b ∷ bytes) read lt e = rw e refl
 
-  pub goes_on : (front : List Row) (n i : ℕ) (rest : List ℕ) (row : Row) (total : Result (List Row) Fault) → i < n → 0 < length rest → row_of version (take 307 rest) ≡ Ok row
-      → prepend front (rows_of version (i + 2) (n - i) rest) ≡ total → prepend (front ++ row ∷ []) (rows_of version (i + 1 + 2) (n - (i + 1)) (drop 307 rest)) ≡ total
+  pub goes_on : (front : List Row) (n i : ℕ) (rest : List ℕ) (row : Row) (total : Result (List Row) Fault) → i < n → 0 < length rest →
+      row_of version (take 307 rest) ≡ Ok row
+      → prepend front (rows_of version (i + 2) (n - i) rest) ≡ total → prepend (front ++ row ∷ []) (rows_of version (i + 1 + 2) (n - (i + 1)) (drop 307 rest))
+      ≡ total
   goes_on front n i rest row total lt some e so_far =
       let k : n - i ≡ suc (n - (i + 1)) = omega arith in
       let m : i + 2 + 1 ≡ i + 1 + 2 = omega arith in
@@ -31,11 +34,13 @@ module _ (version : Version) where
       rw (k, one_row (i + 2) (n - (i + 1)) rest (Ok row) some e, m) (regroup front row (rows_of version (i + 1 + 2) (n - (i + 1)) (drop 307 rest))) in
       sym one ∙ so_far
 
-  pub bad_row : (front : List Row) (n i : ℕ) (rest : List ℕ) (cause : Cause) (total : Result (List Row) Fault) → i < n → 0 < length rest → row_of version (take 307 rest) ≡ Err cause
+  pub bad_row : (front : List Row) (n i : ℕ) (rest : List ℕ) (cause : Cause) (total : Result (List Row) Fault) → i < n → 0 < length rest →
+      row_of version (take 307 rest) ≡ Err cause
       → prepend front (rows_of version (i + 2) (n - i) rest) ≡ total → total ≡ Err (record { line = i + 2; cause = cause })
   bad_row front n i rest cause total lt some e so_far =
       let k : n - i ≡ suc (n - (i + 1)) = omega arith in
-      let one : prepend front (rows_of version (i + 2) (n - i) rest) ≡ Err (record { line = i + 2; cause = cause }) = rw (k, one_row (i + 2) (n - (i + 1)) rest (Err cause) some e) refl in
+      let one : prepend front (rows_of version (i + 2) (n - i) rest) ≡ Err (record { line = i + 2; cause = cause }) =
+      rw (k, one_row (i + 2) (n - (i + 1)) rest (Err cause) some e) refl in
       sym so_far ∙ one
 
   pub too_few : (front : List Row) (n i : ℕ) (rest : List ℕ) (total : Result (List Row) Fault) → i < n → length rest ≡ 0

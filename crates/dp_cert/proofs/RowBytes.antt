@@ -1,5 +1,6 @@
 -- The bytes of a row are read as that row.
-use Rattle.std.proofs.Common.{◌≡◌, ℕ, zero, suc, ◌*◌, ◌^◌, ◌<◌, Bool, true, false, cond, eqb, List, [], ◌∷◌, ◌++◌, length, drop, refl, ap, ◌∙◌, append_assoc, arith}
+use Rattle.std.proofs.Common.{◌≡◌, ℕ, zero, suc, ◌*◌, ◌^◌, ◌<◌, Bool, true, false, cond, eqb, List, [], ◌∷◌, ◌++◌, length, drop, refl, ap, ◌∙◌, append_assoc}
+use Rattle.std.proofs.Common.{arith}
 use Rattle.std.specs.List.{flat_map, AllByRecursion}
 use Rattle.std.specs.Int.{w16, w64, to_be_bytes, from_be_bytes, bytes_high_first, byte_at}
 use Rattle.std.proofs.lemmas.List.{append-nil, take_at, drop_at, length-append}
@@ -45,8 +46,26 @@ length-fact Empty = refl
 length-fact (Held share head tail first last segs) = refl
 
 pub Low-fact : (f : Fact) → FactInRange f → Low (fact_bytes f)
-Low-fact Empty h = (omega arith, (omega arith, (omega arith, (omega arith, (omega arith, (omega arith, (omega arith, (omega arith, (omega arith, (omega arith, (omega arith, tt)))))))))))
-Low-fact (Held share head tail first last segs) h = (omega arith, (omega arith, (omega arith, (omega arith, (omega arith, (omega arith, (omega arith, (omega arith, (omega arith, (omega arith, (omega arith, tt)))))))))))
+Low-fact Empty h = (
+  omega arith,
+  (
+    omega arith,
+    (
+      omega arith,
+      (
+        omega arith,
+        (omega arith, (omega arith, (omega arith, (omega arith, (omega arith, (omega arith, (omega arith, tt))))))),
+      ),
+    ),
+  ),
+)
+Low-fact (Held share head tail first last segs) h = (
+  omega arith,
+  (
+    omega arith,
+    (omega arith, (omega arith, (omega arith, (omega arith, (omega arith, (omega arith, (omega arith, (omega arith, (omega arith, tt))))))))),
+  ),
+)
 
 pub fact_again : (f : Fact) → FactInRange f → fact_in (fact_bytes f) ≡ f
 unfolding fact_in
@@ -67,13 +86,20 @@ pub bound_again : (n : ℕ) → n < 2 ^ 64 → bound_in (to_be_bytes w64 n) ≡ 
 unfolding bound_in
 bound_again n h = from_be_bytes-to_be_bytes_8 n h
 
-pub parts_again : {A : Type 0} (P : A → Type 0) (part : List ℕ → A) (f : A → List ℕ) (width : ℕ) → ((x : A) → length (f x) ≡ width) → ((x : A) → P x → part (f x) ≡ x)
+pub parts_again : {A : Type 0} (P : A → Type 0) (part : List ℕ → A) (f : A → List ℕ) (width : ℕ) → ((x : A) → length (f x) ≡ width) →
+    ((x : A) → P x → part (f x) ≡ x)
     → (xs : List A) (rest : List ℕ) → AllByRecursion P xs → parts_in part width (length xs) (flat_map f xs ++ rest) ≡ xs
 unfolding parts_in
 parts_again P part f width len again [] rest h = refl
 parts_again P part f width len again (x ∷ xs) rest h =
     let e : (f x ++ flat_map f xs) ++ rest ≡ f x ++ (flat_map f xs ++ rest) = append_assoc (f x) (flat_map f xs) rest in
-    rw (e, take_at (f x) (flat_map f xs ++ rest) width (len x), drop_at (f x) (flat_map f xs ++ rest) width (len x), again x h.0, parts_again P part f width len again xs rest h.1) refl
+    rw (
+      e,
+      take_at (f x) (flat_map f xs ++ rest) width (len x),
+      drop_at (f x) (flat_map f xs ++ rest) width (len x),
+      again x h.0,
+      parts_again P part f width len again xs rest h.1,
+    ) refl
 
 pub length-flat : {A : Type 0} (f : A → List ℕ) (width : ℕ) → ((x : A) → length (f x) ≡ width) → (xs : List A) → length (flat_map f xs) ≡ width * length xs
 length-flat f width len [] = omega arith
@@ -96,7 +122,11 @@ low_flag true = omega arith
 low_flag false = omega arith
 
 pub Low-row : {version : Version} (row : Row) → IsRow version row → Low (row_bytes row)
-Low-row row fits = (low_flag row.live, Low-append (flat_map fact_bytes row.facts) (flat_map (to_be_bytes w64) row.bounds) (Low-flat FactInRange fact_bytes row.facts Low-fact fits.facts) (Low-flat (λ n. n < 2 ^ 64) (to_be_bytes w64) row.bounds (λ n h. Low-be 8 n) fits.bounds))
+Low-row row fits = (
+  low_flag row.live,
+  Low-append (flat_map fact_bytes row.facts) (flat_map (to_be_bytes w64) row.bounds)
+      (Low-flat FactInRange fact_bytes row.facts Low-fact fits.facts) (Low-flat (λ n. n < 2 ^ 64) (to_be_bytes w64) row.bounds (λ n h. Low-be 8 n) fits.bounds),
+)
 
 pub row_again : {version : Version} (row : Row) → IsRow version row → row_in (row_bytes row) ≡ row
 unfolding row_in facts_in bounds_in
@@ -104,9 +134,14 @@ row_again row fits =
     let a = flat_map fact_bytes row.facts in
     let b = flat_map (to_be_bytes w64) row.bounds in
     let made : Bool → List Fact → List ℕ → Row = λ l f n. record { live = l; facts = f; bounds = n } in
-    let front : parts_in fact_in 11 8 (a ++ b) ≡ row.facts = rw fits.eight_facts at (parts_again FactInRange fact_in fact_bytes 11 length-fact fact_again row.facts b fits.facts) in
-    let back : parts_in bound_in 8 8 b ≡ row.bounds = rw (fits.eight_bounds, append-nil b) at (parts_again (λ n. n < 2 ^ 64) bound_in (to_be_bytes w64) 8 (λ n. refl) bound_again row.bounds [] fits.bounds) in
-    let far : drop 89 (row_bytes row) ≡ b = drop_at (cond row.live 1 0 ∷ a) b 89 (omega (arith, length-flat fact_bytes 11 length-fact row.facts, fits.eight_facts)) in
+    let front : parts_in fact_in 11 8 (a ++ b) ≡ row.facts = rw fits.eight_facts at
+    (parts_again FactInRange fact_in fact_bytes 11 length-fact fact_again row.facts b fits.facts) in
+    let back : parts_in bound_in 8 8 b ≡ row.bounds = rw (
+      fits.eight_bounds,
+      append-nil b,
+    ) at (parts_again (λ n. n < 2 ^ 64) bound_in (to_be_bytes w64) 8 (λ n. refl) bound_again row.bounds [] fits.bounds) in
+    let far : drop 89 (row_bytes row) ≡ b = drop_at (cond row.live 1 0 ∷ a) b 89
+    (omega (arith, length-flat fact_bytes 11 length-fact row.facts, fits.eight_facts)) in
     ap (λ (l : Bool). made l (parts_in fact_in 11 8 (a ++ b)) (parts_in bound_in 8 8 (drop 89 (row_bytes row)))) (flag row.live)
     ∙ ap (λ (f : List Fact). made row.live f (parts_in bound_in 8 8 (drop 89 (row_bytes row)))) front
     ∙ ap (λ (x : List ℕ). made row.live row.facts (parts_in bound_in 8 8 x)) far

@@ -20,7 +20,8 @@ rows_well_formed Two (row ∷ rows) h = h
 pub raised_rows : (version : Version) (rows : List Row) → IsTrue (list_all (is_row_of version) rows) → IsTrue (list_all (is_row_of Two) rows)
 raised_rows version rows h = rows_well_formed version rows h
 
-plain_rows : (rows : List Row) → list_all is_well_formed_row rows ≡ true → list_any (λ row. have_groups row.facts) rows ≡ false → list_all (is_row_of One) rows ≡ true
+plain_rows : (rows : List Row) → list_all is_well_formed_row rows ≡ true → list_any (λ row. have_groups row.facts) rows ≡ false →
+    list_all (is_row_of One) rows ≡ true
 plain_rows [] h none = refl
 plain_rows (row ∷ rows) h none =
     let (here, rest) = and_parts (is_well_formed_row row) (list_all is_well_formed_row rows) h in

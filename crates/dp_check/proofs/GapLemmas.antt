@@ -8,21 +8,25 @@ use Rattle.dp_model.specs.Rules.{Question}
 use Rattle.dp_model.specs.declared.instr.Instr.{Instr}
 use Rattle.dp_model.specs.declared.row.Row.{Row}
 
-all_step : {A : Type 0} → (test : A → Bool) (xs : List A) (i : ℕ) (x : A) → slice_get xs i ≡ Some x → list_all test (drop i xs) ≡ (test x && list_all test (drop (suc i) xs))
+all_step : {A : Type 0} → (test : A → Bool) (xs : List A) (i : ℕ) (x : A) → slice_get xs i ≡ Some x → list_all test (drop i xs)
+    ≡ (test x && list_all test (drop (suc i) xs))
 all_step test (y ∷ xs) zero x e = cc
 all_step test (y ∷ xs) (suc i) x e = all_step test xs i x e
 all_step test [] i x e = cc
 
-pub all_drop : {A : Type 0} → (test : A → Bool) (xs : List A) (i : ℕ) (x : A) → slice_get xs i ≡ Some x → list_all test (drop i xs) ≡ (test x && list_all test (drop (i + 1) xs))
+pub all_drop : {A : Type 0} → (test : A → Bool) (xs : List A) (i : ℕ) (x : A) → slice_get xs i ≡ Some x → list_all test (drop i xs)
+    ≡ (test x && list_all test (drop (i + 1) xs))
 all_drop test xs i x e = rw add-one (all_step test xs i x e)
 
-pass_step : {A : Type 0} → (test : A → Bool) (xs : List A) (i : ℕ) → Is (slice_get xs i) (λ x. test x ≡ true) → list_all test (drop i xs) ≡ list_all test (drop (suc i) xs)
+pass_step : {A : Type 0} → (test : A → Bool) (xs : List A) (i : ℕ) → Is (slice_get xs i) (λ x. test x ≡ true) → list_all test (drop i xs)
+    ≡ list_all test (drop (suc i) xs)
 pass_step test (y ∷ xs) zero h = cc
 pass_step test (y ∷ xs) (suc i) h = pass_step test xs i h
 pass_step test [] i h = absurd h
 
 -- where the test holds at a place, the rest decides
-pub passed : {A : Type 0} → (test : A → Bool) (xs : List A) (i : ℕ) → Is (slice_get xs i) (λ x. test x ≡ true) → list_all test (drop i xs) ≡ list_all test (drop (i + 1) xs)
+pub passed : {A : Type 0} → (test : A → Bool) (xs : List A) (i : ℕ) → Is (slice_get xs i) (λ x. test x ≡ true) → list_all test (drop i xs)
+    ≡ list_all test (drop (i + 1) xs)
 passed test xs i h = rw add-one (pass_step test xs i h)
 
 -- one of a list is such where the one at a place is
@@ -32,7 +36,8 @@ some_index P (x ∷ xs) (suc i) d below h = inr (some_index P xs i d (omega arit
 some_index P [] i d below h = absurd (omega arith)
 
 -- what is said of an instruction and its row explains their label
-pub explained : (q : Question) (label : ℕ) (i : Instr) (row : Row) (o : Option Reason) → slice_get q.program label ≡ Some i → slice_get q.rows label ≡ Some row → IfSome o (Says q label i row) → IfSome o (Explains q label)
+pub explained : (q : Question) (label : ℕ) (i : Instr) (row : Row) (o : Option Reason) → slice_get q.program label ≡ Some i →
+    slice_get q.rows label ≡ Some row → IfSome o (Says q label i row) → IfSome o (Explains q label)
 explained q label i row None ei er h = h
 explained q label i row (Some reason) ei er h = inr (rw (ei, er) h)
 

@@ -17,17 +17,23 @@ use Rattle.dp_cert.specs.Spelling.{Certificate}
 use Rattle.dp_check.specs.Faults.{question, later_fault}
 
 -- a row of well-formed rows is well formed
-pub well_formed_at : (rows : List Row) (k : ℕ) (row : Row) → IsTrue (list_all is_well_formed_row rows) → slice_get rows k ≡ Some row → IsTrue (is_well_formed_row row)
+pub well_formed_at : (rows : List Row) (k : ℕ) (row : Row) → IsTrue (list_all is_well_formed_row rows) → slice_get rows k ≡ Some row →
+    IsTrue (is_well_formed_row row)
 well_formed_at (r ∷ rows) zero row h e = let here = (and_parts (is_well_formed_row r) (list_all is_well_formed_row rows) h).0 in cc
 well_formed_at (r ∷ rows) (suc k) row h e = well_formed_at rows k row (and_parts (is_well_formed_row r) (list_all is_well_formed_row rows) h).1 e
 well_formed_at [] k row h e = cc
 
 -- what was found of the rows of a certificate
-pub begins_with : (program : List Instr) (rows : List Row) (cert : Certificate) (env : Environment) (entry : Entry) → rows ≡ cert.rows → begins_well (question program (record { version = cert.version; rows = rows }) env entry) ≡ true → begins_well (question program cert env entry) ≡ true
-begins_with program rows cert env entry same begins = subst (λ (rs : List Row). begins_well (question program (record { version = cert.version; rows = rs }) env entry) ≡ true) same begins
+pub begins_with : (program : List Instr) (rows : List Row) (cert : Certificate) (env : Environment) (entry : Entry) → rows ≡ cert.rows →
+    begins_well (question program (record { version = cert.version; rows = rows }) env entry) ≡ true → begins_well (question program cert env entry) ≡ true
+begins_with program rows cert env entry same begins = subst (λ (rs : List Row).
+    begins_well (question program (record { version = cert.version; rows = rs }) env entry) ≡ true) same begins
 
-pub fault_with : (program : List Instr) (rows : List Row) (cert : Certificate) (env : Environment) (entry : Entry) (label : ℕ) (fault : Option Rule) → rows ≡ cert.rows → later_fault (question program (record { version = cert.version; rows = rows }) env entry) label ≡ fault → later_fault (question program cert env entry) label ≡ fault
-fault_with program rows cert env entry label fault same found = subst (λ (rs : List Row). later_fault (question program (record { version = cert.version; rows = rs }) env entry) label ≡ fault) same found
+pub fault_with : (program : List Instr) (rows : List Row) (cert : Certificate) (env : Environment) (entry : Entry) (label : ℕ) (fault : Option Rule) →
+    rows ≡ cert.rows → later_fault (question program (record { version = cert.version; rows = rows }) env entry) label ≡ fault →
+    later_fault (question program cert env entry) label ≡ fault
+fault_with program rows cert env entry label fault same found = subst (λ (rs : List Row).
+    later_fault (question program (record { version = cert.version; rows = rs }) env entry) label ≡ fault) same found
 
 -- with J1 and J2 the rules of each label are the later ones
 pub later_is : (q : Question) (label : ℕ) → holds q 0 J1 ≡ true → holds q 0 J2 ≡ true → fault_at q label ≡ later_fault q label
@@ -39,13 +45,15 @@ pub later_past : (q : Question) (label : ℕ) → length q.program ≤ label →
 later_past q label past = rw (slice_get_past q.program label past)
 
 -- one more label without a fault
-pub one_more : (q : Question) (n : ℕ) → length q.rows ≡ length q.program → holds q 0 J2 ≡ true → ((k : ℕ) → k < n → fault_at q k ≡ None) → later_fault q n ≡ None → (k : ℕ) → k < n + 1 → fault_at q k ≡ None
+pub one_more : (q : Question) (n : ℕ) → length q.rows ≡ length q.program → holds q 0 J2 ≡ true → ((k : ℕ) → k < n → fault_at q k ≡ None) →
+    later_fault q n ≡ None → (k : ℕ) → k < n + 1 → fault_at q k ≡ None
 one_more q n same begins below here =
     let now : fault_at q n ≡ None = later_is q n (eq-eqb (length q.rows) (length q.program) same) begins ∙ here in
     below_more (λ k. fault_at q k ≡ None) n below now
 
 -- no label has a fault, since none past the end has
-pub none_left : (q : Question) (n : ℕ) → length q.rows ≡ length q.program → holds q 0 J2 ≡ true → ((k : ℕ) → k < n → fault_at q k ≡ None) → length q.program ≤ n → IsAccepted q
+pub none_left : (q : Question) (n : ℕ) → length q.rows ≡ length q.program → holds q 0 J2 ≡ true → ((k : ℕ) → k < n → fault_at q k ≡ None) →
+    length q.program ≤ n → IsAccepted q
 none_left q n same begins below end label =
     elim (cases_lt label n) [
       | inl before ↦ below label before

@@ -29,7 +29,8 @@ same_certificate program env entry a b is =
 abbrev of_version : Question → ℕ → Question
 of_version q version = record q { version = version }
 
-live_same : (q : Question) (version label : ℕ) (o : Option Instr) (p : Option Row) (rule : Rule) → holds_if_live (of_version q version) label o p rule ≡ holds_if_live q label o p rule
+live_same : (q : Question) (version label : ℕ) (o : Option Instr) (p : Option Row) (rule : Rule) → holds_if_live (of_version q version) label o p rule
+    ≡ holds_if_live q label o p rule
 live_same q version label None p rule = refl
 live_same q version label (Some i) None rule = refl
 live_same q version label (Some i) (Some row) J1 = refl
@@ -64,14 +65,23 @@ find_same p q (rule ∷ rules) same =
 
 fault_same : (q : Question) (version label : ℕ) → fault_at (of_version q version) label ≡ fault_at q label
 fault_same q version label =
-    find_same (λ rule. not (holds (of_version q version) label rule)) (λ rule. not (holds q label rule)) (rules_of label) (λ rule. ap not (holds_same q version label rule))
+    find_same (λ rule. not (holds (of_version q version) label rule)) (λ rule. not (holds q label rule)) (rules_of label)
+    (λ rule. ap not (holds_same q version label rule))
 
-pub raised_accepted : (program : List Instr) (cert : Certificate) (env : Environment) (entry : Entry) → (IsAccepted (question program cert env entry)) ↔ (IsAccepted (question program (raised cert) env entry))
+pub raised_accepted : (program : List Instr) (cert : Certificate) (env : Environment) (entry : Entry) →
+    (IsAccepted (question program cert env entry)) ↔ (IsAccepted (question program (raised cert) env entry))
 raised_accepted program cert env entry =
     let same = fault_same (question program cert env entry) 2 in
     (λ accepted label. same label ∙ accepted label, λ accepted label. sym (same label) ∙ accepted label)
 
-pub raised_refused : (program : List Instr) (cert : Certificate) (env : Environment) (entry : Entry) (label : ℕ) (rule : Rule) → (IsRefused (question program cert env entry) label rule) ↔ (IsRefused (question program (raised cert) env entry) label rule)
+pub raised_refused : (program : List Instr) (cert : Certificate) (env : Environment) (entry : Entry) (label : ℕ) (rule : Rule) →
+    (IsRefused (question program cert env entry) label rule) ↔ (IsRefused (question program (raised cert) env entry) label rule)
 raised_refused program cert env entry label rule =
-    let same = fault_same (question program cert env entry) 2 in
-    (λ (here, before). (same label ∙ here, λ earlier less. same earlier ∙ before earlier less), λ (here, before). (sym (same label) ∙ here, λ earlier less. sym (same earlier) ∙ before earlier less))
+    let same = fault_same (question program cert env entry) 2 in (
+      λ (here, before). (same label ∙ here, λ earlier less. same earlier ∙ before earlier less),
+      λ (here, before). (
+        sym (same label)
+            ∙ here,
+        λ earlier less. sym (same earlier) ∙ before earlier less,
+      ),
+    )

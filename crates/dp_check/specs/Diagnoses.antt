@@ -1,5 +1,6 @@
 -- What a diagnosis says of a program that is refused: what is known, and what the rule wants.
-use Rattle.std.specs.Prelude.{◌≡◌, ◌≢◌, ◌⊎◌, ℕ, ◌+◌, ◌<◌, ◌≤◌, ◌==◌, Bool, true, false, ◌&&◌, not, if◌then◌else◌, List, [], ◌∷◌, length, Option, Some, None, MatchOption, slice_get}
+use Rattle.std.specs.Prelude.{◌≡◌, ◌≢◌, ◌⊎◌, ℕ, ◌+◌, ◌<◌, ◌≤◌, ◌==◌, Bool, true, false, ◌&&◌, not, if◌then◌else◌, List, [], ◌∷◌, length, Option, Some, None}
+use Rattle.std.specs.Prelude.{MatchOption, slice_get}
 use Rattle.std.proofs.Math.Bool.{beq}
 use Rattle.std.specs.Option.{option_map_or}
 use Rattle.dp_model.specs.declared.row.Fact.{Fact}
@@ -20,7 +21,8 @@ use Rattle.dp_check.specs.declared.reason.Measure.TheVariants as measure
 use Rattle.dp_check.specs.declared.reason.Gap.{Gap}
 use Rattle.dp_check.specs.declared.reason.Gap.TheVariants as gap
 use Rattle.dp_check.specs.declared.reason.Reason.{Reason}
-use Rattle.dp_check.specs.declared.reason.Reason.TheVariants.{RowCount, NoEntry, EntryRow, NoPool, NoTable, NoRing, NoInstruction, NotHeld, NotEmpty, OneRegister, TooLittle, NotAlone, TooLong, NoPort, LessThanRing, LeftOver, Successor}
+use Rattle.dp_check.specs.declared.reason.Reason.TheVariants.{RowCount, NoEntry, EntryRow, NoPool, NoTable, NoRing, NoInstruction, NotHeld, NotEmpty}
+use Rattle.dp_check.specs.declared.reason.Reason.TheVariants.{OneRegister, TooLittle, NotAlone, TooLong, NoPort, LessThanRing, LeftOver, Successor}
 use Rattle.dp_check.specs.declared.diagnosis.Diagnosis.{Diagnosis}
 
 -- ---- which rule a reason belongs to

@@ -27,8 +27,10 @@ pub struct Diagnosis {
 /// Why the entry's row does not entail the first, if it does not.
 fn entry_reason(program: &[Instr], rows: &[Row], env: &Env, entry: Entry) -> Option<Reason>
     requires { 0 < length rows.now }
-    ensures none { (version : Version) → IfNone result (begins_well (question program.now (record { version = version; rows = rows.now }) env.now entry) ≡ true) }
-    ensures fails { (version : Version) → IfSome result (λ reason. begins_well (question program.now (record { version = version; rows = rows.now }) env.now entry) ≡ false) }
+    ensures none { (version : Version) → IfNone result (begins_well (question program.now (record { version = version; rows = rows.now }) env.now entry)
+        ≡ true) }
+    ensures fails { (version : Version) → IfSome result (λ reason. begins_well
+        (question program.now (record { version = version; rows = rows.now }) env.now entry) ≡ false) }
     ensures rule { IfSome result (λ reason. rule_of reason ≡ J2) }
     ensures says { (version : Version) → IfSome result (SaysOfWhole (question program.now (record { version = version; rows = rows.now }) env.now entry)) }
 {
@@ -49,8 +51,10 @@ fn reason_at(program: &[Instr], rows: &[Row], env: &Env, label: u16) -> Option<R
     requires at_most { length program.now ≤ 1024 }
     requires same_length { length rows.now ≡ length program.now }
     requires well_formed { IsTrue (list_all is_well_formed_row rows.now) }
-    ensures rule { (version : Version) (entry : Entry) → option_map rule_of result ≡ later_fault (question program.now (record { version = version; rows = rows.now }) env.now entry) label }
-    ensures explains { (version : Version) (entry : Entry) → IfSome result (Explains (question program.now (record { version = version; rows = rows.now }) env.now entry) label) }
+    ensures rule { (version : Version) (entry : Entry) → option_map rule_of result
+        ≡ later_fault (question program.now (record { version = version; rows = rows.now }) env.now entry) label }
+    ensures explains { (version : Version) (entry : Entry) → IfSome result
+        (Explains (question program.now (record { version = version; rows = rows.now }) env.now entry) label) }
 {
     let row = &rows[label as usize];
     if !row.live {

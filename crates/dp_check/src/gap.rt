@@ -28,7 +28,8 @@ fn fact_gap(facts: &[Fact; 8], others: &[Fact; 8]) -> Option<PacketRegister>
 #[tactic(auto, using(dp_model::specs::Laws::Lists::each_place_drop))]
 fn member_gap(facts: &[Fact; 8], others: &[Fact; 8], group: u8) -> Option<PacketRegister>
     ensures none { IfNone result (same_registers facts.now others.now group ≡ true) }
-    ensures some { IfSome result (λ p. Is (slice_get facts.now p) (λ known. Is (slice_get others.now p) (λ wanted. beq (is_in group known) (is_in group wanted) ≡ false))) }
+    ensures some { IfSome result (λ p. Is (slice_get facts.now p) (λ known.
+        Is (slice_get others.now p) (λ wanted. beq (is_in group known) (is_in group wanted) ≡ false))) }
 {
     for i in 0..8 {
         if facts[i].is_in(group) != others[i].is_in(group) {
@@ -59,9 +60,11 @@ fn group_of_gap(
     member: usize,
 ) -> Option<(u8, PacketRegister)>
     requires { member < 8 }
-    ensures none { IfNone result (Is (slice_get others.now member) (λ other. option_map_or (same_registers facts.now others.now) (group_of other) true ≡ true)) }
+    ensures none { IfNone result (Is (slice_get others.now member) (λ other. option_map_or (same_registers facts.now others.now) (group_of other) true
+        ≡ true)) }
     ensures group { IfSome result (λ found. SomeOf (λ other. group_of other ≡ Some found.0) others.now) }
-    ensures some { IfSome result (λ found. Is (slice_get facts.now found.1) (λ known. Is (slice_get others.now found.1) (λ wanted. beq (is_in found.0 known) (is_in found.0 wanted) ≡ false))) }
+    ensures some { IfSome result (λ found. Is (slice_get facts.now found.1)
+        (λ known. Is (slice_get others.now found.1) (λ wanted. beq (is_in found.0 known) (is_in found.0 wanted) ≡ false))) }
 {
     let group = others[member].group()?;
     let packet = member_gap(facts, others, group)?;
@@ -72,7 +75,8 @@ fn group_of_gap(
 fn groups_gap(facts: &[Fact; 8], others: &[Fact; 8]) -> Option<(u8, PacketRegister)>
     ensures none { IfNone result (keeps_groups facts.now others.now ≡ true) }
     ensures group { IfSome result (λ found. SomeOf (λ other. group_of other ≡ Some found.0) others.now) }
-    ensures some { IfSome result (λ found. Is (slice_get facts.now found.1) (λ known. Is (slice_get others.now found.1) (λ wanted. beq (is_in found.0 known) (is_in found.0 wanted) ≡ false))) }
+    ensures some { IfSome result (λ found. Is (slice_get facts.now found.1)
+        (λ known. Is (slice_get others.now found.1) (λ wanted. beq (is_in found.0 known) (is_in found.0 wanted) ≡ false))) }
 {
     for member in 0..8 {
         if let Some(found) = group_of_gap(facts, others, member) {

@@ -6,7 +6,8 @@ ghost use Rattle.std.specs.Option.{option_map};
 ghost use Rattle.dp_model.specs.declared.env.Entry.{Entry};
 ghost use Rattle.dp_model.specs.declared.rule.Rule.TheVariants.{J3, J5, J6, J7, J8, J9, J10};
 ghost use Rattle.dp_model.specs.Rows.{entails, is_empty, is_well_formed_row, listed};
-ghost use Rattle.dp_model.specs.Rules.{Question, places_exist, is_held, uses, targets_fit, bytes_fit, share_fits, segments_fit, may_leave, may_end, row_passes, holds_at, later_rules};
+ghost use Rattle.dp_model.specs.Rules.{Question, places_exist, is_held, uses, targets_fit, bytes_fit, share_fits, segments_fit, may_leave, may_end};
+ghost use Rattle.dp_model.specs.Rules.{row_passes, holds_at, later_rules};
 ghost use Rattle.dp_cert.specs.declared.cert.Version.{Version};
 ghost use Rattle.dp_check.specs.Faults.{question};
 ghost use Rattle.dp_check.specs.Diagnoses.{Is, IsUnmet, Says, SomeOf, measured, measured_at, rule_of, segs_in};
@@ -348,8 +349,11 @@ pub(crate) fn reason_in(
     requires in_range { label < 65535 }
     requires same_length { length rows.now ≡ length program.now }
     requires well_formed { IsTrue (is_well_formed_row row.now) }
-    ensures rule { (version : Version) (entry : Entry) → option_map rule_of result ≡ find (λ rule. not (holds_at (question program.now (record { version = version; rows = rows.now }) env.now entry) label instr.now row.now rule)) later_rules }
-    ensures says { (version : Version) (entry : Entry) → IfSome result (Says (question program.now (record { version = version; rows = rows.now }) env.now entry) label instr.now row.now) }
+    ensures rule { (version : Version) (entry : Entry) → option_map rule_of result
+        ≡ find (λ rule. not (holds_at (question program.now (record { version = version; rows = rows.now }) env.now entry) label instr.now row.now rule))
+        later_rules }
+    ensures says { (version : Version) (entry : Entry) → IfSome result
+        (Says (question program.now (record { version = version; rows = rows.now }) env.now entry) label instr.now row.now) }
 {
     let leads = (*instr).leads(env, label, row);
     let count = program.len();

@@ -18,7 +18,8 @@ refs_contained (x ∷ packets) k b (suc place, there, is) =
     omega (arith, refs_contained packets k b (place, omega (arith, there), is), refs-append x (flat_map (λ k. k) packets) b)
 
 -- the references of a list among lists
-refs_in_list : (lists : List (List Packet)) (packets : List Packet) (b : Number) → Contains lists packets → refs (flat_map (λ k. k) packets) b ≤ refs (segments_listed lists) b
+refs_in_list : (lists : List (List Packet)) (packets : List Packet) (b : Number) → Contains lists packets →
+    refs (flat_map (λ k. k) packets) b ≤ refs (segments_listed lists) b
 refs_in_list [] packets b (place, there, is) = absurd (omega (arith, there))
 refs_in_list (x ∷ lists) packets b (zero, there, is) =
     let e : refs (flat_map (λ k. k) x) b ≡ refs (flat_map (λ k. k) packets) b = ap (λ (l : List Packet). refs (flat_map (λ k. k) l) b) is in
@@ -42,7 +43,8 @@ refs_beside i s k b (inl (q, other, holds)) = omega (arith, live_parts s b, refs
 refs_beside i s k b (inr queued) = omega (arith, live_parts s b, refs_queued s.world k b queued)
 
 -- and do so together with those of the packet that is written
-pub refs_beside_written : (i : Instr) (s : State) (p : ℕ) (j k : Packet) (b : Number) → written_register i ≡ Some p → Holds s p j → IsBeside i s k → refs j b + refs k b ≤ refs (live s) b
+pub refs_beside_written : (i : Instr) (s : State) (p : ℕ) (j k : Packet) (b : Number) → written_register i ≡ Some p → Holds s p j → IsBeside i s k →
+    refs j b + refs k b ≤ refs (live s) b
 refs_beside_written i s p j k b written held (inl (q, other, holds)) =
     let apart : q ≢ p = λ e. other (written ∙ ap Some (sym e)) in
     omega (arith, live_parts s b, refs_two s.packets q p (Some k) (Some j) b apart holds held)

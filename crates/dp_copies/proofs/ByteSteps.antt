@@ -24,39 +24,54 @@ some_bytes Four = omega arith
 some_bytes Eight = omega arith
 
 -- the same bytes are loaded
-loads_step : (c : Setting) (st : State) (told : List Bool) (p label place w r : ℕ) (k : Packet) → IsInside c st → Holds st p k → 0 < w → place + w ≤ first_len k → copy_loads (copied c.env.pools st told) p label place w r ≡ Some (At (label + 1), copied c.env.pools (with_number r (loaded place w k st.world.buffers) st) told)
+loads_step : (c : Setting) (st : State) (told : List Bool) (p label place w r : ℕ) (k : Packet) → IsInside c st → Holds st p k → 0 < w →
+    place + w ≤ first_len k → copy_loads (copied c.env.pools st told) p label place w r
+    ≡ Some (At (label + 1), copied c.env.pools (with_number r (loaded place w k st.world.buffers) st) told)
 loads_step c st told p label place w r k well holds some le =
     let pools = c.env.pools in
     let s = copied pools st told in
-    held_step pools st told p k (λ k. provided (nat_le (place + w) (length (first_piece k).bytes)) (copy_on label (record s { numbers = slice_set s.numbers r (spelled (slice_range (first_piece k).bytes place (place + w))) }))) holds
-    ∙ (ap (λ b. provided b (copy_on label (record s { numbers = slice_set s.numbers r (spelled (slice_range (first_piece (copy_of pools st.world.buffers k)).bytes place (place + w))) }))) (le-leb (place + w) _ (omega (arith, le, first_length pools st.world.buffers k (there c st p k well holds))))
+    held_step pools st told p k (λ k. provided (nat_le (place + w) (length (first_piece k).bytes))
+    (copy_on label (record s { numbers = slice_set s.numbers r (spelled (slice_range (first_piece k).bytes place (place + w))) }))) holds
+    ∙ (ap (λ b. provided b (copy_on label (record s {
+      numbers = slice_set s.numbers r
+          (spelled (slice_range (first_piece (copy_of pools st.world.buffers k)).bytes place (place + w)));
+    })))
+    (le-leb (place + w) _ (omega (arith, le, first_length pools st.world.buffers k (there c st p k well holds))))
     ∙ ap (λ n. Some (At (label + 1), record s { numbers = slice_set s.numbers r n })) (value k (omega (arith, le, some))))
   where
-    value : (k : Packet) → 0 < first_len k → spelled (slice_range (first_piece (copy_of c.env.pools st.world.buffers k)).bytes place (place + w)) ≡ loaded place w k st.world.buffers
+    value : (k : Packet) → 0 < first_len k → spelled (slice_range (first_piece (copy_of c.env.pools st.world.buffers k)).bytes place (place + w))
+        ≡ loaded place w k st.world.buffers
     value [] one = absurd (omega arith)
     value (s ∷ rest) one = refl
 
 -- the same bytes are stored
-stores_step : (c : Setting) (st : State) (told : List Bool) (p label place w n : ℕ) (k : Packet) → IsInside c st → Holds st p k → 0 < w → place + w ≤ first_len k → IsHeadSole (live st) k → copy_stores (copied c.env.pools st told) p label place w n ≡ Some (At (label + 1), copied c.env.pools (with_buffers (stored place w n k st.world.buffers) st) told)
+stores_step : (c : Setting) (st : State) (told : List Bool) (p label place w n : ℕ) (k : Packet) → IsInside c st → Holds st p k → 0 < w →
+    place + w ≤ first_len k → IsHeadSole (live st) k → copy_stores (copied c.env.pools st told) p label place w n
+    ≡ Some (At (label + 1), copied c.env.pools (with_buffers (stored place w n k st.world.buffers) st) told)
 stores_step c st told p label place w n k well holds some le sole =
-    edits_step c.env.pools st (with_buffers (stored place w n k st.world.buffers) st) told p label (λ k. nat_le (place + w) (length (first_piece k).bytes)) (first_changed (with_stored place (big_endian w n))) k holds
+    edits_step c.env.pools st (with_buffers (stored place w n k st.world.buffers) st) told p label (λ k. nat_le (place + w) (length (first_piece k).bytes))
+    (first_changed (with_stored place (big_endian w n))) k holds
     (le-leb (place + w) _ (omega (arith, le, first_length c.env.pools st.world.buffers k (there c st p k well holds))))
     (store_copies c.env.pools st p k place w n told holds some le sole well)
 
 -- ---- each instruction
 
-pub load_step : (c : Setting) (label : ℕ) (s : State) (r p off : ℕ) (w : Width) (m : Move) (later : List Bool) → IsInside c s → Acts c label s (Load r p off w) m → Does c label s (Load r p off w) later m
+pub load_step : (c : Setting) (label : ℕ) (s : State) (r p off : ℕ) (w : Width) (m : Move) (later : List Bool) → IsInside c s →
+    Acts c label s (Load r p off w) m → Does c label s (Load r p off w) later m
 load_step c label s r p off w m later well (k, holds, le, is) = by c label s (Load r p off w) later m _ is
     (loads_step c s later p label off (bytes_in w) r k well holds (some_bytes w) le)
 
-pub load_x_step : (c : Setting) (label : ℕ) (s : State) (r p x off : ℕ) (w : Width) (m : Move) (later : List Bool) → IsInside c s → Acts c label s (LoadX r p x off w) m → Does c label s (LoadX r p x off w) later m
+pub load_x_step : (c : Setting) (label : ℕ) (s : State) (r p x off : ℕ) (w : Width) (m : Move) (later : List Bool) → IsInside c s →
+    Acts c label s (LoadX r p x off w) m → Does c label s (LoadX r p x off w) later m
 load_x_step c label s r p x off w m later well (k, holds, le, is) = by c label s (LoadX r p x off w) later m _ is
     (loads_step c s later p label (slice_index s.numbers x + off) (bytes_in w) r k well holds (some_bytes w) le)
 
-pub store_step : (c : Setting) (label : ℕ) (s : State) (p off : ℕ) (w : Width) (r : ℕ) (m : Move) (later : List Bool) → IsInside c s → Acts c label s (Store p off w r) m → Does c label s (Store p off w r) later m
+pub store_step : (c : Setting) (label : ℕ) (s : State) (p off : ℕ) (w : Width) (r : ℕ) (m : Move) (later : List Bool) → IsInside c s →
+    Acts c label s (Store p off w r) m → Does c label s (Store p off w r) later m
 store_step c label s p off w r m later well (k, holds, le, sole, is) = by c label s (Store p off w r) later m _ is
     (stores_step c s later p label off (bytes_in w) (slice_index s.numbers r) k well holds (some_bytes w) le sole)
 
-pub store_x_step : (c : Setting) (label : ℕ) (s : State) (p x off : ℕ) (w : Width) (r : ℕ) (m : Move) (later : List Bool) → IsInside c s → Acts c label s (StoreX p x off w r) m → Does c label s (StoreX p x off w r) later m
+pub store_x_step : (c : Setting) (label : ℕ) (s : State) (p x off : ℕ) (w : Width) (r : ℕ) (m : Move) (later : List Bool) → IsInside c s →
+    Acts c label s (StoreX p x off w r) m → Does c label s (StoreX p x off w r) later m
 store_x_step c label s p x off w r m later well (k, holds, le, sole, is) = by c label s (StoreX p x off w r) later m _ is
     (stores_step c s later p label (slice_index s.numbers x + off) (bytes_in w) (slice_index s.numbers r) k well holds (some_bytes w) le sole)

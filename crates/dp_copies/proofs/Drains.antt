@@ -22,14 +22,16 @@ module _ {T : Type 0} (time : T) (pools : List PoolSpec) (buffers : Buffers) whe
   timed bytes = (time, bytes)
 
   -- the records of a transmit list
-  list_records : (packets : List Packet) → map (λ (k : Copy). timed (copy_bytes k)) (map (copy_of pools buffers) packets) ≡ map (λ (bytes : List ℕ). timed bytes) (map (packet_bytes buffers) packets)
+  list_records : (packets : List Packet) → map (λ (k : Copy). timed (copy_bytes k)) (map (copy_of pools buffers) packets)
+      ≡ map (λ (bytes : List ℕ). timed bytes) (map (packet_bytes buffers) packets)
   list_records [] = refl
   list_records (k ∷ packets) =
       ap (λ bytes. timed bytes ∷ map (λ (k : Copy). timed (copy_bytes k)) (map (copy_of pools buffers) packets)) (bytes_copied pools buffers k)
       ∙ ap (λ rest. timed (packet_bytes buffers k) ∷ rest) (list_records packets)
 
   -- the records of all transmit lists
-  pub lists_records : (lists : List (List Packet)) → map (map (λ (k : Copy). timed (copy_bytes k))) (map (map (copy_of pools buffers)) lists) ≡ map (λ packets. map (λ (bytes : List ℕ). timed bytes) (map (packet_bytes buffers) packets)) lists
+  pub lists_records : (lists : List (List Packet)) → map (map (λ (k : Copy). timed (copy_bytes k))) (map (map (copy_of pools buffers)) lists)
+      ≡ map (λ packets. map (λ (bytes : List ℕ). timed bytes) (map (packet_bytes buffers) packets)) lists
   lists_records [] = refl
   lists_records (packets ∷ lists) =
       ap (λ x. x ∷ map (map (λ (k : Copy). timed (copy_bytes k))) (map (map (copy_of pools buffers)) lists)) (list_records packets)
@@ -43,4 +45,9 @@ none_listed P (l ∷ lists) = none_listed P lists
 -- what is left lies within the buffers
 pub drained_inside : (c : Setting) (w : World) → IsInside c (between w) → IsInside c (between (with_empty_outboxes w))
 drained_inside c w well =
-    record { rooms = well.rooms; bytes = well.bytes; lie = all_join (Lies c.env.pools) (segments_listed w.rings) (segments_listed (map (λ _. []) w.outboxes)) (all_left (Lies c.env.pools) (segments_listed w.rings) (segments_listed w.outboxes) well.lie) (none_listed (Lies c.env.pools) w.outboxes) }
+    record {
+      rooms = well.rooms;
+      bytes = well.bytes;
+      lie = all_join (Lies c.env.pools) (segments_listed w.rings) (segments_listed (map (λ _. []) w.outboxes))
+          (all_left (Lies c.env.pools) (segments_listed w.rings) (segments_listed w.outboxes) well.lie) (none_listed (Lies c.env.pools) w.outboxes);
+    }

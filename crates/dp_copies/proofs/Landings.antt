@@ -28,7 +28,8 @@ pub record Lands {R : Type 0} (c : Setting) (w : World) (later : List Bool) (go 
   pub within : IsInside c (between w)
 
 -- nothing happens
-pub stays : {R : Type 0} (c : Setting) (w w' : World) (told later : List Bool) (x : CopyState) (go : ℕ → Option R) (made : CopyState → R) → IsInside c (between w) → Shows c.env.pools w (told ++ later) x → told ≡ [] → w' ≡ w → ((fuel : ℕ) → go fuel ≡ Some (made x)) → Lands c w' later go made
+pub stays : {R : Type 0} (c : Setting) (w w' : World) (told later : List Bool) (x : CopyState) (go : ℕ → Option R) (made : CopyState → R) →
+    IsInside c (between w) → Shows c.env.pools w (told ++ later) x → told ≡ [] → w' ≡ w → ((fuel : ℕ) → go fuel ≡ Some (made x)) → Lands c w' later go made
 stays c w w' told later x go made well shows none is e =
     subst (λ v. Lands c v later go made) (sym is) (record {
       state = x;
@@ -39,17 +40,34 @@ stays c w w' told later x go made well shows none is e =
     })
 
 -- a node run
-pub node_lands : (c : Setting) (program : List Instr) (k : Packet) (number : ℕ) (w w' : World) (told later : List Bool) (x : CopyState) → IsInside c (first_state k number w) → Shows c.env.pools w (told ++ later) x → NodeRun c program k number w told w' → Lands c w' later (λ fuel. copy_node_run c.env c.tables fuel program (copy_of c.env.pools w.buffers k) number x) (λ t. t)
+pub node_lands : (c : Setting) (program : List Instr) (k : Packet) (number : ℕ) (w w' : World) (told later : List Bool) (x : CopyState) →
+    IsInside c (first_state k number w) → Shows c.env.pools w (told ++ later) x → NodeRun c program k number w told w' →
+    Lands c w' later (λ fuel. copy_node_run c.env c.tables fuel program (copy_of c.env.pools w.buffers k) number x) (λ t. t)
 node_lands c program k number w w' told later x well shows (n, s, goes, is) =
     let pools = c.env.pools in
-    let begins : record x { packets = Some (copy_of pools w.buffers k) ∷ replicate 7 None; numbers = number ∷ replicate 7 0; jumps = 0 } ≡ copied pools (first_state k number w) (told ++ later) =
-    λ i. record { packets = Some (copy_of pools w.buffers k) ∷ replicate 7 None; numbers = number ∷ replicate 7 0; jumps = 0; rings = shows.rings i; outboxes = shows.outboxes i; to_tell = shows.to_tell i; cuts = shows.cuts i } in
+    let begins : record x { packets = Some (copy_of pools w.buffers k) ∷ replicate 7 None; numbers = number ∷ replicate 7 0; jumps = 0 }
+    ≡ copied pools (first_state k number w) (told ++ later) =
+    λ i. record {
+      packets = Some (copy_of pools w.buffers k) ∷ replicate 7 None;
+      numbers = number ∷ replicate 7 0;
+      jumps = 0;
+      rings = shows.rings i;
+      outboxes = shows.outboxes i;
+      to_tell = shows.to_tell i;
+      cuts = shows.cuts i;
+    } in
     let inside = goes_within c program n 0 (first_state k number w) s told Ended well goes in
     subst (λ w'. Lands c w' later (λ fuel. copy_node_run c.env c.tables fuel program (copy_of pools w.buffers k) number x) (λ t. t)) (sym is) (record {
       state = copied pools s later;
       shows = record { rings = refl; outboxes = refl; to_tell = refl; cuts = refl };
       enough = n;
       lands = λ fuel le. ap (copy_goes c.env c.tables program fuel 0) begins
-          ∙ goes_more c.env c.tables program n 0 (copied pools (first_state k number w) (told ++ later)) (copied pools s later) (goes_copies c (steps_copy c) program n 0 (first_state k number w) s told later well goes) fuel le;
-      within = record { rooms = inside.rooms; bytes = inside.bytes; lie = all_right (Lies pools) (segments_held s.packets) (segments_listed s.world.rings ++ segments_listed s.world.outboxes) inside.lie };
+          ∙ goes_more c.env c.tables program n 0 (copied pools (first_state k number w) (told ++ later)) (copied pools s later)
+          (goes_copies c (steps_copy c) program n 0 (first_state k number w) s told later well goes) fuel le;
+      within = record {
+        rooms = inside.rooms;
+        bytes = inside.bytes;
+        lie = all_right (Lies pools) (segments_held s.packets) (segments_listed s.world.rings
+            ++ segments_listed s.world.outboxes) inside.lie;
+      };
     })

@@ -6,7 +6,8 @@ use Rattle.std.proofs.lemmas.List.{length-replicate, map-append}
 use Rattle.dp_model.specs.declared.env.PoolSpec.{PoolSpec}
 use Rattle.dp_model.specs.Environments.{room_at}
 use Rattle.dp_model.specs.Buffers.{Number, same_number, Buffers, bytes_of, overwritten, written, IsNumber}
-use Rattle.dp_model.specs.Packets.{Segment, Packet, refs, IsHeadSole, Lies, headroom, tailroom, IsTailSole, room_behind, at_front, at_end, more_before, more_behind, zeroed_behind, zeroed_before}
+use Rattle.dp_model.specs.Packets.{Segment, Packet, refs, IsHeadSole, Lies, headroom, tailroom, IsTailSole, room_behind, at_front, at_end, more_before}
+use Rattle.dp_model.specs.Packets.{more_behind, zeroed_behind, zeroed_before}
 use Rattle.dp_model.specs.Machine.{State, live, Holds, with_buffers, with_packet, Setting}
 use Rattle.dp_model.specs.CopyMachine.{Copy, copy_put, first_changed, Piece, last_changed, with_front, with_back}
 use Rattle.dp_model.specs.Copies.{piece_of, copy_of, copied}
@@ -22,7 +23,8 @@ use Rattle.dp_copies.proofs.Moves.{put_copies}
 -- ---- in front
 
 -- the first segment with zeros in front
-pub prepend_piece : (pools : List PoolSpec) (buffers : Buffers) (s : Segment) (n : ℕ) → n ≤ s.offset → IsThere pools buffers s → piece_of pools (written buffers s.buffer (s.offset - n) (replicate n 0)) (more_before n s) ≡ with_front n (piece_of pools buffers s)
+pub prepend_piece : (pools : List PoolSpec) (buffers : Buffers) (s : Segment) (n : ℕ) → n ≤ s.offset → IsThere pools buffers s →
+    piece_of pools (written buffers s.buffer (s.offset - n) (replicate n 0)) (more_before n s) ≡ with_front n (piece_of pools buffers s)
 prepend_piece pools buffers s n le there =
     let old = bytes_of buffers s.buffer in
     let zeros : List ℕ = replicate n 0 in
@@ -33,21 +35,26 @@ prepend_piece pools buffers s n le there =
     λ i. record { before = s.offset - n; bytes = bytes i; behind = behind i }
 
 -- prepend
-pub prepend_copies : (c : Setting) (st : State) (p : ℕ) (k : Packet) (n : ℕ) (told : List Bool) → Holds st p k → n ≤ headroom k → IsHeadSole (live st) k → IsInside c st → copied c.env.pools (with_packet p (at_front (more_before n) k) (with_buffers (zeroed_before n k st.world.buffers) st)) told ≡ copy_put p (Some (first_changed (with_front n) (copy_of c.env.pools st.world.buffers k))) (copied c.env.pools st told)
+pub prepend_copies : (c : Setting) (st : State) (p : ℕ) (k : Packet) (n : ℕ) (told : List Bool) → Holds st p k → n ≤ headroom k → IsHeadSole (live st) k →
+    IsInside c st → copied c.env.pools (with_packet p (at_front (more_before n) k) (with_buffers (zeroed_before n k st.world.buffers) st)) told
+    ≡ copy_put p (Some (first_changed (with_front n) (copy_of c.env.pools st.world.buffers k))) (copied c.env.pools st told)
 prepend_copies c st p [] n told holds le sole well = put_copies c.env.pools st p (Some []) told
 prepend_copies c st p (s ∷ rest) n told holds le sole well =
     let pools = c.env.pools in
     let old = st.world.buffers in
     let new = zeroed_before n (s ∷ rest) old in
-    let changes : (b : Number) → same_number s.buffer b ≡ false → bytes_of new b ≡ bytes_of old b = λ b other. bytes_other old s.buffer b (overwritten (bytes_of old s.buffer) (s.offset - n) (replicate n 0)) other in
+    let changes : (b : Number) → same_number s.buffer b ≡ false → bytes_of new b ≡ bytes_of old b =
+    λ b other. bytes_other old s.buffer b (overwritten (bytes_of old s.buffer) (s.offset - n) (replicate n 0)) other in
     wrote pools st p (s ∷ rest) (more_before n s ∷ rest) s.buffer new _ told holds changes sole (refs_first s rest)
     (ap (λ x. x ∷ copy_of pools new rest) (prepend_piece pools old s n le (there c st p (s ∷ rest) well holds).0)
-    ∙ ap (λ xs. with_front n (piece_of pools old s) ∷ xs) (rest_same pools st p (s ∷ rest) rest s.buffer new holds changes sole (λ b. omega (arith, refs-cons s rest b))))
+    ∙ ap (λ xs. with_front n (piece_of pools old s) ∷ xs) (rest_same pools st p (s ∷ rest) rest s.buffer new holds changes sole
+    (λ b. omega (arith, refs-cons s rest b))))
 
 -- ---- behind
 
 -- the last segment with zeros behind
-pub append_piece : (pools : List PoolSpec) (buffers : Buffers) (s : Segment) (n : ℕ) → s.offset + s.len + n ≤ length (bytes_of buffers s.buffer) → piece_of pools (written buffers s.buffer (s.offset + s.len) (replicate n 0)) (more_behind n s) ≡ with_back n (piece_of pools buffers s)
+pub append_piece : (pools : List PoolSpec) (buffers : Buffers) (s : Segment) (n : ℕ) → s.offset + s.len + n ≤ length (bytes_of buffers s.buffer) →
+    piece_of pools (written buffers s.buffer (s.offset + s.len) (replicate n 0)) (more_behind n s) ≡ with_back n (piece_of pools buffers s)
 append_piece pools buffers s n fits =
     let old = bytes_of buffers s.buffer in
     let zeros : List ℕ = replicate n 0 in
@@ -82,7 +89,8 @@ last_changed-push f (a ∷ []) x = refl
 last_changed-push f (a ∷ b ∷ front) x = ap (λ k. a ∷ k) (last_changed-push f (b ∷ front) x)
 
 -- the zeros behind the last segment
-pub zeroed_behind-push : (n : ℕ) (front : Packet) (s : Segment) (buffers : Buffers) → zeroed_behind n (front ++ s ∷ []) buffers ≡ written buffers s.buffer (s.offset + s.len) (replicate n 0)
+pub zeroed_behind-push : (n : ℕ) (front : Packet) (s : Segment) (buffers : Buffers) → zeroed_behind n (front ++ s ∷ []) buffers
+    ≡ written buffers s.buffer (s.offset + s.len) (replicate n 0)
 zeroed_behind-push n [] s buffers = refl
 zeroed_behind-push n (a ∷ []) s buffers = refl
 zeroed_behind-push n (a ∷ b ∷ front) s buffers = zeroed_behind-push n (b ∷ front) s buffers
@@ -98,14 +106,20 @@ refs_push : (front : Packet) (s : Segment) (b : Number) → refs (front ++ s ∷
 refs_push front s b = let none : refs [] b ≡ 0 = refl in omega (arith, refs-append front (s ∷ []) b, refs-cons s [] b, none)
 
 -- append
-pub append_copies : (c : Setting) (st : State) (p : ℕ) (k : Packet) (n : ℕ) (told : List Bool) → Holds st p k → n ≤ tailroom c.env.pools k → IsTailSole (live st) k → IsInside c st → copied c.env.pools (with_packet p (at_end (more_behind n) k) (with_buffers (zeroed_behind n k st.world.buffers) st)) told ≡ copy_put p (Some (last_changed (with_back n) (copy_of c.env.pools st.world.buffers k))) (copied c.env.pools st told)
+pub append_copies : (c : Setting) (st : State) (p : ℕ) (k : Packet) (n : ℕ) (told : List Bool) → Holds st p k → n ≤ tailroom c.env.pools k →
+    IsTailSole (live st) k → IsInside c st → copied c.env.pools (with_packet p (at_end (more_behind n) k)
+    (with_buffers (zeroed_behind n k st.world.buffers) st)) told ≡ copy_put p (Some (last_changed (with_back n) (copy_of c.env.pools st.world.buffers k)))
+    (copied c.env.pools st told)
 append_copies c st p [] n told holds le sole well = put_copies c.env.pools st p (Some []) told
 append_copies c st p (a ∷ rest) n told holds le sole well =
     let e = ends (live st) a rest sole in
-    subst (λ j. copied c.env.pools (with_packet p (at_end (more_behind n) j) (with_buffers (zeroed_behind n j st.world.buffers) st)) told ≡ copy_put p (Some (last_changed (with_back n) (copy_of c.env.pools st.world.buffers j))) (copied c.env.pools st told)) (sym e.is)
+    subst (λ j. copied c.env.pools (with_packet p (at_end (more_behind n) j) (with_buffers (zeroed_behind n j st.world.buffers) st)) told
+    ≡ copy_put p (Some (last_changed (with_back n) (copy_of c.env.pools st.world.buffers j))) (copied c.env.pools st told)) (sym e.is)
     (pushed e.front e.last (subst (Holds st p) e.is holds) (subst (λ j. n ≤ tailroom c.env.pools j) e.is le) e.sole)
   where
-    pushed : (front : Packet) (s : Segment) → Holds st p (front ++ s ∷ []) → n ≤ tailroom c.env.pools (front ++ s ∷ []) → refs (live st) s.buffer ≡ 1 → copied c.env.pools (with_packet p (at_end (more_behind n) (front ++ s ∷ [])) (with_buffers (zeroed_behind n (front ++ s ∷ []) st.world.buffers) st)) told ≡ copy_put p (Some (last_changed (with_back n) (copy_of c.env.pools st.world.buffers (front ++ s ∷ [])))) (copied c.env.pools st told)
+    pushed : (front : Packet) (s : Segment) → Holds st p (front ++ s ∷ []) → n ≤ tailroom c.env.pools (front ++ s ∷ []) → refs (live st) s.buffer ≡ 1 →
+        copied c.env.pools (with_packet p (at_end (more_behind n) (front ++ s ∷ [])) (with_buffers (zeroed_behind n (front ++ s ∷ []) st.world.buffers) st))
+        told ≡ copy_put p (Some (last_changed (with_back n) (copy_of c.env.pools st.world.buffers (front ++ s ∷ [])))) (copied c.env.pools st told)
     pushed front s holds le sole =
         let pools = c.env.pools in
         let old = st.world.buffers in
@@ -113,20 +127,24 @@ append_copies c st p (a ∷ rest) n told holds le sole well =
         let bytes = overwritten (bytes_of old s.buffer) (s.offset + s.len) (replicate n 0) in
         let new = zeroed_behind n k old in
         let is = zeroed_behind-push n front s old in
-        let changes : (b : Number) → same_number s.buffer b ≡ false → bytes_of new b ≡ bytes_of old b = λ b other. ap (λ bs. bytes_of bs b) is ∙ bytes_other old s.buffer b bytes other in
+        let changes : (b : Number) → same_number s.buffer b ≡ false → bytes_of new b ≡ bytes_of old b = λ b other. ap (λ bs. bytes_of bs b) is
+        ∙ bytes_other old s.buffer b bytes other in
         let here = last_there front s (there c st p k well holds) in
         let one : 1 ≤ refs k s.buffer = omega (arith, refs_push front s s.buffer, refs_first s [], refs-cons s [] s.buffer) in
         let piece : piece_of pools new (more_behind n s) ≡ with_back n (piece_of pools old s) =
-        ap (λ bs. piece_of pools bs (more_behind n s)) is ∙ append_piece pools old s n (omega (arith, le, tailroom-push pools front s, here.0, here.1, well.rooms s.buffer (number front s (inside_held c st p k well holds)))) in
+        ap (λ bs. piece_of pools bs (more_behind n s)) is ∙ append_piece pools old s n
+        (omega (arith, le, tailroom-push pools front s, here.0, here.1, well.rooms s.buffer (number front s (inside_held c st p k well holds)))) in
         wrote pools st p k (at_end (more_behind n) k) s.buffer new _ told holds changes sole one
         (ap (copy_of pools new) (at_end-push (more_behind n) front s)
         ∙ (map-append (piece_of pools new) front (more_behind n s ∷ [])
         ∙ (ap (λ x. copy_of pools new front ++ x ∷ []) piece
-        ∙ (ap (λ xs. xs ++ with_back n (piece_of pools old s) ∷ []) (rest_same pools st p k front s.buffer new holds changes sole (λ b. omega (arith, refs_push front s b)))
+        ∙ (ap (λ xs. xs ++ with_back n (piece_of pools old s) ∷ []) (rest_same pools st p k front s.buffer new holds changes sole
+        (λ b. omega (arith, refs_push front s b)))
         ∙ (sym (last_changed-push (with_back n) (copy_of pools old front) (piece_of pools old s))
         ∙ ap (last_changed (with_back n)) (sym (map-append (piece_of pools old) front (s ∷ []))))))))
       where
-        last_there : (front : Packet) (s : Segment) → AllByRecursion (IsThere c.env.pools st.world.buffers) (front ++ s ∷ []) → IsThere c.env.pools st.world.buffers s
+        last_there : (front : Packet) (s : Segment) → AllByRecursion (IsThere c.env.pools st.world.buffers) (front ++ s ∷ []) →
+            IsThere c.env.pools st.world.buffers s
         last_there [] s all = all.0
         last_there (x ∷ front) s all = last_there front s all.1
 

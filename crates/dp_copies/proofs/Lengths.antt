@@ -11,8 +11,14 @@ use Rattle.dp_model.specs.CopyMachine.{first_piece, last_piece}
 use Rattle.dp_model.specs.Laws.Places.{IsInside, inside_held}
 
 -- a segment within its buffer has its length
-pub length_segment : (pools : List PoolSpec) (buffers : Buffers) (s : Segment) → s.offset + s.len ≤ length (bytes_of buffers s.buffer) → length (segment_bytes buffers s) ≡ s.len
-length_segment pools buffers s h = omega (arith, h, length-take (s.offset + s.len - s.offset) (drop s.offset (bytes_of buffers s.buffer)), length-drop s.offset (bytes_of buffers s.buffer))
+pub length_segment : (pools : List PoolSpec) (buffers : Buffers) (s : Segment) → s.offset + s.len ≤ length (bytes_of buffers s.buffer) →
+    length (segment_bytes buffers s) ≡ s.len
+length_segment pools buffers s h = omega (
+  arith,
+  h,
+  length-take (s.offset + s.len - s.offset) (drop s.offset (bytes_of buffers s.buffer)),
+  length-drop s.offset (bytes_of buffers s.buffer),
+)
 
 module _ (pools : List PoolSpec) (buffers : Buffers) where
   -- the segment's bytes are all there
@@ -42,7 +48,8 @@ module _ (pools : List PoolSpec) (buffers : Buffers) where
   last_length (s ∷ t ∷ rest) all = last_length (t ∷ rest) all.1
 
 -- a packet within the buffers is all there
-there_all : (pools : List PoolSpec) (buffers : Buffers) (segments : List Segment) (k : Packet) → IsWithin pools buffers segments → AllByRecursion (Lies pools) k → AllByRecursion (IsThere pools buffers) k
+there_all : (pools : List PoolSpec) (buffers : Buffers) (segments : List Segment) (k : Packet) → IsWithin pools buffers segments →
+    AllByRecursion (Lies pools) k → AllByRecursion (IsThere pools buffers) k
 there_all pools buffers segments [] well all = tt
 there_all pools buffers segments (s ∷ k) well all =
     ((all.0.fits, omega (arith, all.0.fits, well.rooms s.buffer all.0.number)), there_all pools buffers segments k well all.1)

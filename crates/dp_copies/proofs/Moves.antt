@@ -20,22 +20,36 @@ pub by : (c : Setting) (label : ℕ) (s : State) (i : Instr) (later : List Bool)
 by c label s i later m m' is h = subst (λ m. Does c label s i later m) (sym is) h
 
 -- a choice of moves
-pub either : (c : Setting) (label : ℕ) (s : State) (i : Instr) (later : List Bool) (b : Bool) (x y : Move) → (b ≡ true → Does c label s i later x) → (b ≡ false → Does c label s i later y) → Does c label s i later (cond b x y)
+pub either : (c : Setting) (label : ℕ) (s : State) (i : Instr) (later : List Bool) (b : Bool) (x y : Move) → (b ≡ true → Does c label s i later x) →
+    (b ≡ false → Does c label s i later y) → Does c label s i later (cond b x y)
 either c label s i later true x y f g = f refl
 either c label s i later false x y f g = g refl
 
 -- a register that holds a packet holds its copy
-pub held_step : (pools : List PoolSpec) (st : State) (told : List Bool) (p : ℕ) (k : Packet) (go : Copy → Option CopyMove) → Holds st p k → with_held (copied pools st told) p go ≡ go (copy_of pools st.world.buffers k)
+pub held_step : (pools : List PoolSpec) (st : State) (told : List Bool) (p : ℕ) (k : Packet) (go : Copy → Option CopyMove) → Holds st p k →
+    with_held (copied pools st told) p go ≡ go (copy_of pools st.world.buffers k)
 held_step pools st told p k go holds =
-    ap (λ o. option_and_then go (option_and_then (λ u. u) o)) (slice_get-map (option_map (copy_of pools st.world.buffers)) st.packets p ∙ ap (option_map (option_map (copy_of pools st.world.buffers))) holds)
+    ap (λ o. option_and_then go (option_and_then (λ u. u) o)) (slice_get-map (option_map (copy_of pools st.world.buffers)) st.packets p
+    ∙ ap (option_map (option_map (copy_of pools st.world.buffers))) holds)
 
 -- an empty register is empty
-pub empty_step : (pools : List PoolSpec) (st : State) (told : List Bool) (p : ℕ) (move : Option CopyMove) → IsEmpty st p → with_empty (copied pools st told) p move ≡ move
+pub empty_step : (pools : List PoolSpec) (st : State) (told : List Bool) (p : ℕ) (move : Option CopyMove) → IsEmpty st p →
+    with_empty (copied pools st told) p move ≡ move
 empty_step pools st told p move empty =
-    ap (λ o. cond (option_map_or is_gone o false) move None) (slice_get-map (option_map (copy_of pools st.world.buffers)) st.packets p ∙ ap (option_map (option_map (copy_of pools st.world.buffers))) empty)
+    ap (λ o. cond (option_map_or is_gone o false) move None) (slice_get-map (option_map (copy_of pools st.world.buffers)) st.packets p
+    ∙ ap (option_map (option_map (copy_of pools st.world.buffers))) empty)
 
 -- a register set
-pub put_copies : (pools : List PoolSpec) (st : State) (p : ℕ) (o : Option Packet) (told : List Bool) → copied pools (record st { packets = slice_set st.packets p o }) told ≡ copy_put p (option_map (copy_of pools st.world.buffers) o) (copied pools st told)
+pub put_copies : (pools : List PoolSpec) (st : State) (p : ℕ) (o : Option Packet) (told : List Bool) →
+    copied pools (record st { packets = slice_set st.packets p o }) told ≡ copy_put p (option_map (copy_of pools st.world.buffers) o) (copied pools st told)
 put_copies pools st p o told =
     let e = map-set (option_map (copy_of pools st.world.buffers)) st.packets p o in
-    λ i. record { packets = e i; numbers = st.numbers; jumps = st.jumps; rings = map (map (copy_of pools st.world.buffers)) st.world.rings; outboxes = map (map (copy_of pools st.world.buffers)) st.world.outboxes; to_tell = told; cuts = st.world.cuts }
+    λ i. record {
+      packets = e i;
+      numbers = st.numbers;
+      jumps = st.jumps;
+      rings = map (map (copy_of pools st.world.buffers)) st.world.rings;
+      outboxes = map (map (copy_of pools st.world.buffers)) st.world.outboxes;
+      to_tell = told;
+      cuts = st.world.cuts;
+    }

@@ -15,40 +15,53 @@ use Rattle.dp_copies.proofs.Steps.{StepsCopy}
 use Rattle.dp_copies.proofs.Budget.{step_copies}
 
 -- where a step leads, with more steps allowed
-pub then_more : (o : Option CopyMove) (f g : ℕ → CopyState → Option CopyState) (t : CopyState) → ((l : ℕ) (s t : CopyState) → f l s ≡ Some t → g l s ≡ Some t) → copy_then o f ≡ Some t → copy_then o g ≡ Some t
+pub then_more : (o : Option CopyMove) (f g : ℕ → CopyState → Option CopyState) (t : CopyState) →
+    ((l : ℕ) (s t : CopyState) → f l s ≡ Some t → g l s ≡ Some t) → copy_then o f ≡ Some t → copy_then o g ≡ Some t
 then_more None f g t more e = e
 then_more (Some (At l, s)) f g t more e = more l s t e
 then_more (Some (Ended, s)) f g t more e = e
 
 -- more steps allowed change no run
-pub goes_more : (env : Environment) (tables : List (List Route)) (program : List Instr) (n label : ℕ) (s t : CopyState) → copy_goes env tables program n label s ≡ Some t → (fuel : ℕ) → n ≤ fuel → copy_goes env tables program fuel label s ≡ Some t
+pub goes_more : (env : Environment) (tables : List (List Route)) (program : List Instr) (n label : ℕ) (s t : CopyState) →
+    copy_goes env tables program n label s ≡ Some t → (fuel : ℕ) → n ≤ fuel → copy_goes env tables program fuel label s ≡ Some t
 goes_more env tables program zero label s t e fuel le = cc
 goes_more env tables program (suc n) label s t e zero le = absurd (omega arith)
 goes_more env tables program (suc n) label s t e (suc fuel) le =
-    then_more (option_map (copy_budgeted label) (option_and_then (copy_step env tables label s) (slice_get program label))) (copy_goes env tables program n) (copy_goes env tables program fuel) t (λ l s t h. goes_more env tables program n l s t h fuel (omega (arith, le))) e
+    then_more (option_map (copy_budgeted label) (option_and_then (copy_step env tables label s) (slice_get program label))) (copy_goes env tables program n)
+    (copy_goes env tables program fuel) t (λ l s t h. goes_more env tables program n l s t h fuel (omega (arith, le))) e
 
 -- steps in a row
-pub goes_copies : (c : Setting) → StepsCopy c → (program : List Instr) (n label : ℕ) (s s' : State) (told later : List Bool) → IsWithin c.env.pools s.world.buffers (live s) → Goes c program n label s told Ended s' → copy_goes c.env c.tables program n label (copied c.env.pools s (told ++ later)) ≡ Some (copied c.env.pools s' later)
+pub goes_copies : (c : Setting) → StepsCopy c → (program : List Instr) (n label : ℕ) (s s' : State) (told later : List Bool) →
+    IsWithin c.env.pools s.world.buffers (live s) → Goes c program n label s told Ended s' →
+    copy_goes c.env c.tables program n label (copied c.env.pools s (told ++ later)) ≡ Some (copied c.env.pools s' later)
 goes_copies c steps program zero label s s' told later within (is_next, _, _) = cc is_next
 goes_copies c steps program (suc n) label s s' told later within (m, rest, st, is_told, next) =
     let pools = c.env.pools in
     let split : told ++ later ≡ m.told ++ (rest ++ later) = ap (λ xs. xs ++ later) is_told ∙ append_assoc m.told rest later in
-    let o : option_map (copy_budgeted label) (option_and_then (copy_step c.env c.tables label (copied pools s (told ++ later))) (slice_get program label)) ≡ Some (m.next, copied pools m.state (rest ++ later)) =
-    ap (λ xs. option_map (copy_budgeted label) (option_and_then (copy_step c.env c.tables label (copied pools s xs)) (slice_get program label))) split ∙ step_copies c steps program label s m (rest ++ later) within st in
+    let o : option_map (copy_budgeted label) (option_and_then (copy_step c.env c.tables label (copied pools s (told ++ later))) (slice_get program label))
+    ≡ Some (m.next, copied pools m.state (rest ++ later)) =
+    ap (λ xs. option_map (copy_budgeted label) (option_and_then (copy_step c.env c.tables label (copied pools s xs)) (slice_get program label))) split
+    ∙ step_copies c steps program label s m (rest ++ later) within st in
     ap (λ o. copy_then o (copy_goes c.env c.tables program n)) o
     ∙ go m.next next (goes_copies c steps program n) (step_within c program label s m within st)
   where
-    go : (x : Next) → Then x (λ l. Goes c program n l m.state rest Ended s') ((Ended ≡ Ended) × (n ≡ 0) × (rest ≡ []) × (s' ≡ m.state)) → ((label : ℕ) (s s' : State) (told later : List Bool) → IsWithin c.env.pools s.world.buffers (live s) → Goes c program n label s told Ended s' → copy_goes c.env c.tables program n label (copied c.env.pools s (told ++ later)) ≡ Some (copied c.env.pools s' later)) → IsWithin c.env.pools m.state.world.buffers (live m.state) → copy_then (Some (x, copied c.env.pools m.state (rest ++ later))) (copy_goes c.env c.tables program n) ≡ Some (copied c.env.pools s' later)
+    go : (x : Next) → Then x (λ l. Goes c program n l m.state rest Ended s') ((Ended ≡ Ended) × (n ≡ 0) × (rest ≡ []) × (s' ≡ m.state)) →
+        ((label : ℕ) (s s' : State) (told later : List Bool) → IsWithin c.env.pools s.world.buffers (live s) → Goes c program n label s told Ended s' →
+        copy_goes c.env c.tables program n label (copied c.env.pools s (told ++ later)) ≡ Some (copied c.env.pools s' later)) →
+        IsWithin c.env.pools m.state.world.buffers (live m.state) → copy_then (Some (x, copied c.env.pools m.state (rest ++ later)))
+        (copy_goes c.env c.tables program n) ≡ Some (copied c.env.pools s' later)
     go (At l) next on within = on l m.state s' rest later within next
     go Ended (_, _, none, is) on within =
         ap (λ xs. Some (copied c.env.pools m.state (xs ++ later))) none ∙ ap (λ t. Some (copied c.env.pools t later)) (sym is)
 
 -- packets stay within the buffers
-pub goes_within : (c : Setting) (program : List Instr) (n label : ℕ) (s s' : State) (told : List Bool) (next : Next) → IsInside c s → Goes c program n label s told next s' → IsInside c s'
+pub goes_within : (c : Setting) (program : List Instr) (n label : ℕ) (s s' : State) (told : List Bool) (next : Next) → IsInside c s →
+    Goes c program n label s told next s' → IsInside c s'
 goes_within c program zero label s s' told next well (_, _, is) = subst (IsInside c) (sym is) well
 goes_within c program (suc n) label s s' told next well (m, rest, st, is_told, further) =
     go m.next further (λ l. goes_within c program n l m.state s' rest next) (step_within c program label s m well st)
   where
-    go : (x : Next) → Then x (λ l. Goes c program n l m.state rest next s') ((next ≡ Ended) × (n ≡ 0) × (rest ≡ []) × (s' ≡ m.state)) → ((l : ℕ) → IsInside c m.state → Goes c program n l m.state rest next s' → IsInside c s') → IsInside c m.state → IsInside c s'
+    go : (x : Next) → Then x (λ l. Goes c program n l m.state rest next s') ((next ≡ Ended) × (n ≡ 0) × (rest ≡ []) × (s' ≡ m.state)) →
+        ((l : ℕ) → IsInside c m.state → Goes c program n l m.state rest next s' → IsInside c s') → IsInside c m.state → IsInside c s'
     go (At l) further on well = on l well further
     go Ended (_, _, _, is) on well = subst (IsInside c) (sym is) well

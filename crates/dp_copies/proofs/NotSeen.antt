@@ -2,7 +2,8 @@
 use Rattle.std.proofs.Common.{◌≡◌, ℕ, ◌+◌, ◌-◌, ◌≤◌, Bool, true, false, cond, List, [], ◌∷◌, length, replicate, Some, refl, ◌∙◌, ap, arith, inl, inr}
 use Rattle.std.specs.Prelude.{◌⊎◌, slice_index}
 use Rattle.dp_model.specs.declared.instr.Instr.{Instr}
-use Rattle.dp_model.specs.declared.instr.Instr.TheVariants.{Alloc, Free, Clone, Prepend, Adj, Append, Trim, Chain, IfHead, IfTail, IfLen, IfLast, Load, Store, LoadX, StoreX, Set, Mov, Add, Sub, And, Or, Xor, Shl, Shr, Jmp, Jeq, Jlt, Lookup, Tx, Enq, Exit}
+use Rattle.dp_model.specs.declared.instr.Instr.TheVariants.{Alloc, Free, Clone, Prepend, Adj, Append, Trim, Chain, IfHead, IfTail, IfLen, IfLast, Load, Store}
+use Rattle.dp_model.specs.declared.instr.Instr.TheVariants.{LoadX, StoreX, Set, Mov, Add, Sub, And, Or, Xor, Shl, Shr, Jmp, Jeq, Jlt, Lookup, Tx, Enq, Exit}
 use Rattle.dp_model.specs.declared.env.PoolSpec.{PoolSpec}
 use Rattle.dp_model.specs.declared.env.PortSpec.{PortSpec}
 use Rattle.dp_model.specs.Arithmetic.{bytes_in, big_endian}
@@ -29,34 +30,63 @@ record Writes (segments : List Segment) (j : Packet) (old new : Buffers) : Type 
   part : 1 ≤ refs j buffer
 
 -- prepend writes so
-before_written : (segments : List Segment) (n : ℕ) (j : Packet) (old : Buffers) → IsHeadSole segments j → (zeroed_before n j old ≡ old) ⊎ Writes segments j old (zeroed_before n j old)
+before_written : (segments : List Segment) (n : ℕ) (j : Packet) (old : Buffers) → IsHeadSole segments j →
+    (zeroed_before n j old ≡ old) ⊎ Writes segments j old (zeroed_before n j old)
 before_written segments n [] old sole = inl refl
 before_written segments n (s ∷ rest) old sole =
-    inr (record { buffer = s.buffer; bytes = overwritten (bytes_of old s.buffer) (s.offset - n) (replicate n 0); is = refl; sole = sole; part = refs_first s rest })
+    inr (record {
+      buffer = s.buffer;
+      bytes = overwritten (bytes_of old s.buffer) (s.offset - n) (replicate n 0);
+      is = refl;
+      sole = sole;
+      part = refs_first s rest;
+    })
 
 -- store writes so
-stored_written : (segments : List Segment) (place w n : ℕ) (j : Packet) (old : Buffers) → IsHeadSole segments j → (stored place w n j old ≡ old) ⊎ Writes segments j old (stored place w n j old)
+stored_written : (segments : List Segment) (place w n : ℕ) (j : Packet) (old : Buffers) → IsHeadSole segments j →
+    (stored place w n j old ≡ old) ⊎ Writes segments j old (stored place w n j old)
 stored_written segments place w n [] old sole = inl refl
 stored_written segments place w n (s ∷ rest) old sole =
-    inr (record { buffer = s.buffer; bytes = overwritten (bytes_of old s.buffer) (s.offset + place) (big_endian w n); is = refl; sole = sole; part = refs_first s rest })
+    inr (record {
+      buffer = s.buffer;
+      bytes = overwritten (bytes_of old s.buffer) (s.offset + place) (big_endian w n);
+      is = refl;
+      sole = sole;
+      part = refs_first s rest;
+    })
 
 -- append writes so
-behind_written : (segments : List Segment) (n : ℕ) (j : Packet) (old : Buffers) → IsTailSole segments j → (zeroed_behind n j old ≡ old) ⊎ Writes segments j old (zeroed_behind n j old)
+behind_written : (segments : List Segment) (n : ℕ) (j : Packet) (old : Buffers) → IsTailSole segments j →
+    (zeroed_behind n j old ≡ old) ⊎ Writes segments j old (zeroed_behind n j old)
 behind_written segments n [] old sole = inl refl
 behind_written segments n (s ∷ []) old sole =
-    inr (record { buffer = s.buffer; bytes = overwritten (bytes_of old s.buffer) (s.offset + s.len) (replicate n 0); is = refl; sole = sole; part = refs_first s [] })
+    inr (record {
+      buffer = s.buffer;
+      bytes = overwritten (bytes_of old s.buffer) (s.offset + s.len) (replicate n 0);
+      is = refl;
+      sole = sole;
+      part = refs_first s [];
+    })
 behind_written segments n (s ∷ t ∷ rest) old sole = further (behind_written segments n (t ∷ rest) old sole)
   where
-    further : (zeroed_behind n (t ∷ rest) old ≡ old) ⊎ Writes segments (t ∷ rest) old (zeroed_behind n (t ∷ rest) old) → (zeroed_behind n (t ∷ rest) old ≡ old) ⊎ Writes segments (s ∷ t ∷ rest) old (zeroed_behind n (t ∷ rest) old)
+    further : (zeroed_behind n (t ∷ rest) old ≡ old) ⊎ Writes segments (t ∷ rest) old (zeroed_behind n (t ∷ rest) old) →
+        (zeroed_behind n (t ∷ rest) old ≡ old) ⊎ Writes segments (s ∷ t ∷ rest) old (zeroed_behind n (t ∷ rest) old)
     further (inl e) = inl e
-    further (inr w) = inr (record { buffer = w.buffer; bytes = w.bytes; is = w.is; sole = w.sole; part = omega (arith, w.part, refs-cons s (t ∷ rest) w.buffer) })
+    further (inr w) = inr (record {
+      buffer = w.buffer;
+      bytes = w.bytes;
+      is = w.is;
+      sole = w.sole;
+      part = omega (arith, w.part, refs-cons s (t ∷ rest) w.buffer);
+    })
 
 -- the packet is as it was after a move
 abbrev pub Stays : Setting → State → Packet → Move → Type 0
 Stays c s k m = copy_of c.env.pools m.state.world.buffers k ≡ copy_of c.env.pools s.world.buffers k
 
 -- a write is not seen through a packet beside
-write_stays : (pools : List PoolSpec) (i : Instr) (s : State) (p : ℕ) (j k : Packet) (new : Buffers) → written_register i ≡ Some p → Holds s p j → IsBeside i s k → (new ≡ s.world.buffers) ⊎ Writes (live s) j s.world.buffers new → copy_of pools new k ≡ copy_of pools s.world.buffers k
+write_stays : (pools : List PoolSpec) (i : Instr) (s : State) (p : ℕ) (j k : Packet) (new : Buffers) → written_register i ≡ Some p → Holds s p j →
+    IsBeside i s k → (new ≡ s.world.buffers) ⊎ Writes (live s) j s.world.buffers new → copy_of pools new k ≡ copy_of pools s.world.buffers k
 unfolding Same
 write_stays pools i s p j k new written holds beside (inl e) = ap (λ buffers. copy_of pools buffers k) e
 write_stays pools i s p j k new written holds beside (inr w) =
@@ -95,9 +125,11 @@ beside_stays c label s (Prepend p n) m k (j, holds, le, sole, is) beside =
 beside_stays c label s (Append p n) m k (j, holds, le, sole, is) beside =
     moved c label s k m _ is (write_stays c.env.pools (Append p n) s p j k _ refl holds beside (behind_written (live s) n j s.world.buffers sole))
 beside_stays c label s (Store p off w r) m k (j, holds, le, sole, is) beside =
-    moved c label s k m _ is (write_stays c.env.pools (Store p off w r) s p j k _ refl holds beside (stored_written (live s) off (bytes_in w) (slice_index s.numbers r) j s.world.buffers sole))
+    moved c label s k m _ is (write_stays c.env.pools (Store p off w r) s p j k _ refl holds beside
+    (stored_written (live s) off (bytes_in w) (slice_index s.numbers r) j s.world.buffers sole))
 beside_stays c label s (StoreX p x off w r) m k (j, holds, le, sole, is) beside =
-    moved c label s k m _ is (write_stays c.env.pools (StoreX p x off w r) s p j k _ refl holds beside (stored_written (live s) (slice_index s.numbers x + off) (bytes_in w) (slice_index s.numbers r) j s.world.buffers sole))
+    moved c label s k m _ is (write_stays c.env.pools (StoreX p x off w r) s p j k _ refl holds beside
+    (stored_written (live s) (slice_index s.numbers x + off) (bytes_in w) (slice_index s.numbers r) j s.world.buffers sole))
 beside_stays c label s (Free p) m k (j, holds, is) beside = moved c label s k m _ is refl
 beside_stays c label s (Adj p n) m k (j, holds, le, is) beside = moved c label s k m _ is refl
 beside_stays c label s (Trim p n) m k (j, holds, le, is) beside = moved c label s k m _ is refl
@@ -126,7 +158,9 @@ beside_stays c label s (Jlt r n l) m k (after, e, is) beside = moved c label s k
 beside_stays c label s (Lookup r table x l) m k (after, e, is) beside = moved c label s k m _ is refl
 
 -- a record that is received is not seen through the packets in rings and transmit lists
-pub queued_stays : (c : Setting) (program : List Instr) (port : ℕ) (spec : PortSpec) (bytes : List ℕ) (w w' : World) (told : List Bool) (k : Packet) (r : Receives c program port spec bytes w told w') → IsQueued w k → copy_of c.env.pools r.buffers k ≡ copy_of c.env.pools w.buffers k
+pub queued_stays : (c : Setting) (program : List Instr) (port : ℕ) (spec : PortSpec) (bytes : List ℕ) (w w' : World) (told : List Bool) (k : Packet)
+    (r : Receives c program port spec bytes w told w') → IsQueued w k → copy_of c.env.pools r.buffers k ≡ copy_of c.env.pools w.buffers k
 unfolding Same
 queued_stays c program port spec bytes w w' told k r queued = copy_same c.env.pools w.buffers r.buffers k
-    (λ b one. r.filled.others.others b (quiet c.env.pools (live (between w)) spec.pool r.numbers b r.fresh.each (omega (arith, one, live_parts (between w) b, refs_queued w k b queued))))
+    (λ b one. r.filled.others.others b (quiet c.env.pools (live (between w)) spec.pool r.numbers b r.fresh.each
+    (omega (arith, one, live_parts (between w) b, refs_queued w k b queued))))

@@ -8,21 +8,26 @@ use Rattle.dp_model.specs.Buffers.{Number, Buffers, bytes_of, overwritten, writt
 use Rattle.dp_model.specs.Laws.Stored.{bytes_same, bytes_either}
 
 -- zeros written before a part, and behind it
-pub range_before : (old new : List ℕ) (offset len n : ℕ) → length new ≡ n → n ≤ offset → offset + len ≤ length old → slice_range (overwritten old (offset - n) new) (offset - n) (offset - n + (len + n)) ≡ new ++ slice_range old offset (offset + len)
+pub range_before : (old new : List ℕ) (offset len n : ℕ) → length new ≡ n → n ≤ offset → offset + len ≤ length old →
+    slice_range (overwritten old (offset - n) new) (offset - n) (offset - n + (len + n)) ≡ new ++ slice_range old offset (offset + len)
 range_before old new offset len n is short long = same_lists _ _ (search (rules, places)) (λ k d h. grind (arith, places))
 
-pub range_behind : (old new : List ℕ) (offset len n : ℕ) → length new ≡ n → offset + len + n ≤ length old → slice_range (overwritten old (offset + len) new) offset (offset + (len + n)) ≡ slice_range old offset (offset + len) ++ new
+pub range_behind : (old new : List ℕ) (offset len n : ℕ) → length new ≡ n → offset + len + n ≤ length old →
+    slice_range (overwritten old (offset + len) new) offset (offset + (len + n)) ≡ slice_range old offset (offset + len) ++ new
 range_behind old new offset len n is long = same_lists _ _ (search (rules, places)) (λ k d h. grind (arith, places))
 
 -- a part without its first bytes, and without its last
-pub range_drop : (old : List ℕ) (offset len n : ℕ) → n ≤ len → offset + len ≤ length old → slice_range old (offset + n) (offset + n + (len - n)) ≡ drop n (slice_range old offset (offset + len))
+pub range_drop : (old : List ℕ) (offset len n : ℕ) → n ≤ len → offset + len ≤ length old → slice_range old (offset + n) (offset + n + (len - n))
+    ≡ drop n (slice_range old offset (offset + len))
 range_drop old offset len n short long = same_lists _ _ (search (rules, places)) (λ k d h. grind (arith, places))
 
-pub range_take : (old : List ℕ) (offset len n : ℕ) → n ≤ len → offset + len ≤ length old → slice_range old offset (offset + (len - n)) ≡ take (len - n) (slice_range old offset (offset + len))
+pub range_take : (old : List ℕ) (offset len n : ℕ) → n ≤ len → offset + len ≤ length old → slice_range old offset (offset + (len - n))
+    ≡ take (len - n) (slice_range old offset (offset + len))
 range_take old offset len n short long = same_lists _ _ (search (rules, places)) (λ k d h. grind (arith, places))
 
 -- the bytes of a buffer that is written within
-pub written_at : (buffers : Buffers) (n : Number) (place : ℕ) (new : List ℕ) → place + length new ≤ length (bytes_of buffers n) → bytes_of (written buffers n place new) n ≡ overwritten (bytes_of buffers n) place new
+pub written_at : (buffers : Buffers) (n : Number) (place : ℕ) (new : List ℕ) → place + length new ≤ length (bytes_of buffers n) →
+    bytes_of (written buffers n place new) n ≡ overwritten (bytes_of buffers n) place new
 written_at buffers n place new fits =
     let old = bytes_of buffers n in
     ⊎_elim

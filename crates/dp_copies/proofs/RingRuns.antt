@@ -21,58 +21,87 @@ abbrev copy_waiting : List PoolSpec → Buffers → Waiting → CopyWaiting
 copy_waiting pools buffers next = record { ring = next.ring; packet = copy_of pools buffers next.packet; rings = map (map (copy_of pools buffers)) next.rings }
 
 -- the same packet waits first
-first_copies : (pools : List PoolSpec) (buffers : Buffers) (rings : List (List Packet)) → copy_first_waiting (map (map (copy_of pools buffers)) rings) ≡ option_map (copy_waiting pools buffers) (first_waiting rings)
+first_copies : (pools : List PoolSpec) (buffers : Buffers) (rings : List (List Packet)) → copy_first_waiting (map (map (copy_of pools buffers)) rings)
+    ≡ option_map (copy_waiting pools buffers) (first_waiting rings)
 first_copies pools buffers [] = refl
 first_copies pools buffers ([] ∷ rings) = ap (option_map (copy_behind [])) (first_copies pools buffers rings) ∙ swap (first_waiting rings)
   where
-    swap : (o : Option Waiting) → option_map (copy_behind []) (option_map (copy_waiting pools buffers) o) ≡ option_map (copy_waiting pools buffers) (option_map (behind []) o)
+    swap : (o : Option Waiting) → option_map (copy_behind []) (option_map (copy_waiting pools buffers) o)
+        ≡ option_map (copy_waiting pools buffers) (option_map (behind []) o)
     swap None = refl
     swap (Some next) = refl
 first_copies pools buffers ((k ∷ packets) ∷ rings) = refl
 
 -- it lies within the buffers
-ring_inside : (c : Setting) (next : Waiting) (w : World) → first_waiting w.rings ≡ Some next → IsInside c (between w) → IsInside c (first_state next.packet next.ring (record w { rings = next.rings }))
+ring_inside : (c : Setting) (next : Waiting) (w : World) → first_waiting w.rings ≡ Some next → IsInside c (between w) →
+    IsInside c (first_state next.packet next.ring (record w { rings = next.rings }))
 ring_inside c next w e well =
     let (packets, there, are) = waits w.rings next e in
     subst (λ rings. IsInside c (first_state next.packet next.ring (record w { rings = rings }))) (sym are) (popped packets there)
   where
-    popped : (packets : List Packet) → slice_get w.rings next.ring ≡ Some (next.packet ∷ packets) → IsInside c (first_state next.packet next.ring (record w { rings = slice_set w.rings next.ring packets }))
+    popped : (packets : List Packet) → slice_get w.rings next.ring ≡ Some (next.packet ∷ packets) →
+        IsInside c (first_state next.packet next.ring (record w { rings = slice_set w.rings next.ring packets }))
     popped packets there =
         let pools = c.env.pools in
         let w1 : World = record w { rings = slice_set w.rings next.ring packets } in
-        let lists = all_pop (Lies pools) w.rings next.ring next.packet packets there (all_left (Lies pools) (segments_listed w.rings) (segments_listed w.outboxes) well.lie) in
+        let lists = all_pop (Lies pools) w.rings next.ring next.packet packets there
+        (all_left (Lies pools) (segments_listed w.rings) (segments_listed w.outboxes) well.lie) in
         record {
           rooms = well.rooms;
           bytes = well.bytes;
-          lie = all_first (Lies pools) next.packet next.ring w1 lists.0 (all_join (Lies pools) (segments_listed w1.rings) (segments_listed w.outboxes) lists.1 (all_right (Lies pools) (segments_listed w.rings) (segments_listed w.outboxes) well.lie));
+          lie = all_first (Lies pools) next.packet next.ring w1 lists.0
+              (all_join (Lies pools) (segments_listed w1.rings) (segments_listed w.outboxes) lists.1
+              (all_right (Lies pools) (segments_listed w.rings) (segments_listed w.outboxes) well.lie));
         }
 
 -- up to n node runs
-pub serves_lands : (c : Setting) (programs : List (List Instr)) (n : ℕ) (w w' : World) (told later : List Bool) (runs : ℕ) (x : CopyState) → IsInside c (between w) → Shows c.env.pools w (told ++ later) x → Serves c programs n w told runs w' → Lands c w' later (λ fuel. copy_serves c.env c.tables fuel programs n x) (λ t. t)
+pub serves_lands : (c : Setting) (programs : List (List Instr)) (n : ℕ) (w w' : World) (told later : List Bool) (runs : ℕ) (x : CopyState) →
+    IsInside c (between w) → Shows c.env.pools w (told ++ later) x → Serves c programs n w told runs w' →
+    Lands c w' later (λ fuel. copy_serves c.env c.tables fuel programs n x) (λ t. t)
 serves_lands c programs zero w w' told later runs x well shows (none, _, is) =
     stays c w w' told later x (λ fuel. copy_serves c.env c.tables fuel programs zero x) (λ t. t) well shows none is (λ fuel. refl)
 serves_lands c programs (suc n) w w' told later runs x well shows serves =
     go (first_waiting w.rings) refl serves (λ mid told runs x. serves_lands c programs n mid w' told later runs x)
   where
-    go : (o : Option Waiting) → first_waiting w.rings ≡ o → MatchOption o ((told ≡ []) × (runs ≡ 0) × (w' ≡ w)) (λ next. (program : List Instr) × (now later : List Bool) × (mid : World) × (more : ℕ) × (slice_get programs next.ring ≡ Some program) × NodeRun c program next.packet next.ring (record w { rings = next.rings }) now mid × Serves c programs n mid later more w' × (told ≡ now ++ later) × (runs ≡ more + 1)) → ((mid : World) (told : List Bool) (runs : ℕ) (x : CopyState) → IsInside c (between mid) → Shows c.env.pools mid (told ++ later) x → Serves c programs n mid told runs w' → Lands c w' later (λ fuel. copy_serves c.env c.tables fuel programs n x) (λ t. t)) → Lands c w' later (λ fuel. copy_serves c.env c.tables fuel programs (suc n) x) (λ t. t)
+    go : (o : Option Waiting) → first_waiting w.rings ≡ o → MatchOption o ((told ≡ []) × (runs ≡ 0) × (w' ≡ w)) (λ next. (program : List Instr)
+        × (now later : List Bool) × (mid : World) × (more : ℕ) × (slice_get programs next.ring ≡ Some program)
+        × NodeRun c program next.packet next.ring (record w { rings = next.rings }) now mid × Serves c programs n mid later more w' × (told ≡ now ++ later)
+        × (runs ≡ more + 1)) → ((mid : World) (told : List Bool) (runs : ℕ) (x : CopyState) → IsInside c (between mid) →
+        Shows c.env.pools mid (told ++ later) x → Serves c programs n mid told runs w' →
+        Lands c w' later (λ fuel. copy_serves c.env c.tables fuel programs n x) (λ t. t)) →
+        Lands c w' later (λ fuel. copy_serves c.env c.tables fuel programs (suc n) x) (λ t. t)
     go None e (none, _, is) on =
-        let waiting : copy_first_waiting x.rings ≡ None = ap copy_first_waiting shows.rings ∙ (first_copies c.env.pools w.buffers w.rings ∙ ap (option_map (copy_waiting c.env.pools w.buffers)) e) in
+        let waiting : copy_first_waiting x.rings ≡ None = ap copy_first_waiting shows.rings
+        ∙ (first_copies c.env.pools w.buffers w.rings ∙ ap (option_map (copy_waiting c.env.pools w.buffers)) e) in
         stays c w w' told later x (λ fuel. copy_serves c.env c.tables fuel programs (suc n) x) (λ t. t) well shows none is
-        (λ fuel. ap (λ o. option_map_or (λ next. option_and_then (copy_serves c.env c.tables fuel programs n) (option_and_then (λ program. copy_node_run c.env c.tables fuel program next.packet next.ring (record x { rings = next.rings })) (slice_get programs next.ring))) o (Some x)) waiting)
+        (λ fuel. ap (λ o. option_map_or (λ next. option_and_then (copy_serves c.env c.tables fuel programs n)
+        (option_and_then (λ program. copy_node_run c.env c.tables fuel program next.packet next.ring (record x { rings = next.rings }))
+        (slice_get programs next.ring))) o (Some x)) waiting)
     go (Some next) e (program, now, rest, mid, more, is_program, run, serves, is_told, _) on =
         let pools = c.env.pools in
-        let waiting : copy_first_waiting x.rings ≡ Some (copy_waiting pools w.buffers next) = ap copy_first_waiting shows.rings ∙ (first_copies pools w.buffers w.rings ∙ ap (option_map (copy_waiting pools w.buffers)) e) in
+        let waiting : copy_first_waiting x.rings ≡ Some (copy_waiting pools w.buffers next) = ap copy_first_waiting shows.rings
+        ∙ (first_copies pools w.buffers w.rings ∙ ap (option_map (copy_waiting pools w.buffers)) e) in
         let y : CopyState = record x { rings = map (map (copy_of pools w.buffers)) next.rings } in
         let split : told ++ later ≡ now ++ (rest ++ later) = ap (λ ts. ts ++ later) is_told ∙ append_assoc now rest later in
-        let node = node_lands c program next.packet next.ring (record w { rings = next.rings }) mid now (rest ++ later) y (ring_inside c next w e well) (record { rings = refl; outboxes = shows.outboxes; to_tell = shows.to_tell ∙ split; cuts = shows.cuts }) run in
+        let node = node_lands c program next.packet next.ring (record w { rings = next.rings }) mid now (rest
+        ++ later) y (ring_inside c next w e well) (record {
+          rings = refl;
+          outboxes = shows.outboxes;
+          to_tell = shows.to_tell
+              ∙ split;
+          cuts = shows.cuts;
+        }) run in
         let others = on mid rest more node.state node.within node.shows serves in
         record {
           state = others.state;
           shows = others.shows;
           enough = node.enough + others.enough;
           lands = λ fuel le.
-              ap (λ o. option_map_or (λ next. option_and_then (copy_serves c.env c.tables fuel programs n) (option_and_then (λ program. copy_node_run c.env c.tables fuel program next.packet next.ring (record x { rings = next.rings })) (slice_get programs next.ring))) o (Some x)) waiting
-              ∙ (ap (λ o. option_and_then (copy_serves c.env c.tables fuel programs n) (option_and_then (λ program. copy_node_run c.env c.tables fuel program (copy_of pools w.buffers next.packet) next.ring y) o)) is_program
+              ap (λ o. option_map_or (λ next. option_and_then (copy_serves c.env c.tables fuel programs n)
+              (option_and_then (λ program. copy_node_run c.env c.tables fuel program next.packet next.ring (record x { rings = next.rings }))
+              (slice_get programs next.ring))) o (Some x)) waiting
+              ∙ (ap (λ o. option_and_then (copy_serves c.env c.tables fuel programs n)
+              (option_and_then (λ program. copy_node_run c.env c.tables fuel program (copy_of pools w.buffers next.packet) next.ring y) o)) is_program
               ∙ (ap (option_and_then (copy_serves c.env c.tables fuel programs n)) (node.lands fuel (omega (arith, le)))
               ∙ others.lands fuel (omega (arith, le))));
           within = others.within;

@@ -29,11 +29,14 @@ mapped_none f None h = refl
 mapped_none f (Some x) h = cc
 
 -- what no position fails, each element passes
-each_passes : {X : Type 0} (test : X → Bool) (xs : List X) (from place : ℕ) (x : X) → position_from (λ y. not (test y)) from xs ≡ None → slice_get xs place ≡ Some x → test x ≡ true
+each_passes : {X : Type 0} (test : X → Bool) (xs : List X) (from place : ℕ) (x : X) → position_from (λ y. not (test y)) from xs ≡ None →
+    slice_get xs place ≡ Some x → test x ≡ true
 each_passes test [] from place x h e = cc
 each_passes test (y ∷ xs) from place x h e = go (test y) refl h place e (λ place. each_passes test xs (from + 1) place x)
   where
-    go : (b : Bool) → test y ≡ b → cond (not b) (Some from) (position_from (λ y. not (test y)) (from + 1) xs) ≡ None → (place : ℕ) → slice_get (y ∷ xs) place ≡ Some x → ((place : ℕ) → position_from (λ y. not (test y)) (from + 1) xs ≡ None → slice_get xs place ≡ Some x → test x ≡ true) → test x ≡ true
+    go : (b : Bool) → test y ≡ b → cond (not b) (Some from) (position_from (λ y. not (test y)) (from + 1) xs) ≡ None →
+        (place : ℕ) → slice_get (y ∷ xs) place ≡ Some x → ((place : ℕ) → position_from (λ y. not (test y)) (from + 1) xs ≡ None →
+        slice_get xs place ≡ Some x → test x ≡ true) → test x ≡ true
     go false is none place e rest = cc
     go true is none zero e rest = ap test (sym (same_Some y x e)) ∙ is
     go true is none (suc place) e rest = rest place none e

@@ -16,51 +16,69 @@ use Rattle.dp_model.specs.Laws.Places.{IsInside}
 use Rattle.dp_copies.proofs.Moves.{Does, by, either, held_step, put_copies}
 
 -- a packet leaves for a list
-leaves_step : (c : Setting) (label : ℕ) (st : State) (i : Instr) (later : List Bool) (count : ℕ) (packets : List Packet) (k : Packet) (p l : ℕ) (put : List Packet → State → State) (put' : List Copy → CopyState → CopyState) →
-    ((told : List Bool) → copy_step c.env c.tables label (copied c.env.pools st told) i ≡ copy_leaves (Some count) (Some (map (copy_of c.env.pools st.world.buffers) packets)) (copy_of c.env.pools st.world.buffers k) p label l put' (copied c.env.pools st told)) →
-    copied c.env.pools (put (packets ++ k ∷ []) (without_packet p st)) later ≡ put' (map (copy_of c.env.pools st.world.buffers) packets ++ copy_of c.env.pools st.world.buffers k ∷ []) (copy_put p None (copied c.env.pools st later)) →
+leaves_step : (c : Setting) (label : ℕ) (st : State) (i : Instr) (later : List Bool) (count : ℕ) (packets : List Packet) (k : Packet) (p l : ℕ)
+    (put : List Packet → State → State) (put' : List Copy → CopyState → CopyState) →
+    ((told : List Bool) → copy_step c.env c.tables label (copied c.env.pools st told) i
+    ≡ copy_leaves (Some count) (Some (map (copy_of c.env.pools st.world.buffers) packets)) (copy_of c.env.pools st.world.buffers k) p label l put'
+    (copied c.env.pools st told)) →
+    copied c.env.pools (put (packets ++ k ∷ []) (without_packet p st)) later
+    ≡ put' (map (copy_of c.env.pools st.world.buffers) packets ++ copy_of c.env.pools st.world.buffers k ∷ [])
+    (copy_put p None (copied c.env.pools st later)) →
     Does c label st i later (cond (nat_lt (length packets + 1) count) (goes_on label (put (packets ++ k ∷ []) (without_packet p st))) (moves_to l st))
 leaves_step c label st i later count packets k p l put put' step same =
     let copy = copy_of c.env.pools st.world.buffers in
     let s = copied c.env.pools st later in
-    let e : (b : Bool) → nat_lt (length packets + 1) count ≡ b → copy_step c.env c.tables label s i ≡ Some (cond b (copy_on label (put' (map copy packets ++ copy k ∷ []) (copy_put p None s))) (At l, s)) =
-    λ b is. step later ∙ ap (λ b. Some (cond b (copy_on label (put' (map copy packets ++ copy k ∷ []) (copy_put p None s))) (At l, s))) (ap (λ n. nat_lt (n + 1) count) (length-map packets copy) ∙ is) in
+    let e : (b : Bool) → nat_lt (length packets + 1) count ≡ b → copy_step c.env c.tables label s i
+    ≡ Some (cond b (copy_on label (put' (map copy packets ++ copy k ∷ []) (copy_put p None s))) (At l, s)) =
+    λ b is. step later ∙ ap (λ b. Some (cond b (copy_on label (put' (map copy packets ++ copy k ∷ []) (copy_put p None s))) (At l, s)))
+    (ap (λ n. nat_lt (n + 1) count) (length-map packets copy) ∙ is) in
     either c label st i later (nat_lt (length packets + 1) count) (goes_on label (put (packets ++ k ∷ []) (without_packet p st))) (moves_to l st)
     (λ yes. e true yes ∙ ap (λ t. Some (At (label + 1), t)) (sym same))
     (λ no. e false no)
 
 -- no register holds a packet, so none holds a copy
-all_gone : (pools : List PoolSpec) (buffers : Buffers) (packets : List (Option Packet)) → AllByRecursion (λ o. o ≡ None) packets → list_all is_gone (map (option_map (copy_of pools buffers)) packets) ≡ true
+all_gone : (pools : List PoolSpec) (buffers : Buffers) (packets : List (Option Packet)) → AllByRecursion (λ o. o ≡ None) packets →
+    list_all is_gone (map (option_map (copy_of pools buffers)) packets) ≡ true
 all_gone pools buffers [] gone = refl
 all_gone pools buffers (None ∷ packets) gone = all_gone pools buffers packets gone.1
 all_gone pools buffers (Some k ∷ packets) gone = let h = gone.0 in cc
 
 -- ---- each instruction
 
-pub tx_step : (c : Setting) (label : ℕ) (s : State) (p r l : ℕ) (m : Move) (later : List Bool) → IsInside c s → Acts c label s (Tx p r l) m → Does c label s (Tx p r l) later m
+pub tx_step : (c : Setting) (label : ℕ) (s : State) (p r l : ℕ) (m : Move) (later : List Bool) → IsInside c s → Acts c label s (Tx p r l) m →
+    Does c label s (Tx p r l) later m
 tx_step c label s p r l m later well (k, port, packets, holds, is_port, is_there, is) = by c label s (Tx p r l) later m _ is
     (let pools = c.env.pools in
     let copy = copy_of pools s.world.buffers in
     let to = slice_index s.numbers r in
     let put = λ (packets : List Copy) (t : CopyState). record t { outboxes = slice_set t.outboxes to packets } in
     leaves_step c label s (Tx p r l) later port.queue packets k p l (with_outbox to) put
-    (λ told. held_step pools s told p k (λ k. copy_leaves (option_map (λ port. port.queue) (slice_get c.env.ports to)) (slice_get (copied pools s told).outboxes to) k p label l put (copied pools s told)) holds
-    ∙ (ap (λ o. copy_leaves (option_map (λ port. port.queue) o) (slice_get (copied pools s told).outboxes to) (copy k) p label l put (copied pools s told)) is_port
-    ∙ ap (λ o. copy_leaves (Some port.queue) o (copy k) p label l put (copied pools s told)) (slice_get-map (map copy) s.world.outboxes to ∙ ap (option_map (map copy)) is_there)))
-    (let lists = map-set (map copy) s.world.outboxes to (packets ++ k ∷ []) ∙ ap (λ x. slice_set (map (map copy) s.world.outboxes) to x) (map-append copy packets (k ∷ [])) in
+    (λ told. held_step pools s told p k (λ k. copy_leaves (option_map (λ port. port.queue) (slice_get c.env.ports to))
+    (slice_get (copied pools s told).outboxes to) k p label l put (copied pools s told)) holds
+    ∙ (ap (λ o. copy_leaves (option_map (λ port. port.queue) o) (slice_get (copied pools s told).outboxes to) (copy k) p label l put (copied pools s told))
+    is_port
+    ∙ ap (λ o. copy_leaves (Some port.queue) o (copy k) p label l put (copied pools s told)) (slice_get-map (map copy) s.world.outboxes to
+    ∙ ap (option_map (map copy)) is_there)))
+    (let lists = map-set (map copy) s.world.outboxes to (packets ++ k ∷ [])
+    ∙ ap (λ x. slice_set (map (map copy) s.world.outboxes) to x) (map-append copy packets (k ∷ [])) in
     ap (λ x. record (copied pools (without_packet p s) later) { outboxes = x }) lists
     ∙ ap (put (map copy packets ++ copy k ∷ [])) (put_copies pools s p None later)))
 
-pub enq_step : (c : Setting) (label : ℕ) (s : State) (p ring l : ℕ) (m : Move) (later : List Bool) → IsInside c s → Acts c label s (Enq p ring l) m → Does c label s (Enq p ring l) later m
+pub enq_step : (c : Setting) (label : ℕ) (s : State) (p ring l : ℕ) (m : Move) (later : List Bool) → IsInside c s → Acts c label s (Enq p ring l) m →
+    Does c label s (Enq p ring l) later m
 enq_step c label s p ring l m later well (k, spec, packets, holds, is_ring, is_there, is) = by c label s (Enq p ring l) later m _ is
     (let pools = c.env.pools in
     let copy = copy_of pools s.world.buffers in
     let put = λ (packets : List Copy) (t : CopyState). record t { rings = slice_set t.rings ring packets } in
     leaves_step c label s (Enq p ring l) later spec.count packets k p l (with_ring ring) put
-    (λ told. held_step pools s told p k (λ k. copy_leaves (option_map (λ spec. spec.count) (slice_get c.env.rings ring)) (slice_get (copied pools s told).rings ring) k p label l put (copied pools s told)) holds
-    ∙ (ap (λ o. copy_leaves (option_map (λ spec. spec.count) o) (slice_get (copied pools s told).rings ring) (copy k) p label l put (copied pools s told)) is_ring
-    ∙ ap (λ o. copy_leaves (Some spec.count) o (copy k) p label l put (copied pools s told)) (slice_get-map (map copy) s.world.rings ring ∙ ap (option_map (map copy)) is_there)))
-    (let lists = map-set (map copy) s.world.rings ring (packets ++ k ∷ []) ∙ ap (λ x. slice_set (map (map copy) s.world.rings) ring x) (map-append copy packets (k ∷ [])) in
+    (λ told. held_step pools s told p k (λ k. copy_leaves (option_map (λ spec. spec.count) (slice_get c.env.rings ring))
+    (slice_get (copied pools s told).rings ring) k p label l put (copied pools s told)) holds
+    ∙ (ap (λ o. copy_leaves (option_map (λ spec. spec.count) o) (slice_get (copied pools s told).rings ring) (copy k) p label l put (copied pools s told))
+    is_ring
+    ∙ ap (λ o. copy_leaves (Some spec.count) o (copy k) p label l put (copied pools s told)) (slice_get-map (map copy) s.world.rings ring
+    ∙ ap (option_map (map copy)) is_there)))
+    (let lists = map-set (map copy) s.world.rings ring (packets ++ k ∷ [])
+    ∙ ap (λ x. slice_set (map (map copy) s.world.rings) ring x) (map-append copy packets (k ∷ [])) in
     ap (λ x. record (copied pools (without_packet p s) later) { rings = x }) lists
     ∙ ap (put (map copy packets ++ copy k ∷ [])) (put_copies pools s p None later)))
 

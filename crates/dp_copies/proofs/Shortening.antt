@@ -12,7 +12,8 @@ use Rattle.dp_copies.proofs.Lengths.{length_segment, IsThere}
 
 module _ (pools : List PoolSpec) (buffers : Buffers) where
   -- adj
-  pub adj_copy : (k : Packet) (n : ℕ) → n ≤ first_len k → AllByRecursion (IsThere pools buffers) k → copy_of pools buffers (at_front (less_before n) k) ≡ first_changed (without_front n) (copy_of pools buffers k)
+  pub adj_copy : (k : Packet) (n : ℕ) → n ≤ first_len k → AllByRecursion (IsThere pools buffers) k → copy_of pools buffers (at_front (less_before n) k)
+      ≡ first_changed (without_front n) (copy_of pools buffers k)
   adj_copy [] n le all = refl
   adj_copy (s ∷ rest) n le all =
       let bytes = range_drop (bytes_of buffers s.buffer) s.offset s.len n le all.0.1 in
@@ -20,11 +21,13 @@ module _ (pools : List PoolSpec) (buffers : Buffers) where
       λ i. record { before = s.offset + n; bytes = bytes i; behind = behind i } ∷ copy_of pools buffers rest
 
   -- trim
-  pub trim_copy : (k : Packet) (n : ℕ) → n ≤ last_len k → AllByRecursion (IsThere pools buffers) k → copy_of pools buffers (at_end (less_behind n) k) ≡ last_changed (without_back n) (copy_of pools buffers k)
+  pub trim_copy : (k : Packet) (n : ℕ) → n ≤ last_len k → AllByRecursion (IsThere pools buffers) k → copy_of pools buffers (at_end (less_behind n) k)
+      ≡ last_changed (without_back n) (copy_of pools buffers k)
   trim_copy [] n le all = refl
   trim_copy (s ∷ []) n le all =
       let old = segment_bytes buffers s in
-      let bytes = range_take (bytes_of buffers s.buffer) s.offset s.len n le all.0.1 ∙ ap (λ m. take (m - n) old) (sym (length_segment pools buffers s all.0.1)) in
+      let bytes = range_take (bytes_of buffers s.buffer) s.offset s.len n le all.0.1
+      ∙ ap (λ m. take (m - n) old) (sym (length_segment pools buffers s all.0.1)) in
       let behind : room_at pools s.buffer.pool - s.offset - (s.len - n) ≡ room_at pools s.buffer.pool - s.offset - s.len + n = omega (arith, le, all.0.0) in
       λ i. record { before = s.offset; bytes = bytes i; behind = behind i } ∷ []
   trim_copy (s ∷ t ∷ rest) n le all = ap (λ c. piece_of pools buffers s ∷ c) (trim_copy (t ∷ rest) n le all.1)

@@ -5,7 +5,8 @@ use Rattle.dp_model.specs.Packets.{IsWithin}
 use Rattle.dp_model.specs.Machine.{State, live, At, Setting, Move, Acts}
 use Rattle.dp_model.specs.CopyMachine.{CopyMove, copy_step}
 use Rattle.dp_model.specs.Copies.{copied}
-use Rattle.dp_model.specs.declared.instr.Instr.TheVariants.{Alloc, Clone, Free, Prepend, Adj, Append, Trim, Chain, IfHead, IfTail, IfLen, IfLast, Load, Store, LoadX, StoreX, Set, Mov, Add, Sub, And, Or, Xor, Shl, Shr, Jmp, Jeq, Jlt, Lookup, Tx, Enq, Exit}
+use Rattle.dp_model.specs.declared.instr.Instr.TheVariants.{Alloc, Clone, Free, Prepend, Adj, Append, Trim, Chain, IfHead, IfTail, IfLen, IfLast, Load, Store}
+use Rattle.dp_model.specs.declared.instr.Instr.TheVariants.{LoadX, StoreX, Set, Mov, Add, Sub, And, Or, Xor, Shl, Shr, Jmp, Jeq, Jlt, Lookup, Tx, Enq, Exit}
 use Rattle.dp_model.specs.declared.instr.Instr.{Instr}
 use Rattle.dp_copies.proofs.Moves.{by}
 use Rattle.dp_copies.proofs.AllocationSteps.{alloc_step, clone_step}
@@ -16,7 +17,8 @@ use Rattle.dp_copies.proofs.SendSteps.{tx_step, enq_step, exit_step}
 
 -- each step is a step of the copies
 abbrev pub StepsCopy : Setting → Type 0
-StepsCopy c = (label : ℕ) (s : State) (i : Instr) (m : Move) (later : List Bool) → IsWithin c.env.pools s.world.buffers (live s) → Acts c label s i m → copy_step c.env c.tables label (copied c.env.pools s (m.told ++ later)) i ≡ Some (m.next, copied c.env.pools m.state later)
+StepsCopy c = (label : ℕ) (s : State) (i : Instr) (m : Move) (later : List Bool) → IsWithin c.env.pools s.world.buffers (live s) → Acts c label s i m →
+    copy_step c.env c.tables label (copied c.env.pools s (m.told ++ later)) i ≡ Some (m.next, copied c.env.pools m.state later)
 
 -- where the numbers lead
 leads : (c : Setting) (s : State) (later : List Bool) → ℕ × List ℕ → CopyMove

@@ -21,37 +21,59 @@ use Rattle.dp_copies.proofs.Lengths.{there}
 use Rattle.dp_copies.proofs.Writes.{apart}
 
 -- the packet's first segment written, as the copy's first piece is
-stored_copy : (pools : List PoolSpec) (st : State) (s : Segment) (rest : Packet) (off w n : ℕ) → 0 < w → off + w ≤ s.len → s.offset + s.len ≤ room_at pools s.buffer.pool → length (bytes_of st.world.buffers s.buffer) ≡ room_at pools s.buffer.pool → Same pools st.world.buffers (stored off w n (s ∷ rest) st.world.buffers) rest → copy_of pools (stored off w n (s ∷ rest) st.world.buffers) (s ∷ rest) ≡ first_changed (with_stored off (big_endian w n)) (copy_of pools st.world.buffers (s ∷ rest))
+stored_copy : (pools : List PoolSpec) (st : State) (s : Segment) (rest : Packet) (off w n : ℕ) → 0 < w → off + w ≤ s.len →
+    s.offset + s.len ≤ room_at pools s.buffer.pool → length (bytes_of st.world.buffers s.buffer) ≡ room_at pools s.buffer.pool →
+    Same pools st.world.buffers (stored off w n (s ∷ rest) st.world.buffers) rest → copy_of pools (stored off w n (s ∷ rest) st.world.buffers) (s ∷ rest)
+    ≡ first_changed (with_stored off (big_endian w n)) (copy_of pools st.world.buffers (s ∷ rest))
 stored_copy pools st s rest off w n some short fits room same =
     let old = bytes_of st.world.buffers s.buffer in
     let new : List ℕ = big_endian w n in
-    let bytes : bytes_of (stored off w n (s ∷ rest) st.world.buffers) s.buffer ≡ overwritten old (s.offset + off) new = bytes_same st.world.buffers s.buffer (overwritten old (s.offset + off) new) (omega (arith, some, short, fits, room)) in
-    let range = ap (λ bs. slice_range bs s.offset (s.offset + s.len)) bytes ∙ range_overwritten old new s.offset s.len off (omega (arith, length-big_endian w n, short)) (omega (arith, fits, room)) in
-    ap (λ bs. record { before = s.offset; bytes = bs; behind = room_at pools s.buffer.pool - s.offset - s.len } ∷ copy_of pools (stored off w n (s ∷ rest) st.world.buffers) rest) range
-    ∙ ap (λ c. record { before = s.offset; bytes = overwritten (slice_range old s.offset (s.offset + s.len)) off new; behind = room_at pools s.buffer.pool - s.offset - s.len } ∷ c) (copy_same pools st.world.buffers (stored off w n (s ∷ rest) st.world.buffers) rest same)
+    let bytes : bytes_of (stored off w n (s ∷ rest) st.world.buffers) s.buffer ≡ overwritten old (s.offset + off) new =
+    bytes_same st.world.buffers s.buffer (overwritten old (s.offset + off) new) (omega (arith, some, short, fits, room)) in
+    let range = ap (λ bs. slice_range bs s.offset (s.offset + s.len)) bytes
+    ∙ range_overwritten old new s.offset s.len off (omega (arith, length-big_endian w n, short)) (omega (arith, fits, room)) in
+    ap (λ bs. record { before = s.offset; bytes = bs; behind = room_at pools s.buffer.pool - s.offset - s.len }
+    ∷ copy_of pools (stored off w n (s ∷ rest) st.world.buffers) rest) range
+    ∙ ap (λ c. record {
+      before = s.offset;
+      bytes = overwritten (slice_range old s.offset (s.offset + s.len)) off new;
+      behind = room_at pools s.buffer.pool - s.offset - s.len;
+    } ∷ c)
+    (copy_same pools st.world.buffers (stored off w n (s ∷ rest) st.world.buffers) rest same)
 
 -- and no other packet is changed by it
-pub store_copies : (pools : List PoolSpec) (st : State) (p : ℕ) (k : Packet) (off w n : ℕ) (told : List Bool) → Holds st p k → 0 < w → off + w ≤ first_len k → IsHeadSole (live st) k → IsWithin pools st.world.buffers (live st) → copied pools (with_buffers (stored off w n k st.world.buffers) st) told ≡ copy_put p (Some (first_changed (with_stored off (big_endian w n)) (copy_of pools st.world.buffers k))) (copied pools st told)
+pub store_copies : (pools : List PoolSpec) (st : State) (p : ℕ) (k : Packet) (off w n : ℕ) (told : List Bool) → Holds st p k → 0 < w → off + w ≤ first_len k →
+    IsHeadSole (live st) k → IsWithin pools st.world.buffers (live st) → copied pools (with_buffers (stored off w n k st.world.buffers) st) told
+    ≡ copy_put p (Some (first_changed (with_stored off (big_endian w n)) (copy_of pools st.world.buffers k))) (copied pools st told)
 unfolding Same
 store_copies pools st p [] off w n told holds some short sole well = absurd (omega arith)
 store_copies pools st p (s ∷ rest) off w n told holds some short sole well =
     let k : Packet = s ∷ rest in
     let old = st.world.buffers in
     let new = stored off w n k old in
-    let lies = (all_held (Lies pools) st.packets p k (all_left (Lies pools) (segments_held st.packets) (segments_listed st.world.rings ++ segments_listed st.world.outboxes) well.lie) holds).0 in
-    let others : (segments : List Segment) → ((b : Number) → one_if (same_number s.buffer b) + refs segments b ≤ refs (live st) b) → Same pools old new segments =
+    let lies = (all_held (Lies pools) st.packets p k (all_left (Lies pools) (segments_held st.packets) (segments_listed st.world.rings
+    ++ segments_listed st.world.outboxes) well.lie) holds).0 in
+    let others : (segments : List Segment) → ((b : Number) → one_if (same_number s.buffer b) + refs segments b ≤ refs (live st) b) →
+    Same pools old new segments =
     λ segments within b one. bytes_other old s.buffer b _ (apart st s.buffer b (refs segments b) sole (within b) one) in
     let mine : (b : Number) → one_if (same_number s.buffer b) ≤ refs k b = λ b. omega (arith, refs-cons s rest b) in
     let head : copy_of pools new k ≡ first_changed (with_stored off (big_endian w n)) (copy_of pools old k) =
     stored_copy pools st s rest off w n some short lies.fits (well.rooms s.buffer lies.number)
     (others rest (λ b. omega (arith, refs-cons s rest b, live_parts st b, refs_held st.packets p (Some k) b holds))) in
     let packets = map_one (option_map (copy_of pools old)) (option_map (copy_of pools new)) st.packets p (Some k) holds
-    (λ i u ne there. other_register i u ne there (λ j segments. others j (λ b. segments b (mine b)))) ∙ ap (λ c. slice_set (map (option_map (copy_of pools old)) st.packets) p (Some c)) head in
-    let rings = listed_same pools old new st.world.rings (others (segments_listed st.world.rings) (λ b. omega (arith, mine b, live_parts st b, refs_held st.packets p (Some k) b holds))) in
-    let outboxes = listed_same pools old new st.world.outboxes (others (segments_listed st.world.outboxes) (λ b. omega (arith, mine b, live_parts st b, refs_held st.packets p (Some k) b holds))) in
+    (λ i u ne there. other_register i u ne there (λ j segments. others j (λ b. segments b (mine b))))
+    ∙ ap (λ c. slice_set (map (option_map (copy_of pools old)) st.packets) p (Some c)) head in
+    let rings = listed_same pools old new st.world.rings (others (segments_listed st.world.rings)
+    (λ b. omega (arith, mine b, live_parts st b, refs_held st.packets p (Some k) b holds))) in
+    let outboxes = listed_same pools old new st.world.outboxes (others (segments_listed st.world.outboxes)
+    (λ b. omega (arith, mine b, live_parts st b, refs_held st.packets p (Some k) b holds))) in
     λ i. record { packets = packets i; numbers = st.numbers; jumps = st.jumps; rings = rings i; outboxes = outboxes i; to_tell = told; cuts = st.world.cuts }
   where
-    other_register : (i : ℕ) (u : Option Packet) → i ≢ p → slice_get st.packets i ≡ Some u → ((j : Packet) → ((b : Number) → one_if (same_number s.buffer b) ≤ refs (s ∷ rest) b → one_if (same_number s.buffer b) + refs j b ≤ refs (live st) b) → Same pools st.world.buffers (stored off w n (s ∷ rest) st.world.buffers) j) → option_map (copy_of pools (stored off w n (s ∷ rest) st.world.buffers)) u ≡ option_map (copy_of pools st.world.buffers) u
+    other_register : (i : ℕ) (u : Option Packet) → i ≢ p → slice_get st.packets i ≡ Some u →
+        ((j : Packet) → ((b : Number) → one_if (same_number s.buffer b) ≤ refs (s ∷ rest) b → one_if (same_number s.buffer b) + refs j b ≤ refs (live st) b) →
+        Same pools st.world.buffers (stored off w n (s ∷ rest) st.world.buffers) j) →
+        option_map (copy_of pools (stored off w n (s ∷ rest) st.world.buffers)) u ≡ option_map (copy_of pools st.world.buffers) u
     other_register i None ne there f = refl
     other_register i (Some j) ne there f =
-        ap Some (copy_same pools st.world.buffers (stored off w n (s ∷ rest) st.world.buffers) j (f j (λ b le. omega (arith, le, live_parts st b, refs_two st.packets i p (Some j) (Some (s ∷ rest)) b ne there holds))))
+        ap Some (copy_same pools st.world.buffers (stored off w n (s ∷ rest) st.world.buffers) j
+        (f j (λ b le. omega (arith, le, live_parts st b, refs_two st.packets i p (Some j) (Some (s ∷ rest)) b ne there holds))))

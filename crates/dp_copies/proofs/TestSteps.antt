@@ -12,33 +12,45 @@ use Rattle.dp_copies.proofs.Lengths.{first_before, first_length, last_behind, la
 use Rattle.dp_copies.proofs.Moves.{Does, by, either, held_step}
 
 -- the same room or length is tested
-tests_step : (pools : List PoolSpec) (st : State) (told : List Bool) (p label l : ℕ) (measure : Copy → ℕ) (n value : ℕ) (k : Packet) (b : Bool) → Holds st p k → measure (copy_of pools st.world.buffers k) ≡ value → nat_lt value n ≡ b → copy_tests (copied pools st told) p label l measure n ≡ Some (copy_branches b label l (copied pools st told))
+tests_step : (pools : List PoolSpec) (st : State) (told : List Bool) (p label l : ℕ) (measure : Copy → ℕ) (n value : ℕ) (k : Packet) (b : Bool) →
+    Holds st p k → measure (copy_of pools st.world.buffers k) ≡ value → nat_lt value n ≡ b → copy_tests (copied pools st told) p label l measure n
+    ≡ Some (copy_branches b label l (copied pools st told))
 tests_step pools st told p label l measure n value k b holds is test =
     held_step pools st told p k (λ k. Some (copy_branches (nat_lt (measure k) n) label l (copied pools st told))) holds
     ∙ ap (λ b. Some (copy_branches b label l (copied pools st told))) (ap (λ v. nat_lt v n) is ∙ test)
 
 -- ---- each instruction
 
-pub if_head_step : (c : Setting) (label : ℕ) (s : State) (p n l : ℕ) (m : Move) (later : List Bool) → IsInside c s → Acts c label s (IfHead p n l) m → Does c label s (IfHead p n l) later m
+pub if_head_step : (c : Setting) (label : ℕ) (s : State) (p n l : ℕ) (m : Move) (later : List Bool) → IsInside c s → Acts c label s (IfHead p n l) m →
+    Does c label s (IfHead p n l) later m
 if_head_step c label s p n l m later well (k, holds, is) = by c label s (IfHead p n l) later m _ is
     (either c label s (IfHead p n l) later (nat_lt (headroom k) n) (moves_to l s) (goes_on label s)
     (λ b. tests_step c.env.pools s later p label l (λ k. (first_piece k).before) n (headroom k) k true holds (first_before c.env.pools s.world.buffers k) b)
     (λ b. tests_step c.env.pools s later p label l (λ k. (first_piece k).before) n (headroom k) k false holds (first_before c.env.pools s.world.buffers k) b))
 
-pub if_tail_step : (c : Setting) (label : ℕ) (s : State) (p n l : ℕ) (m : Move) (later : List Bool) → IsInside c s → Acts c label s (IfTail p n l) m → Does c label s (IfTail p n l) later m
+pub if_tail_step : (c : Setting) (label : ℕ) (s : State) (p n l : ℕ) (m : Move) (later : List Bool) → IsInside c s → Acts c label s (IfTail p n l) m →
+    Does c label s (IfTail p n l) later m
 if_tail_step c label s p n l m later well (k, holds, is) = by c label s (IfTail p n l) later m _ is
     (either c label s (IfTail p n l) later (nat_lt (tailroom c.env.pools k) n) (moves_to l s) (goes_on label s)
-    (λ b. tests_step c.env.pools s later p label l (λ k. (last_piece k).behind) n (tailroom c.env.pools k) k true holds (last_behind c.env.pools s.world.buffers k) b)
-    (λ b. tests_step c.env.pools s later p label l (λ k. (last_piece k).behind) n (tailroom c.env.pools k) k false holds (last_behind c.env.pools s.world.buffers k) b))
+    (λ b. tests_step c.env.pools s later p label l (λ k. (last_piece k).behind) n (tailroom c.env.pools k) k true holds
+    (last_behind c.env.pools s.world.buffers k) b)
+    (λ b. tests_step c.env.pools s later p label l (λ k. (last_piece k).behind) n (tailroom c.env.pools k) k false holds
+    (last_behind c.env.pools s.world.buffers k) b))
 
-pub if_len_step : (c : Setting) (label : ℕ) (s : State) (p n l : ℕ) (m : Move) (later : List Bool) → IsInside c s → Acts c label s (IfLen p n l) m → Does c label s (IfLen p n l) later m
+pub if_len_step : (c : Setting) (label : ℕ) (s : State) (p n l : ℕ) (m : Move) (later : List Bool) → IsInside c s → Acts c label s (IfLen p n l) m →
+    Does c label s (IfLen p n l) later m
 if_len_step c label s p n l m later well (k, holds, is) = by c label s (IfLen p n l) later m _ is
     (either c label s (IfLen p n l) later (nat_lt (first_len k) n) (moves_to l s) (goes_on label s)
-    (λ b. tests_step c.env.pools s later p label l (λ k. length (first_piece k).bytes) n (first_len k) k true holds (first_length c.env.pools s.world.buffers k (there c s p k well holds)) b)
-    (λ b. tests_step c.env.pools s later p label l (λ k. length (first_piece k).bytes) n (first_len k) k false holds (first_length c.env.pools s.world.buffers k (there c s p k well holds)) b))
+    (λ b. tests_step c.env.pools s later p label l (λ k. length (first_piece k).bytes) n (first_len k) k true holds
+    (first_length c.env.pools s.world.buffers k (there c s p k well holds)) b)
+    (λ b. tests_step c.env.pools s later p label l (λ k. length (first_piece k).bytes) n (first_len k) k false holds
+    (first_length c.env.pools s.world.buffers k (there c s p k well holds)) b))
 
-pub if_last_step : (c : Setting) (label : ℕ) (s : State) (p n l : ℕ) (m : Move) (later : List Bool) → IsInside c s → Acts c label s (IfLast p n l) m → Does c label s (IfLast p n l) later m
+pub if_last_step : (c : Setting) (label : ℕ) (s : State) (p n l : ℕ) (m : Move) (later : List Bool) → IsInside c s → Acts c label s (IfLast p n l) m →
+    Does c label s (IfLast p n l) later m
 if_last_step c label s p n l m later well (k, holds, is) = by c label s (IfLast p n l) later m _ is
     (either c label s (IfLast p n l) later (nat_lt (last_len k) n) (moves_to l s) (goes_on label s)
-    (λ b. tests_step c.env.pools s later p label l (λ k. length (last_piece k).bytes) n (last_len k) k true holds (last_length c.env.pools s.world.buffers k (there c s p k well holds)) b)
-    (λ b. tests_step c.env.pools s later p label l (λ k. length (last_piece k).bytes) n (last_len k) k false holds (last_length c.env.pools s.world.buffers k (there c s p k well holds)) b))
+    (λ b. tests_step c.env.pools s later p label l (λ k. length (last_piece k).bytes) n (last_len k) k true holds
+    (last_length c.env.pools s.world.buffers k (there c s p k well holds)) b)
+    (λ b. tests_step c.env.pools s later p label l (λ k. length (last_piece k).bytes) n (last_len k) k false holds
+    (last_length c.env.pools s.world.buffers k (there c s p k well holds)) b))

@@ -20,7 +20,9 @@ use Rattle.dp_copies.proofs.Landings.{Shows, Lands, stays, node_lands}
 use Rattle.dp_copies.proofs.RingRuns.{serves_lands}
 
 -- a record that is received
-got_lands : (c : Setting) (program : List Instr) (port : ℕ) (spec : PortSpec) (bytes : List ℕ) (w w' : World) (told later : List Bool) (x : CopyState) → 129 ≤ room_at c.env.pools spec.pool → IsInside c (between w) → Shows c.env.pools w (told ++ later) x → Receives c program port spec bytes w told w' → Lands c w' later (λ fuel. copy_receives c.env c.tables fuel program port spec bytes x x.to_tell) (λ t. (Got, t))
+got_lands : (c : Setting) (program : List Instr) (port : ℕ) (spec : PortSpec) (bytes : List ℕ) (w w' : World) (told later : List Bool) (x : CopyState) →
+    129 ≤ room_at c.env.pools spec.pool → IsInside c (between w) → Shows c.env.pools w (told ++ later) x → Receives c program port spec bytes w told w' →
+    Lands c w' later (λ fuel. copy_receives c.env c.tables fuel program port spec bytes x x.to_tell) (λ t. (Got, t))
 unfolding Same
 got_lands c program port spec bytes w w' told later x room well shows r =
     let pools = c.env.pools in
@@ -29,17 +31,26 @@ got_lands c program port spec bytes w w' told later x room well shows r =
     let new = r.buffers in
     let w1 : World = record w { buffers = new; calls = w.calls + 1 } in
     let changes = r.filled.others in
-    let few : length bytes ≤ length r.numbers * (size - 128) = subst (λ n. length bytes ≤ n * (size - 128)) (sym r.fresh.count) (needed_holds (size - 128) (length bytes) (omega (arith, room))) in
+    let few : length bytes ≤ length r.numbers * (size - 128) = subst (λ n. length bytes ≤ n * (size - 128)) (sym r.fresh.count)
+    (needed_holds (size - 128) (length bytes) (omega (arith, room))) in
     let some : 1 ≤ length r.numbers = omega (arith, r.fresh.count) in
-    let lie : AllByRecursion (Lies pools) r.packet = subst (AllByRecursion (Lies pools)) (sym r.packet_is) (lies_received pools (live (between w)) spec.pool r.numbers (length bytes) (omega (arith, room)) few r.fresh.each) in
+    let lie : AllByRecursion (Lies pools) r.packet = subst (AllByRecursion (Lies pools)) (sym r.packet_is)
+    (lies_received pools (live (between w)) spec.pool r.numbers (length bytes) (omega (arith, room)) few r.fresh.each) in
     let copy : copy_of pools new r.packet ≡ copy_received size need bytes =
     ap (copy_of pools new) r.packet_is
-    ∙ (received_copy pools new size r.numbers (length bytes) bytes (omega (arith, room)) refl few (roomy pools w.buffers new (live (between w)) spec.pool r.numbers changes.lengths well r.fresh.each) (ap (packet_bytes new) (sym r.packet_is) ∙ r.filled.spells) some
+    ∙ (received_copy pools new size r.numbers (length bytes) bytes (omega (arith, room)) refl few
+    (roomy pools w.buffers new (live (between w)) spec.pool r.numbers changes.lengths well r.fresh.each) (ap (packet_bytes new) (sym r.packet_is)
+    ∙ r.filled.spells) some
     ∙ ap (λ n. copy_received size n bytes) r.fresh.count) in
-    let same : Same pools w.buffers new (live (between w)) = λ b one. changes.others b (quiet pools (live (between w)) spec.pool r.numbers b r.fresh.each one) in
+    let same : Same pools w.buffers new (live (between w)) = λ b one. changes.others b
+    (quiet pools (live (between w)) spec.pool r.numbers b r.fresh.each one) in
     let y : CopyState = record x { to_tell = r.later ++ later } in
     let node = node_lands c program r.packet port w1 w' r.later later y
-    (record { rooms = λ b nb. changes.lengths b ∙ well.rooms b nb; bytes = changes.bytes well.bytes; lie = all_first (Lies pools) r.packet port w1 lie well.lie })
+    (record {
+      rooms = λ b nb. changes.lengths b ∙ well.rooms b nb;
+      bytes = changes.bytes well.bytes;
+      lie = all_first (Lies pools) r.packet port w1 lie well.lie;
+    })
     (record {
       rings = shows.rings ∙ sym (listed_same pools w.buffers new w.rings (λ b one. same b (omega (arith, one, live_parts (between w) b))));
       outboxes = shows.outboxes ∙ sym (listed_same pools w.buffers new w.outboxes (λ b one. same b (omega (arith, one, live_parts (between w) b))));
@@ -59,17 +70,22 @@ got_lands c program port spec bytes w w' told later x room well shows r =
     }
 
 -- a record that comes, whatever its outcome
-arrives_lands : (c : Setting) (program : List Instr) (port : ℕ) (spec : PortSpec) (bytes : List ℕ) (w w' : World) (outcome : Outcome) (told later : List Bool) (x : CopyState) → 129 ≤ room_at c.env.pools spec.pool → IsInside c (between w) → Shows c.env.pools w (told ++ later) x → Arrives c program port spec bytes w outcome told w' → Lands c w' later (λ fuel. copy_arrives c.env c.tables fuel program port spec bytes x) (λ t. (outcome, t))
+arrives_lands : (c : Setting) (program : List Instr) (port : ℕ) (spec : PortSpec) (bytes : List ℕ) (w w' : World) (outcome : Outcome) (told later : List Bool)
+    (x : CopyState) → 129 ≤ room_at c.env.pools spec.pool → IsInside c (between w) → Shows c.env.pools w (told ++ later) x →
+    Arrives c program port spec bytes w outcome told w' → Lands c w' later (λ fuel. copy_arrives c.env c.tables fuel program port spec bytes x)
+    (λ t. (outcome, t))
 arrives_lands c program port spec bytes w w' Oversize told later x room well shows (big, none, is) =
     stays c w w' told later x (λ fuel. copy_arrives c.env c.tables fuel program port spec bytes x) (λ t. (Oversize, t)) well shows none is
-    (λ fuel. ap (λ b. cond b (Some (Oversize, x)) (copy_receives c.env c.tables fuel program port spec bytes x x.to_tell)) (lt-ltb spec.segs (needed c.env.pools spec.pool (length bytes)) big))
+    (λ fuel. ap (λ b. cond b (Some (Oversize, x)) (copy_receives c.env c.tables fuel program port spec bytes x x.to_tell))
+    (lt-ltb spec.segs (needed c.env.pools spec.pool (length bytes)) big))
 arrives_lands c program port spec bytes w w' NoBuffer told later x room well shows (small, denied, is_told, is) =
     subst (λ v. Lands c v later (λ fuel. copy_arrives c.env c.tables fuel program port spec bytes x) (λ t. (NoBuffer, t))) (sym is) (record {
       state = record x { to_tell = later };
       shows = record { rings = shows.rings; outboxes = shows.outboxes; to_tell = refl; cuts = shows.cuts };
       enough = 0;
       lands = λ fuel le.
-          ap (λ b. cond b (Some (Oversize, x)) (copy_receives c.env c.tables fuel program port spec bytes x x.to_tell)) (le-ltb spec.segs (needed c.env.pools spec.pool (length bytes)) small)
+          ap (λ b. cond b (Some (Oversize, x)) (copy_receives c.env c.tables fuel program port spec bytes x x.to_tell))
+          (le-ltb spec.segs (needed c.env.pools spec.pool (length bytes)) small)
           ∙ ap (copy_receives c.env c.tables fuel program port spec bytes x) (shows.to_tell ∙ ap (λ ts. ts ++ later) is_told);
       within = record { rooms = well.rooms; bytes = well.bytes; lie = well.lie };
     })
@@ -80,25 +96,40 @@ arrives_lands c program port spec bytes w w' Got told later x room well shows r 
       shows = got.shows;
       enough = got.enough;
       lands = λ fuel le.
-          ap (λ b. cond b (Some (Oversize, x)) (copy_receives c.env c.tables fuel program port spec bytes x x.to_tell)) (le-ltb spec.segs (needed c.env.pools spec.pool (length bytes)) r.fits)
+          ap (λ b. cond b (Some (Oversize, x)) (copy_receives c.env c.tables fuel program port spec bytes x x.to_tell))
+          (le-ltb spec.segs (needed c.env.pools spec.pool (length bytes)) r.fits)
           ∙ got.lands fuel le;
       within = got.within;
     }
 
 -- a whole turn
-pub turn_lands : (c : Setting) (nodes : Nodes) (port : ℕ) (bytes : List ℕ) (w w' : World) (outcome : Outcome) (runs : ℕ) (told later : List Bool) (x : CopyState) → HaveRoom c.env → IsInside c (between w) → Shows c.env.pools w (told ++ later) x → Turn c nodes port bytes w outcome runs told w' → Lands c w' later (λ fuel. copy_turn c.env c.tables fuel nodes port bytes x) (λ t. (outcome, t))
+pub turn_lands : (c : Setting) (nodes : Nodes) (port : ℕ) (bytes : List ℕ) (w w' : World) (outcome : Outcome) (runs : ℕ) (told later : List Bool)
+    (x : CopyState) → HaveRoom c.env → IsInside c (between w) → Shows c.env.pools w (told ++ later) x → Turn c nodes port bytes w outcome runs told w' →
+    Lands c w' later (λ fuel. copy_turn c.env c.tables fuel nodes port bytes x) (λ t. (outcome, t))
 turn_lands c nodes port bytes w w' outcome runs told later x rooms well shows t =
     let split : told ++ later ≡ t.now ++ (t.later ++ later) = ap (λ ts. ts ++ later) t.told_is ∙ append_assoc t.now t.later later in
-    let came = arrives_lands c t.program port t.spec bytes w t.mid outcome t.now (t.later ++ later) x (rooms port t.spec t.spec_is) well (record { rings = shows.rings; outboxes = shows.outboxes; to_tell = shows.to_tell ∙ split; cuts = shows.cuts }) t.arrives in
+    let came = arrives_lands c t.program port t.spec bytes w t.mid outcome t.now (t.later
+    ++ later) x (rooms port t.spec t.spec_is) well (record {
+      rings = shows.rings;
+      outboxes = shows.outboxes;
+      to_tell = shows.to_tell
+          ∙ split;
+      cuts = shows.cuts;
+    }) t.arrives in
     let served = serves_lands c nodes.rings 32 t.mid w' t.later later t.more came.state came.within came.shows t.serves in
     record {
       state = served.state;
       shows = served.shows;
       enough = came.enough + served.enough;
       lands = λ fuel le.
-          ap (option_and_then (λ spec. option_and_then (λ program. option_and_then (λ m. option_map {T = CopyState} {U = Outcome × CopyState} (λ t. (m.0, t)) (copy_serves c.env c.tables fuel nodes.rings 32 m.1)) (copy_arrives c.env c.tables fuel program port spec bytes x)) (slice_get nodes.ports port))) t.spec_is
-          ∙ (ap (option_and_then (λ program. option_and_then (λ m. option_map {T = CopyState} {U = Outcome × CopyState} (λ t. (m.0, t)) (copy_serves c.env c.tables fuel nodes.rings 32 m.1)) (copy_arrives c.env c.tables fuel program port t.spec bytes x))) t.program_is
-          ∙ (ap (option_and_then (λ m. option_map {T = CopyState} {U = Outcome × CopyState} (λ t. (m.0, t)) (copy_serves c.env c.tables fuel nodes.rings 32 m.1))) (came.lands fuel (omega (arith, le)))
+          ap (option_and_then (λ spec. option_and_then (λ program. option_and_then
+          (λ m. option_map {T = CopyState} {U = Outcome × CopyState} (λ t. (m.0, t)) (copy_serves c.env c.tables fuel nodes.rings 32 m.1))
+          (copy_arrives c.env c.tables fuel program port spec bytes x)) (slice_get nodes.ports port))) t.spec_is
+          ∙ (ap (option_and_then (λ program. option_and_then (λ m. option_map {T = CopyState} {U = Outcome
+          × CopyState} (λ t. (m.0, t)) (copy_serves c.env c.tables fuel nodes.rings 32 m.1))
+          (copy_arrives c.env c.tables fuel program port t.spec bytes x))) t.program_is
+          ∙ (ap (option_and_then (λ m. option_map {T = CopyState} {U = Outcome
+          × CopyState} (λ t. (m.0, t)) (copy_serves c.env c.tables fuel nodes.rings 32 m.1))) (came.lands fuel (omega (arith, le)))
           ∙ ap (option_map (λ t. (outcome, t))) (served.lands fuel (omega (arith, le)))));
       within = served.within;
     }

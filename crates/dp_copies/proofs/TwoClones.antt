@@ -1,5 +1,6 @@
 -- The run by hand in both machines: each writes the same.
-use Rattle.std.proofs.Common.{◌≡◌, ℕ, zero, suc, ◌+◌, ◌<◌, ◌≤◌, true, false, ◌||◌, List, [], ◌∷◌, ◌++◌, length, take, drop, replicate, None, refl, ◌∙◌, ap, subst, arith, ⊎_elim}
+use Rattle.std.proofs.Common.{◌≡◌, ℕ, zero, suc, ◌+◌, ◌<◌, ◌≤◌, true, false, ◌||◌, List, [], ◌∷◌, ◌++◌, length, take, drop, replicate, None, refl, ◌∙◌, ap}
+use Rattle.std.proofs.Common.{subst, arith, ⊎_elim}
 use Rattle.std.specs.Prelude.{slice_index_or}
 use Rattle.std.specs.List.{AllByRecursion, list_any}
 use Rattle.std.proofs.lemmas.Bool.{cases_Bool, both_ways}
@@ -16,14 +17,17 @@ use Rattle.dp_copies.proofs.TwoClonesStates.{number, whole, filled, m11}
 use Rattle.dp_copies.proofs.TwoClonesSteps.{steps}
 
 -- a write within a buffer changes that buffer only
-written_changes : (old : Buffers) (n : Number) (place : ℕ) (new : List ℕ) → place + length new ≤ length (bytes_of old n) → AllByRecursion (λ x. x < 256) new → ChangesOnly (n ∷ []) old (written old n place new)
+written_changes : (old : Buffers) (n : Number) (place : ℕ) (new : List ℕ) → place + length new ≤ length (bytes_of old n) → AllByRecursion (λ x. x < 256) new →
+    ChangesOnly (n ∷ []) old (written old n place new)
 written_changes old n place new fits small =
     let bytes = overwritten (bytes_of old n) place new in
     record {
       others = λ b no. bytes_other old n b bytes (flip b no);
-      lengths = λ b. written_each (λ xs. length xs ≡ length (bytes_of old b)) old n b bytes refl (λ e. length_overwritten (bytes_of old n) new place fits ∙ ap (λ m. length (bytes_of old m)) e);
+      lengths = λ b. written_each (λ xs. length xs ≡ length (bytes_of old b)) old n b bytes refl (λ e. length_overwritten (bytes_of old n) new place fits
+          ∙ ap (λ m. length (bytes_of old m)) e);
       bytes = λ well b. written_each (AllByRecursion (λ x. x < 256)) old n b bytes (well b)
-          (λ e. all_join (λ x. x < 256) (take place (bytes_of old n)) (new ++ drop (place + length new) (bytes_of old n)) (all_take place (bytes_of old n) (well n))
+          (λ e. all_join (λ x. x < 256) (take place (bytes_of old n)) (new
+          ++ drop (place + length new) (bytes_of old n)) (all_take place (bytes_of old n) (well n))
           (all_join (λ x. x < 256) new (drop (place + length new) (bytes_of old n)) small (all_drop (place + length new) (bytes_of old n) (well n))));
     }
   where
@@ -51,15 +55,58 @@ receives = record {
 }
 
 turns : Turn setting nodes 0 (7 ∷ 8 ∷ []) before Got 1 told m11.state.world
-turns = record { spec = record { pool = 0; segs = 1; queue = 4 }; program = program; spec_is = refl; program_is = refl; mid = m11.state.world; now = told; arrives = receives; later = []; more = 0; serves = (refl, refl, refl); told_is = refl; runs_is = refl }
+turns = record {
+  spec = record { pool = 0; segs = 1; queue = 4 };
+  program = program;
+  spec_is = refl;
+  program_is = refl;
+  mid = m11.state.world;
+  now = told;
+  arrives = receives;
+  later = [];
+  more = 0;
+  serves = (refl, refl, refl);
+  told_is = refl;
+  runs_is = refl;
+}
 
 -- over shared buffers
 pub shared_run : (w' : World) × Run {T = ℕ} setting nodes arrivals before told (Got ∷ []) captures w'
-shared_run = (record m11.state.world { outboxes = [] ∷ [] }, (Got, [], told, [], 1, m11.state.world, [] ∷ [], turns, (refl, refl, refl, refl), refl, refl, refl))
+shared_run = (
+  record m11.state.world { outboxes = [] ∷ [] },
+  (
+    Got,
+    [],
+    told,
+    [],
+    1,
+    m11.state.world,
+    [] ∷ [],
+    turns,
+    (refl, refl, refl, refl),
+    refl,
+    refl,
+    refl,
+  ),
+)
 
 -- with a list of bytes for each packet: computed
 pub copy_captures : Captures {T = ℕ} one_port [] nodes arrivals told captures 0
-copy_captures = (12, record { packets = replicate 8 None; numbers = 0 ∷ 9 ∷ replicate 6 0; jumps = 0; rings = []; outboxes = [] ∷ []; to_tell = []; cuts = 0 }, refl, refl, refl)
+copy_captures = (
+  12,
+  record {
+    packets = replicate 8 None;
+    numbers = 0 ∷ 9 ∷ replicate 6 0;
+    jumps = 0;
+    rings = [];
+    outboxes = [] ∷ [];
+    to_tell = [];
+    cuts = 0;
+  },
+  refl,
+  refl,
+  refl,
+)
 
 -- the bytes of earlier use
 all_sixes : (n : ℕ) → AllByRecursion (λ x. x < 256) (replicate n 6)
@@ -68,7 +115,15 @@ all_sixes (suc n) = (omega arith, all_sixes n)
 
 -- and the run starts as runs do
 pub starts : IsStart one_port before
-starts = record { rings = refl; outboxes = refl; rooms = λ b is. room b.pool b.index is; bytes = λ b. bytes b.pool b.index; calls = refl; steps = refl; cuts = refl }
+starts = record {
+  rings = refl;
+  outboxes = refl;
+  rooms = λ b is. room b.pool b.index is;
+  bytes = λ b. bytes b.pool b.index;
+  calls = refl;
+  steps = refl;
+  cuts = refl;
+}
   where
     room : (p i : ℕ) → i < count_at one_port.pools p → length (slice_index_or (slice_index_or before.buffers p []) i []) ≡ room_at one_port.pools p
     room zero zero is = refl

@@ -8,10 +8,32 @@ use Rattle.dp_copies.specs.TwoClones.{setting, program}
 use Rattle.dp_copies.proofs.TwoClonesStates.{number, whole, cut, clone, joined, fresh, longer, filled, s0, m0, m1, m2, m3, m4, m5, m6, m7, m8, m9, m10, m11}
 
 exits : Step setting program 11 m10.state m11
-exits = record { instr = Exit; here = refl; effect = m11; acts = ((refl, (refl, (refl, (refl, (refl, (refl, (refl, (refl, tt)))))))), refl); place = tt; is = refl }
+exits = record {
+  instr = Exit;
+  here = refl;
+  effect = m11;
+  acts = ((refl, (refl, (refl, (refl, (refl, (refl, (refl, (refl, tt)))))))), refl);
+  place = tt;
+  is = refl;
+}
 
 sends_other : Step setting program 10 m9.state m10
-sends_other = record { instr = Tx 1 0 11; here = refl; effect = m10; acts = (longer, record { pool = 0; segs = 1; queue = 4 }, joined ∷ [], refl, refl, refl, refl); place = omega arith; is = refl }
+sends_other = record {
+  instr = Tx 1 0 11;
+  here = refl;
+  effect = m10;
+  acts = (
+    longer,
+    record { pool = 0; segs = 1; queue = 4 },
+    joined ∷ [],
+    refl,
+    refl,
+    refl,
+    refl,
+  );
+  place = omega arith;
+  is = refl;
+}
 
 stores : Step setting program 9 m8.state m9
 stores = record { instr = Store 1 0 One 1; here = refl; effect = m9; acts = (longer, refl, omega arith, refl, refl); place = omega arith; is = refl }
@@ -23,10 +45,24 @@ frees : Step setting program 7 m6.state m7
 frees = record { instr = Free 3; here = refl; effect = m7; acts = (_, refl, refl); place = omega arith; is = refl }
 
 sends : Step setting program 6 m5.state m6
-sends = record { instr = Tx 2 0 11; here = refl; effect = m6; acts = (joined, record { pool = 0; segs = 1; queue = 4 }, [], refl, refl, refl, refl); place = omega arith; is = refl }
+sends = record {
+  instr = Tx 2 0 11;
+  here = refl;
+  effect = m6;
+  acts = (joined, record { pool = 0; segs = 1; queue = 4 }, [], refl, refl, refl, refl);
+  place = omega arith;
+  is = refl;
+}
 
 chains : Step setting program 5 m4.state m5
-chains = record { instr = Chain 2 0; here = refl; effect = m5; acts = (clone, cut, refl, refl, (λ e. absurd (omega (arith, e))), omega arith, refl); place = omega arith; is = refl }
+chains = record {
+  instr = Chain 2 0;
+  here = refl;
+  effect = m5;
+  acts = (clone, cut, refl, refl, (λ e. absurd (omega (arith, e))), omega arith, refl);
+  place = omega arith;
+  is = refl;
+}
 
 adjusts : Step setting program 4 m3.state m4
 adjusts = record { instr = Adj 0 1; here = refl; effect = m4; acts = (whole, refl, omega arith, refl); place = omega arith; is = refl }
@@ -36,7 +72,21 @@ clones_other = record {
   instr = Clone 3 1 0 11;
   here = refl;
   effect = m3;
-  acts = (longer, refl, refl, omega arith, (number 0 ∷ [], record { count = refl; distinct = (tt, tt); each = (record { of_pool = refl; exists = omega arith; free = refl }, tt) }, refl));
+  acts = (
+    longer,
+    refl,
+    refl,
+    omega arith,
+    (
+      number 0 ∷ [],
+      record {
+        count = refl;
+        distinct = (tt, tt);
+        each = (record { of_pool = refl; exists = omega arith; free = refl }, tt);
+      },
+      refl,
+    ),
+  );
   place = omega arith;
   is = refl;
 }
@@ -46,7 +96,21 @@ clones = record {
   instr = Clone 2 0 0 11;
   here = refl;
   effect = m2;
-  acts = (whole, refl, refl, omega arith, (number 3 ∷ [], record { count = refl; distinct = (tt, tt); each = (record { of_pool = refl; exists = omega arith; free = refl }, tt) }, refl));
+  acts = (
+    whole,
+    refl,
+    refl,
+    omega arith,
+    (
+      number 3 ∷ [],
+      record {
+        count = refl;
+        distinct = (tt, tt);
+        each = (record { of_pool = refl; exists = omega arith; free = refl }, tt);
+      },
+      refl,
+    ),
+  );
   place = omega arith;
   is = refl;
 }
@@ -59,7 +123,21 @@ allocates = record {
   instr = Alloc 1 0 11;
   here = refl;
   effect = m0;
-  acts = (refl, omega arith, (number 1 ∷ [], filled, record { count = refl; distinct = (tt, tt); each = (record { of_pool = refl; exists = omega arith; free = refl }, tt) }, record { others = λ b other. refl; lengths = λ b. refl; bytes = λ are. are }, refl));
+  acts = (
+    refl,
+    omega arith,
+    (
+      number 1 ∷ [],
+      filled,
+      record {
+        count = refl;
+        distinct = (tt, tt);
+        each = (record { of_pool = refl; exists = omega arith; free = refl }, tt);
+      },
+      record { others = λ b other. refl; lengths = λ b. refl; bytes = λ are. are },
+      refl,
+    ),
+  );
   place = omega arith;
   is = refl;
 }

@@ -20,16 +20,22 @@ module _ (pools : List PoolSpec) (old new : Buffers) where
   copy_same [] same = refl
   copy_same (s ∷ rest) same =
       let e : piece_of pools new s ≡ piece_of pools old s =
-      ap (λ bytes. record { before = s.offset; bytes = slice_range bytes s.offset (s.offset + s.len); behind = room_at pools s.buffer.pool - s.offset - s.len }) (same s.buffer (refs_first s rest)) in
+      ap (λ bytes. record {
+        before = s.offset;
+        bytes = slice_range bytes s.offset (s.offset + s.len);
+        behind = room_at pools s.buffer.pool - s.offset - s.len;
+      }) (same s.buffer (refs_first s rest)) in
       ap (λ x. x ∷ copy_of pools new rest) e ∙ ap (λ x. piece_of pools old s ∷ x) (copy_same rest (λ b one. same b (omega (arith, one, refs-cons s rest b))))
 
   -- registers
-  pub held_same : (packets : List (Option Packet)) → Same (segments_held packets) → map (option_map (copy_of pools new)) packets ≡ map (option_map (copy_of pools old)) packets
+  pub held_same : (packets : List (Option Packet)) → Same (segments_held packets) → map (option_map (copy_of pools new)) packets
+      ≡ map (option_map (copy_of pools old)) packets
   unfolding Same
   held_same [] same = refl
   held_same (None ∷ packets) same = ap (λ x. None ∷ x) (held_same packets same)
   held_same (Some k ∷ packets) same =
-      ap (λ x. Some x ∷ map (option_map (copy_of pools new)) packets) (copy_same k (λ b one. same b (omega (arith, one, refs-append k (segments_held packets) b))))
+      ap (λ x. Some x ∷ map (option_map (copy_of pools new)) packets) (copy_same k
+      (λ b one. same b (omega (arith, one, refs-append k (segments_held packets) b))))
       ∙ ap (λ x. Some (copy_of pools old k) ∷ x) (held_same packets (λ b one. same b (omega (arith, one, refs-append k (segments_held packets) b))))
 
   -- a list of packets
@@ -45,5 +51,7 @@ module _ (pools : List PoolSpec) (old new : Buffers) where
   unfolding Same
   listed_same [] same = refl
   listed_same (l ∷ lists) same =
-      ap (λ x. x ∷ map (map (copy_of pools new)) lists) (list_same l (λ b one. same b (omega (arith, one, refs-append (flat_map (λ k. k) l) (segments_listed lists) b))))
-      ∙ ap (λ x. map (copy_of pools old) l ∷ x) (listed_same lists (λ b one. same b (omega (arith, one, refs-append (flat_map (λ k. k) l) (segments_listed lists) b))))
+      ap (λ x. x ∷ map (map (copy_of pools new)) lists) (list_same l (λ b one.
+      same b (omega (arith, one, refs-append (flat_map (λ k. k) l) (segments_listed lists) b))))
+      ∙ ap (λ x. map (copy_of pools old) l ∷ x) (listed_same lists (λ b one.
+      same b (omega (arith, one, refs-append (flat_map (λ k. k) l) (segments_listed lists) b))))

@@ -14,37 +14,71 @@ use Rattle.dp_copies.proofs.Turns.{turn_lands}
 use Rattle.dp_copies.proofs.Drains.{lists_records, drained_inside}
 
 -- a turn, the drains, and the rest of the run
-drains : {T : Type 0} (time : T) (run : CopyState → Option (List (List (T × List ℕ)) × CopyState)) (o : Option (Outcome × CopyState)) (outcome : Outcome) (x z : CopyState) (records more captures : List (List (T × List ℕ))) → o ≡ Some (outcome, x) → copy_records_at time x ≡ records → run (record x { outboxes = map (λ _. []) x.outboxes }) ≡ Some (more, z) → captures ≡ joined records more →
-    option_and_then {T = Outcome × CopyState} {U = List (List (T × List ℕ)) × CopyState} (λ m. option_map {T = List (List (T × List ℕ)) × CopyState} {U = List (List (T × List ℕ)) × CopyState} (λ rest. (joined (copy_records_at time m.1) rest.0, rest.1)) (run (record m.1 { outboxes = map (λ _. []) m.1.outboxes }))) o ≡ Some (captures, z)
+drains : {T : Type 0} (time : T) (run : CopyState → Option (List (List (T × List ℕ)) × CopyState)) (o : Option (Outcome × CopyState)) (outcome : Outcome)
+    (x z : CopyState) (records more captures : List (List (T × List ℕ))) → o ≡ Some (outcome, x) → copy_records_at time x ≡ records →
+    run (record x { outboxes = map (λ _. []) x.outboxes }) ≡ Some (more, z) → captures ≡ joined records more →
+    option_and_then {T = Outcome × CopyState} {U = List (List (T × List ℕ))
+    × CopyState} (λ m. option_map {T = List (List (T × List ℕ)) × CopyState} {U = List (List (T × List ℕ))
+    × CopyState} (λ rest. (joined (copy_records_at time m.1) rest.0, rest.1)) (run (record m.1 { outboxes = map (λ _. []) m.1.outboxes }))) o
+    ≡ Some (captures, z)
 drains {T} time run o outcome x z records more captures turn drained rest are =
-    ap (option_and_then (λ m. option_map {T = List (List (T × List ℕ)) × CopyState} {U = List (List (T × List ℕ)) × CopyState} (λ rest. (joined (copy_records_at time m.1) rest.0, rest.1)) (run (record m.1 { outboxes = map (λ _. []) m.1.outboxes })))) turn
-    ∙ (ap (option_map {T = List (List (T × List ℕ)) × CopyState} {U = List (List (T × List ℕ)) × CopyState} (λ rest. (joined (copy_records_at time x) rest.0, rest.1))) rest
+    ap (option_and_then (λ m. option_map {T = List (List (T × List ℕ)) × CopyState} {U = List (List (T × List ℕ))
+    × CopyState} (λ rest. (joined (copy_records_at time m.1) rest.0, rest.1)) (run (record m.1 { outboxes = map (λ _. []) m.1.outboxes })))) turn
+    ∙ (ap (option_map {T = List (List (T × List ℕ)) × CopyState} {U = List (List (T × List ℕ))
+    × CopyState} (λ rest. (joined (copy_records_at time x) rest.0, rest.1))) rest
     ∙ (ap (λ r. Some (joined r more, z)) drained ∙ ap (λ cs. Some (cs, z)) (sym are)))
 
 -- each record in turn
-run_lands : {T : Type 0} (c : Setting) (nodes : Nodes) (arrivals : List (Arrival T)) (w w' : World) (told later : List Bool) (outcomes : List Outcome) (captures : List (List (T × List ℕ))) (x : CopyState) → HaveRoom c.env → IsInside c (between w) → Shows c.env.pools w (told ++ later) x → Run c nodes arrivals w told outcomes captures w' → Lands c w' later (λ fuel. copy_run c.env c.tables fuel nodes arrivals x) (λ t. (captures, t))
+run_lands : {T : Type 0} (c : Setting) (nodes : Nodes) (arrivals : List (Arrival T)) (w w' : World) (told later : List Bool) (outcomes : List Outcome)
+    (captures : List (List (T × List ℕ))) (x : CopyState) → HaveRoom c.env → IsInside c (between w) → Shows c.env.pools w (told ++ later) x →
+    Run c nodes arrivals w told outcomes captures w' → Lands c w' later (λ fuel. copy_run c.env c.tables fuel nodes arrivals x) (λ t. (captures, t))
 run_lands c nodes [] w w' told later outcomes captures x rooms well shows (none, _, are, is) =
-    stays c w w' told later x (λ fuel. copy_run c.env c.tables fuel nodes [] x) (λ t. (captures, t)) well shows none is (λ fuel. ap (λ cs. Some (cs, x)) (sym are))
-run_lands {T} c nodes (a ∷ arrivals) w w' told later outcomes captures x rooms well shows (outcome, rest, now, then, runs, mid, more, turn, run, is_told, _, are) =
+    stays c w w' told later x (λ fuel. copy_run c.env c.tables fuel nodes [] x) (λ t. (captures, t)) well shows none is
+    (λ fuel. ap (λ cs. Some (cs, x)) (sym are))
+run_lands {T} c nodes (a ∷ arrivals) w w' told later outcomes captures x rooms well shows (
+  outcome,
+  rest,
+  now,
+  then,
+  runs,
+  mid,
+  more,
+  turn,
+  run,
+  is_told,
+  _,
+  are,
+) =
     let pools = c.env.pools in
     let split : told ++ later ≡ now ++ (then ++ later) = ap (λ ts. ts ++ later) is_told ∙ append_assoc now then later in
-    let first = turn_lands c nodes a.port a.bytes w mid outcome runs now (then ++ later) x rooms well (record { rings = shows.rings; outboxes = shows.outboxes; to_tell = shows.to_tell ∙ split; cuts = shows.cuts }) turn in
+    let first = turn_lands c nodes a.port a.bytes w mid outcome runs now (then
+    ++ later) x rooms well (record { rings = shows.rings; outboxes = shows.outboxes; to_tell = shows.to_tell ∙ split; cuts = shows.cuts }) turn in
     let y : CopyState = record first.state { outboxes = map (λ _. []) first.state.outboxes } in
     let others = run_lands c nodes arrivals (with_empty_outboxes mid) w' then later rest more y rooms (drained_inside c mid first.within)
-    (record { rings = first.shows.rings; outboxes = ap (map (λ _. [])) first.shows.outboxes ∙ empty_lists (copy_of pools mid.buffers) mid.outboxes; to_tell = first.shows.to_tell; cuts = first.shows.cuts }) run in
+    (record {
+      rings = first.shows.rings;
+      outboxes = ap (map (λ _. [])) first.shows.outboxes
+          ∙ empty_lists (copy_of pools mid.buffers) mid.outboxes;
+      to_tell = first.shows.to_tell;
+      cuts = first.shows.cuts;
+    }) run in
     let all : List (List Copy) → List (List (T × List ℕ)) = map (map (λ k. (a.time, copy_bytes k))) in
-    let records : copy_records_at a.time first.state ≡ records_at a.time mid = ap all first.shows.outboxes ∙ lists_records a.time pools mid.buffers mid.outboxes in
+    let records : copy_records_at a.time first.state ≡ records_at a.time mid = ap all first.shows.outboxes
+    ∙ lists_records a.time pools mid.buffers mid.outboxes in
     record {
       state = others.state;
       shows = others.shows;
       enough = first.enough + others.enough;
       lands = λ fuel le.
-          drains a.time (copy_run c.env c.tables fuel nodes arrivals) (copy_turn c.env c.tables fuel nodes a.port a.bytes x) outcome first.state others.state (records_at a.time mid) more captures (first.lands fuel (omega (arith, le))) records (others.lands fuel (omega (arith, le))) are;
+          drains a.time (copy_run c.env c.tables fuel nodes arrivals) (copy_turn c.env c.tables fuel nodes a.port a.bytes x) outcome first.state others.state
+          (records_at a.time mid) more captures (first.lands fuel (omega (arith, le))) records (others.lands fuel (omega (arith, le))) are;
       within = others.within;
     }
 
 -- a whole run has the captures of the copies
-pub run_copies : {T : Type 0} (c : Setting) (nodes : Nodes) (arrivals : List (Arrival T)) (w w' : World) (told : List Bool) (outcomes : List Outcome) (captures : List (List (T × List ℕ))) → HaveRoom c.env → IsStart c.env w → Run c nodes arrivals w told outcomes captures w' → Captures c.env c.tables nodes arrivals told captures w'.cuts
+pub run_copies : {T : Type 0} (c : Setting) (nodes : Nodes) (arrivals : List (Arrival T)) (w w' : World) (told : List Bool) (outcomes : List Outcome)
+    (captures : List (List (T × List ℕ))) → HaveRoom c.env → IsStart c.env w → Run c nodes arrivals w told outcomes captures w' →
+    Captures c.env c.tables nodes arrivals told captures w'.cuts
 run_copies c nodes arrivals w w' told outcomes captures rooms start run =
     let copy = copy_of c.env.pools w.buffers in
     let lands = run_lands c nodes arrivals w w' told [] outcomes captures (copy_start c.env told) rooms (start_inside c w start)

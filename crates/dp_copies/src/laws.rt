@@ -17,7 +17,8 @@ ghost use Rattle.dp_copies.specs.Seen.{IsQueued, IsBeside};
 /// machine in which each packet has bytes of its own, where the allocation calls are told the same, and as many node runs
 /// are cut. No row, rule or certificate occurs. The environment is one that `Env::new` accepts. A `T` is the time of a record.
 pub fn clones_are_copies<T>()
-    ensures { (c : Setting) (nodes : Nodes) (arrivals : List (Arrival T)) (w w' : World) (told : List Bool) (outcomes : List Outcome) (captures : List (List (T × List ℕ))) →
+    ensures { (c : Setting) (nodes : Nodes) (arrivals : List (Arrival T)) (w w' : World) (told : List Bool) (outcomes : List Outcome)
+        (captures : List (List (T × List ℕ))) →
         fault_of c.env ≡ None → IsStart c.env w → Run c nodes arrivals w told outcomes captures w' →
         Captures c.env c.tables nodes arrivals told captures w'.cuts }
 {}
@@ -25,7 +26,8 @@ pub fn clones_are_copies<T>()
 /// The machine of copies is deterministic: on the same records, with the same told to its allocation calls, it has
 /// one list of captures, and one number of cuts.
 pub fn copies_are_deterministic<T>()
-    ensures { (env : Environment) (tables : List (List Route)) (nodes : Nodes) (arrivals : List (Arrival T)) (told : List Bool) (captures captures' : List (List (T × List ℕ))) (cuts cuts' : ℕ) →
+    ensures { (env : Environment) (tables : List (List Route)) (nodes : Nodes) (arrivals : List (Arrival T)) (told : List Bool)
+        (captures captures' : List (List (T × List ℕ))) (cuts cuts' : ℕ) →
         Captures env tables nodes arrivals told captures cuts → Captures env tables nodes arrivals told captures' cuts' →
         (captures ≡ captures') × (cuts ≡ cuts') }
 {}
@@ -33,7 +35,8 @@ pub fn copies_are_deterministic<T>()
 /// Two runs on the same records, whose allocation calls are told the same, have the same captures and as many cuts,
 /// whatever buffers were taken and whatever they held.
 pub fn buffers_are_not_seen<T>()
-    ensures { (c d : Setting) (nodes : Nodes) (arrivals : List (Arrival T)) (w w' v v' : World) (told : List Bool) (outcomes outcomes' : List Outcome) (captures captures' : List (List (T × List ℕ))) →
+    ensures { (c d : Setting) (nodes : Nodes) (arrivals : List (Arrival T)) (w w' v v' : World) (told : List Bool) (outcomes outcomes' : List Outcome)
+        (captures captures' : List (List (T × List ℕ))) →
         c.env ≡ d.env → c.tables ≡ d.tables → fault_of c.env ≡ None → IsStart c.env w → IsStart c.env v →
         Run c nodes arrivals w told outcomes captures w' → Run d nodes arrivals v told outcomes' captures' v' →
         (captures ≡ captures') × (w'.cuts ≡ v'.cuts) }
@@ -46,7 +49,8 @@ pub fn writes_are_not_seen()
     ensures steps { (c : Setting) (program : List Instr) (label : ℕ) (s : State) (m : Move) (step : Step c program label s m) (k : Packet) →
         IsBeside step.instr s k →
         copy_of c.env.pools m.state.world.buffers k ≡ copy_of c.env.pools s.world.buffers k }
-    ensures receives { (c : Setting) (program : List Instr) (port : ℕ) (spec : PortSpec) (bytes : List ℕ) (w w' : World) (told : List Bool) (received : Receives c program port spec bytes w told w') (k : Packet) →
+    ensures receives { (c : Setting) (program : List Instr) (port : ℕ) (spec : PortSpec) (bytes : List ℕ) (w w' : World) (told : List Bool)
+        (received : Receives c program port spec bytes w told w') (k : Packet) →
         IsQueued w k →
         copy_of c.env.pools received.buffers k ≡ copy_of c.env.pools w.buffers k }
 {}

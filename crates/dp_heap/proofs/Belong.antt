@@ -9,10 +9,13 @@ use Rattle.dp_heap.specs.Lists.{class_of, times, belongs, belong}
 use Rattle.dp_heap.proofs.Laid.{first_place}
 
 pub class_small : (n : ℕ) → class_of n < 5
-class_small n = by_test (leb n 256) (λ t. let is : class_of n ≡ 0 = ap (λ (b : Bool). cond b 0 (cond (leb n 1024) 1 (cond (leb n 4096) 2 (cond (leb n 16384) 3 4)))) t in omega arith) (λ t.
-    let is : class_of n ≡ cond (leb n 1024) 1 (cond (leb n 4096) 2 (cond (leb n 16384) 3 4)) = ap (λ (b : Bool). cond b 0 (cond (leb n 1024) 1 (cond (leb n 4096) 2 (cond (leb n 16384) 3 4)))) t in
+class_small n = by_test (leb n 256) (λ t. let is : class_of n ≡ 0 = ap
+    (λ (b : Bool). cond b 0 (cond (leb n 1024) 1 (cond (leb n 4096) 2 (cond (leb n 16384) 3 4)))) t in omega arith) (λ t.
+    let is : class_of n ≡ cond (leb n 1024) 1 (cond (leb n 4096) 2 (cond (leb n 16384) 3 4)) =
+    ap (λ (b : Bool). cond b 0 (cond (leb n 1024) 1 (cond (leb n 4096) 2 (cond (leb n 16384) 3 4)))) t in
     let low = cond_both (leb n 1024) 1 (cond (leb n 4096) 2 (cond (leb n 16384) 3 4)) (λ k. k < 5) (λ _. omega arith)
-    (λ _. cond_both (leb n 4096) 2 (cond (leb n 16384) 3 4) (λ k. k < 5) (λ _. omega arith) (λ _. cond_both (leb n 16384) 3 4 (λ k. k < 5) (λ _. omega arith) (λ _. omega arith))) in
+    (λ _. cond_both (leb n 4096) 2 (cond (leb n 16384) 3 4) (λ k. k < 5) (λ _. omega arith)
+    (λ _. cond_both (leb n 16384) 3 4 (λ k. k < 5) (λ _. omega arith) (λ _. omega arith))) in
     omega arith)
 
 -- 1 where it is so
@@ -38,7 +41,8 @@ pub times_split : (p : ℕ) (ps : List ℕ) → 1 ≤ times p ps → (b : List �
 times_split p [] h = absurd (let h' : 1 ≤ 0 = h in omega arith)
 times_split p (q ∷ ps) h = by_test (eqb q p)
     (λ t. ([], ps, ap (λ (x : ℕ). x ∷ ps) (eqb-true q p t)))
-    (λ t. let no : bit (eqb q p) ≡ 0 = ap (λ (b : Bool). cond b 1 0) t in let r = times_split p ps (omega arith) in (q ∷ r.0, r.1, ap (λ (xs : List ℕ). q ∷ xs) r.2))
+    (λ t. let no : bit (eqb q p) ≡ 0 = ap (λ (b : Bool). cond b 1 0) t in
+    let r = times_split p ps (omega arith) in (q ∷ r.0, r.1, ap (λ (xs : List ℕ). q ∷ xs) r.2))
 
 pub sum-append : (f : Element → ℕ) (xs ys : List Element) → sum_of f (xs ++ ys) ≡ sum_of f xs + sum_of f ys
 sum-append f [] ys = omega arith
@@ -74,8 +78,10 @@ belongs_is c p e free = by_test (eqb c (class_of e.size))
     (λ s. let at = eqb-true e.place p s in
     ap (λ (k : ℕ). belongs k p e) is ∙ ap (λ (k : ℕ). belongs (class_of e.size) k e) (sym at) ∙ belongs_here e free
     ∙ sym (ap (λ (b : Bool). cond b 1 0) s) ∙ sym (ap (λ (b : Bool). cond b (cond (eqb e.place p) 1 0) 0) t))
-    (λ s. belongs_off c p e (λ all. true≢false (sym (eq-eqb e.place p all.2) ∙ s)) ∙ sym (ap (λ (b : Bool). cond b 1 0) s) ∙ sym (ap (λ (b : Bool). cond b (cond (eqb e.place p) 1 0) 0) t)))
-    (λ t. belongs_off c p e (λ all. true≢false (sym (eq-eqb c (class_of e.size) (sym all.1)) ∙ t)) ∙ sym (ap (λ (b : Bool). cond b (cond (eqb e.place p) 1 0) 0) t))
+    (λ s. belongs_off c p e (λ all. true≢false (sym (eq-eqb e.place p all.2) ∙ s)) ∙ sym (ap (λ (b : Bool). cond b 1 0) s)
+    ∙ sym (ap (λ (b : Bool). cond b (cond (eqb e.place p) 1 0) 0) t)))
+    (λ t. belongs_off c p e (λ all. true≢false (sym (eq-eqb c (class_of e.size) (sym all.1)) ∙ t))
+    ∙ sym (ap (λ (b : Bool). cond b (cond (eqb e.place p) 1 0) 0) t))
 
 -- one that is counted
 pub record Member (c p : ℕ) (es : List Element) : Type 0 where
@@ -113,7 +119,8 @@ module _ (xs : List ℕ) where
       let one : belongs c p e + belongs d p e ≤ 1 = by_test (counts c p e)
       (λ a. let no = belongs_off d p e (λ all. off (sym (counts_parts c p e a).1 ∙ all.1)) in let s = one_small (counts c p e) in omega arith)
       (λ a. let no : belongs c p e ≡ 0 = ap (λ (b : Bool). cond b 1 0) a in let s = one_small (counts d p e) in omega arith) in omega arith)
-      (λ t. let n1 = belongs_off c p e (λ all. true≢false (sym (eq-eqb e.place p all.2) ∙ t)) in let n2 = belongs_off d p e (λ all. true≢false (sym (eq-eqb e.place p all.2) ∙ t)) in
+      (λ t. let n1 = belongs_off c p e (λ all. true≢false (sym (eq-eqb e.place p all.2) ∙ t)) in
+      let n2 = belongs_off d p e (λ all. true≢false (sym (eq-eqb e.place p all.2) ∙ t)) in
       let r = single c d p off es (end_of e) high l.2 in omega arith)
 
   pub once : (c p : ℕ) (es : List Element) (low high : ℕ) → Laid xs low high es → belong c p es ≤ 1

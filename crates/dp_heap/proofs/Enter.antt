@@ -1,5 +1,6 @@
 -- A free element comes to the front of its list.
-use Rattle.std.proofs.Common.{◌≡◌, ℕ, ◌+◌, ◌%◌, ◌<◌, ◌≤◌, Bool, true, cond, eqb, eqb-true, List, ◌∷◌, ◌++◌, length, set, refl, sym, ap, subst, ◌∙◌, arith, inl, inr, lit<}
+use Rattle.std.proofs.Common.{◌≡◌, ℕ, ◌+◌, ◌%◌, ◌<◌, ◌≤◌, Bool, true, cond, eqb, eqb-true, List, ◌∷◌, ◌++◌, length, set, refl, sym, ap, subst, ◌∙◌, arith}
+use Rattle.std.proofs.Common.{inl, inr, lit<}
 use Rattle.std.specs.Prelude.{◌⊎◌, slice_index}
 use mathlib.Core.Logic.{⊎_elim}
 use Rattle.std.proofs.lemmas.Bool.{eq-eqb, true≢false}
@@ -14,7 +15,8 @@ use Rattle.dp_heap.proofs.Belong.{class_small, belongs_here, belongs_is}
 use Rattle.dp_heap.proofs.Links.{length-with_link, link-same, link-other, link-apart, linked_stay, restart}
 use Rattle.dp_heap.proofs.Listing.{relinked, linking, Header, header_of, listed_header, few, other_list, head_of, link_header, link_listed, link_small}
 
-module _ (r : RegionView) (laid : IsLaid r) (before : List Element) (e : Element) (after : List Element) (split : elements_in r.bytes ≡ before ++ e ∷ after) (free : is_free e ≡ true)
+module _ (r : RegionView) (laid : IsLaid r) (before : List Element) (e : Element) (after : List Element) (split : elements_in r.bytes ≡ before
+    ++ e ∷ after) (free : is_free e ≡ true)
     (heads : List ℕ) (off : List Element) (w : Listed r.bytes heads (elements_in r.bytes) (e ∷ off)) where
   abbrev xs : List ℕ
   xs = r.bytes
@@ -49,7 +51,8 @@ module _ (r : RegionView) (laid : IsLaid r) (before : List Element) (e : Element
   -- it was in no list
   absent : (d : ℕ) → times p (w.0 d) ≡ 0
   absent d = let one = belongs_here e free in by_test (eqb c d)
-      (λ t. let is = eqb-true c d t in let f = few r laid heads (e ∷ off) w c p in let no : times p (w.0 c) ≡ 0 = omega arith in ap (λ (k : ℕ). times p (w.0 k)) (sym is) ∙ no)
+      (λ t. let is = eqb-true c d t in let f = few r laid heads (e ∷ off) w c p in
+      let no : times p (w.0 c) ≡ 0 = omega arith in ap (λ (k : ℕ). times p (w.0 k)) (sym is) ∙ no)
       (λ t. other_list r laid heads (e ∷ off) w c d p (λ is. true≢false (sym (eq-eqb c d is) ∙ t)) (omega arith))
 
   differs : (d q : ℕ) → 1 ≤ times q (w.0 d) → q ≡ p → ⊥
@@ -77,7 +80,8 @@ module _ (r : RegionView) (laid : IsLaid r) (before : List Element) (e : Element
   h2 lt = let n = long2 in let f = first (omega arith) in let o = f.room in (f.step, omega arith)
 
   -- a word elsewhere
-  stays : (q j : ℕ) → q % 64 ≡ 0 → q + 64 ≤ length xs → j ≤ 60 → (q ≡ p → (j + 4 ≤ 16) ⊎ (24 ≤ j)) → (q ≡ h → (j + 4 ≤ 20) ⊎ (24 ≤ j)) → number_at ys (q + j) 4 ≡ number_at xs (q + j) 4
+  stays : (q j : ℕ) → q % 64 ≡ 0 → q + 64 ≤ length xs → j ≤ 60 → (q ≡ p → (j + 4 ≤ 16) ⊎ (24 ≤ j)) → (q ≡ h → (j + 4 ≤ 20) ⊎ (24 ≤ j)) →
+      number_at ys (q + j) 4 ≡ number_at xs (q + j) 4
   stays q j step room small a b =
       let n1 = long1 in let n2 = long2 in
       link-apart y2 20 h p q j h2 (omega arith) step (omega arith) small (λ is. b (sym is))
@@ -122,29 +126,36 @@ module _ (r : RegionView) (laid : IsLaid r) (before : List Element) (e : Element
     subst (λ (k : ℕ). Linked ys p k (w.0 c)) (sym next)
         (restart xs ys none p h (w.0 c) (w.2 c (class_small e.size)) (let f = few r laid heads (e ∷ off) w c h in omega arith)
         (λ in_it. first_back (let k = (listed_header r laid heads (e ∷ off) w c h in_it).room in omega arith))
-        (λ q in_it differ. let k = listed_header r laid heads (e ∷ off) w c q in_it in stays q 20 k.step k.room (omega arith) (λ is. absurd (differs c q in_it is)) (λ is. absurd (differ is)))
-        (λ q in_it. let k = listed_header r laid heads (e ∷ off) w c q in_it in stays q 16 k.step k.room (omega arith) (λ is. absurd (differs c q in_it is)) (λ is. inl (omega arith)))),
+        (λ q in_it differ. let k = listed_header r laid heads (e ∷ off) w c q in_it in
+        stays q 20 k.step k.room (omega arith) (λ is. absurd (differs c q in_it is)) (λ is. absurd (differ is)))
+        (λ q in_it. let k = listed_header r laid heads (e ∷ off) w c q in_it in
+        stays q 16 k.step k.room (omega arith) (λ is. absurd (differs c q in_it is)) (λ is. inl (omega arith)))),
   )
 
   linked : (d : ℕ) → d < 5 → Linked ys none (slice_index new d) (lists d)
   linked d small = by_test (eqb d c)
       (λ t. let is = eqb-true d c t in
       subst (λ (b : Bool). Linked ys none (slice_index new d) (cond b (p ∷ w.0 c) (w.0 d))) (sym t)
-      (subst (λ (k : ℕ). Linked ys none k (p ∷ w.0 c)) (sym (ap (λ (k : ℕ). slice_index new k) is ∙ get_or-set_same heads c p 0 (let n = w.1 in let s = class_small e.size in omega arith))) front))
+      (subst (λ (k : ℕ). Linked ys none k (p ∷ w.0 c)) (sym (ap (λ (k : ℕ). slice_index new k) is ∙ get_or-set_same heads c p 0 (let n = w.1 in
+      let s = class_small e.size in omega arith))) front))
       (λ t. let differ : d ≡ c → ⊥ = (λ is. true≢false (sym (eq-eqb d c is) ∙ t)) in
       subst (λ (b : Bool). Linked ys none (slice_index new d) (cond b (p ∷ w.0 c) (w.0 d))) (sym t)
       (subst (λ (k : ℕ). Linked ys none k (w.0 d)) (sym (get_or-set_other heads c d p 0 differ))
       (linked_stay xs ys none (slice_index heads d) (w.0 d) (w.2 d small) (λ q in_it.
       let k = listed_header r laid heads (e ∷ off) w d q in_it in let room = k.room in
       let far : q ≡ h → ⊥ = (λ is. let in_c = link_listed r laid heads (e ∷ off) w c h head (omega arith) in
-      let no = other_list r laid heads (e ∷ off) w c d h (λ same. differ (sym same)) (omega arith) in let no' : times q (w.0 d) ≡ 0 = ap (λ (m : ℕ). times m (w.0 d)) is ∙ no in absurd (omega arith)) in
-      (stays q 16 k.step room (omega arith) (λ is. absurd (differs d q in_it is)) (λ is. inl (omega arith)), stays q 20 k.step room (omega arith) (λ is. absurd (differs d q in_it is)) (λ is. absurd (far is)))))))
+      let no = other_list r laid heads (e ∷ off) w c d h (λ same. differ (sym same)) (omega arith) in
+      let no' : times q (w.0 d) ≡ 0 = ap (λ (m : ℕ). times m (w.0 d)) is ∙ no in absurd (omega arith)) in (
+        stays q 16 k.step room (omega arith) (λ is. absurd (differs d q in_it is)) (λ is. inl (omega arith)),
+        stays q 20 k.step room (omega arith) (λ is. absurd (differs d q in_it is)) (λ is. absurd (far is)),
+      )))))
 
   counted : (d q : ℕ) → times q (lists d) + belong d q off ≡ belong d q (elements_in ys)
   counted d q =
       let old = w.3 d q in let is = belongs_is d q e free in
       let new' : times q (lists d) ≡ belongs d q e + times q (w.0 d) = by_test (eqb d c)
-      (λ t. let same = eqb-true d c t in ap (λ (b : Bool). times q (cond b (p ∷ w.0 c) (w.0 d))) t ∙ ap (λ (k : ℕ). cond (eqb p q) 1 0 + times q (w.0 k)) (sym same)
+      (λ t. let same = eqb-true d c t in ap (λ (b : Bool). times q (cond b (p ∷ w.0 c) (w.0 d))) t
+      ∙ ap (λ (k : ℕ). cond (eqb p q) 1 0 + times q (w.0 k)) (sym same)
       ∙ ap (λ (k : ℕ). k + times q (w.0 d)) (sym (is ∙ ap (λ (b : Bool). cond b (cond (eqb p q) 1 0) 0) t)))
       (λ t. let no : belongs d q e ≡ 0 = is ∙ ap (λ (b : Bool). cond b (cond (eqb p q) 1 0) 0) t in
       let kept : times q (lists d) ≡ times q (w.0 d) = ap (λ (b : Bool). times q (cond b (p ∷ w.0 c) (w.0 d))) t in omega arith) in

@@ -18,9 +18,11 @@ one_map true x P Q ls f o = f ls o
 one_map false x P Q [] f o = o
 one_map false x P Q (l ∷ ls) f o = (o.0, o.1, o.2, f ls o.3)
 
-pub lends_swap : (before : List Element) (e : Element) (after ys : List Element) (ls : List Span) → ((zs : List Span) → Lends (e ∷ after) zs → Lends ys zs) → Lends (before ++ e ∷ after) ls → Lends (before ++ ys) ls
+pub lends_swap : (before : List Element) (e : Element) (after ys : List Element) (ls : List Span) → ((zs : List Span) → Lends (e ∷ after) zs → Lends ys zs) →
+    Lends (before ++ e ∷ after) ls → Lends (before ++ ys) ls
 lends_swap [] e after ys ls f o = f ls o
-lends_swap (x ∷ before) e after ys ls f o = one_map (is_free x) x (Lends (before ++ e ∷ after)) (Lends (before ++ ys)) ls (λ zs r. lends_swap before e after ys zs f r) o
+lends_swap (x ∷ before) e after ys ls f o = one_map (is_free x) x (Lends (before ++ e ∷ after)) (Lends (before ++ ys)) ls
+    (λ zs r. lends_swap before e after ys zs f r) o
 
 pub free_lends : (t : Bool) (e : Element) (rest : List Span → Type 0) (ls : List Span) → t ≡ true → LendsOne t e rest ls → rest ls
 free_lends true e rest ls h o = o
@@ -30,12 +32,14 @@ pub free_is : (e : Element) → e.state ≡ Free → is_free e ≡ true
 free_is e h = ap (λ (s : State). is_free (record e { state = s })) h
 
 -- no byte of a free element is lent
-pub free_unlent : (xs : List ℕ) (before : List Element) (e : Element) (after : List Element) (low high : ℕ) (ls : List Span) → Laid xs low high (before ++ e ∷ after) → Lends (before ++ e ∷ after) ls → is_free e ≡ true → IsUnlent ls e.place e.size
+pub free_unlent : (xs : List ℕ) (before : List Element) (e : Element) (after : List Element) (low high : ℕ) (ls : List Span) →
+    Laid xs low high (before ++ e ∷ after) → Lends (before ++ e ∷ after) ls → is_free e ≡ true → IsUnlent ls e.place e.size
 free_unlent xs [] e after low high ls l o free k a b = lent_above xs after (end_of e) high ls k l.2 (free_lends (is_free e) e (Lends after) ls free o) b
 free_unlent xs (x ∷ before) e after low high ls l o free k a b =
     let s = laid_split xs before (e ∷ after) (end_of x) high l.2 in
     let at = first_place xs e s.0 s.2.0 in let bound = laid_bound xs before (end_of x) s.0 s.1 in
-    one_unlent (is_free x) x (Lends (before ++ e ∷ after)) ls k o (inr (omega arith)) (λ ss r. free_unlent xs before e after (end_of x) high ss l.2 r free k a b)
+    one_unlent (is_free x) x (Lends (before ++ e ∷ after)) ls k o (inr (omega arith))
+    (λ ss r. free_unlent xs before e after (end_of x) high ss l.2 r free k a b)
 
 -- what the elements lend lies from low on
 first_lent : (xs : List ℕ) (es : List Element) (low high : ℕ) (l : Span) (ls : List Span) → Laid xs low high es → Lends es (l ∷ ls) → low ≤ l.0
@@ -46,19 +50,26 @@ first_lent xs (e ∷ es) low high l ls laid o = by_state (is_free e) o (first_le
     by_state true o' rest = let p = first_place xs e low laid.0 in let far = rest o' in omega arith
     by_state false o' rest = let p = first_place xs e low laid.0 in let at = o'.0 in omega arith
 
-before_all : (xs : List ℕ) (es : List Element) (low high : ℕ) (s : Span) (ls : List Span) → Laid xs low high es → Lends es ls → s.0 < low → with_span s ls ≡ s ∷ ls
+before_all : (xs : List ℕ) (es : List Element) (low high : ℕ) (s : Span) (ls : List Span) → Laid xs low high es → Lends es ls → s.0 < low →
+    with_span s ls ≡ s ∷ ls
 before_all xs es low high s [] laid o h = refl
 before_all xs es low high s (l ∷ ls) laid o h =
     let far = first_lent xs es low high l ls laid o in
     ap (λ (t : Bool). cond t (s ∷ l ∷ ls) (l ∷ with_span s ls)) (lt-ltb s.0 l.0 (omega arith))
 
 -- e lends the span at d
-pub lends_more : (xs : List ℕ) (before : List Element) (e : Element) (after : List Element) (low high d n : ℕ) (ls : List Span) → Laid xs low high (before ++ e ∷ after) → Lends (before ++ e ∷ after) ls
+pub lends_more : (xs : List ℕ) (before : List Element) (e : Element) (after : List Element) (low high d n : ℕ) (ls : List Span) →
+    Laid xs low high (before ++ e ∷ after) → Lends (before ++ e ∷ after) ls
     → is_free e ≡ true → e.place + 64 ≤ d → 0 < n → d + n ≤ end_of e → Lends (before ++ marked e d ∷ after) (with_span (d, n) ls)
 lends_more xs [] e after low high d n ls laid o free lo some hi =
     let rest = free_lends (is_free e) e (Lends after) ls free o in
     let starts : d ≡ e.place + (d - 64 - e.place) + 64 = omega arith in
-    subst (λ (zs : List Span). Lends (marked e d ∷ after) zs) (sym (before_all xs after (end_of e) high (d, n) ls laid.2 rest (omega arith))) (starts, hi, some, rest)
+    subst (λ (zs : List Span). Lends (marked e d ∷ after) zs) (sym (before_all xs after (end_of e) high (d, n) ls laid.2 rest (omega arith))) (
+      starts,
+      hi,
+      some,
+      rest,
+    )
 lends_more xs (x ∷ before) e after low high d n ls laid o free lo some hi =
     by_state (is_free x) ls o (λ zs r. lends_more xs before e after (end_of x) high d n zs laid.2 r free lo some hi)
   where
@@ -74,7 +85,8 @@ lends_more xs (x ∷ before) e after low high d n ls laid o free lo some hi =
     by_state false [] o' rest = absurd o'
     by_state false (l ∷ zs) o' rest =
         let p = past in let end = o'.1 in
-        subst (LendsOne false x (Lends (before ++ marked e d ∷ after))) (sym (ap (λ (t : Bool). cond t ((d, n) ∷ l ∷ zs) (l ∷ with_span (d, n) zs)) (le-ltb d l.0 (omega arith)))) (o'.0, o'.1, o'.2, rest zs o'.3)
+        subst (LendsOne false x (Lends (before ++ marked e d ∷ after)))
+        (sym (ap (λ (t : Bool). cond t ((d, n) ∷ l ∷ zs) (l ∷ with_span (d, n) zs)) (le-ltb d l.0 (omega arith)))) (o'.0, o'.1, o'.2, rest zs o'.3)
 
 -- what is listed lies from low on
 lent_from : (xs : List ℕ) (es : List Element) (low high : ℕ) (q : Span) (ls : List Span) → Laid xs low high es → Lends es ls → listed q ls ≡ true → low ≤ q.0
@@ -82,7 +94,8 @@ lent_from xs [] low high q [] laid o is = absurd (true≢false (sym is))
 lent_from xs [] low high q (l ∷ ls) laid o is = absurd o
 lent_from xs (e ∷ es) low high q ls laid o is = by_state (is_free e) ls o is (λ zs r i. lent_from xs es (end_of e) high q zs laid.2 r i)
   where
-    by_state : (t : Bool) (zs : List Span) → LendsOne t e (Lends es) zs → listed q zs ≡ true → ((ws : List Span) → Lends es ws → listed q ws ≡ true → end_of e ≤ q.0) → low ≤ q.0
+    by_state : (t : Bool) (zs : List Span) → LendsOne t e (Lends es) zs → listed q zs ≡ true →
+        ((ws : List Span) → Lends es ws → listed q ws ≡ true → end_of e ≤ q.0) → low ≤ q.0
     by_state true zs o' is' more = let p = first_place xs e low laid.0 in let far = more zs o' is' in omega arith
     by_state false [] o' is' more = absurd o'
     by_state false (l ∷ zs) o' is' more = let p = first_place xs e low laid.0 in by_test (is_span q l)
@@ -90,11 +103,13 @@ lent_from xs (e ∷ es) low high q ls laid o is = by_state (is_free e) ls o is (
         (λ other. let far = more zs o'.3 (sym (ap (λ (b : Bool). b || listed q zs) other) ∙ is') in omega arith)
 
 -- e no longer lends its span
-pub lends_less : (xs : List ℕ) (before : List Element) (e : Element) (after : List Element) (low high : ℕ) (q : Span) (ls : List Span) → Laid xs low high (before ++ e ∷ after) → Lends (before ++ e ∷ after) ls
+pub lends_less : (xs : List ℕ) (before : List Element) (e : Element) (after : List Element) (low high : ℕ) (q : Span) (ls : List Span) →
+    Laid xs low high (before ++ e ∷ after) → Lends (before ++ e ∷ after) ls
     → is_free e ≡ false → data_of e ≡ q.0 → listed q ls ≡ true → (q.0 + q.1 ≤ end_of e) × Lends (before ++ freed e ∷ after) (without_span q ls)
 lends_less xs [] e after low high q ls laid o busy at is = here' (is_free e) ls busy o is
   where
-    here' : (t : Bool) (zs : List Span) → t ≡ false → LendsOne t e (Lends after) zs → listed q zs ≡ true → (q.0 + q.1 ≤ end_of e) × Lends (freed e ∷ after) (without_span q zs)
+    here' : (t : Bool) (zs : List Span) → t ≡ false → LendsOne t e (Lends after) zs → listed q zs ≡ true →
+        (q.0 + q.1 ≤ end_of e) × Lends (freed e ∷ after) (without_span q zs)
     here' true zs b o' is' = absurd (true≢false b)
     here' false [] b o' is' = absurd o'
     here' false (l ∷ zs) b o' is' = by_test (is_span q l)
@@ -113,11 +128,20 @@ lends_less xs (x ∷ before) e after low high q ls laid o busy at is =
         let p = first_place xs e s.0 s.2.0 in let bound = laid_bound xs before (end_of x) s.0 s.1 in omega arith
 
     there : (t : Bool) (zs : List Span) → LendsOne t x (Lends (before ++ e ∷ after)) zs → listed q zs ≡ true
-        → ((ws : List Span) → Lends (before ++ e ∷ after) ws → listed q ws ≡ true → (q.0 + q.1 ≤ end_of e) × Lends (before ++ freed e ∷ after) (without_span q ws))
+        → ((ws : List Span) → Lends (before ++ e ∷ after) ws → listed q ws ≡ true →
+        (q.0 + q.1 ≤ end_of e) × Lends (before ++ freed e ∷ after) (without_span q ws))
         → (q.0 + q.1 ≤ end_of e) × LendsOne t x (Lends (before ++ freed e ∷ after)) (without_span q zs)
     there true zs o' is' more = more zs o' is'
     there false [] o' is' more = absurd o'
     there false (l ∷ zs) o' is' more = by_test (is_span q l)
-        (λ same. let eq : q.0 ≡ l.0 = ap (λ (s : Span). s.0) (is_span-true q l same) in let p = past in let starts = o'.0 in let ends = o'.1 in let some = o'.2 in absurd (omega arith))
-        (λ other. let r = more zs o'.3 (sym (ap (λ (t : Bool). t || listed q zs) other) ∙ is') in
-        (r.0, subst (LendsOne false x (Lends (before ++ freed e ∷ after))) (sym (ap (λ (t : Bool). cond t zs (l ∷ without_span q zs)) other)) (o'.0, o'.1, o'.2, r.1)))
+        (λ same. let eq : q.0 ≡ l.0 = ap (λ (s : Span). s.0) (is_span-true q l same) in let p = past in let starts = o'.0 in let ends = o'.1 in
+        let some = o'.2 in absurd (omega arith))
+        (λ other. let r = more zs o'.3 (sym (ap (λ (t : Bool). t || listed q zs) other) ∙ is') in (
+          r.0,
+          subst (LendsOne false x (Lends (before ++ freed e ∷ after))) (sym (ap (λ (t : Bool). cond t zs (l ∷ without_span q zs)) other)) (
+            o'.0,
+            o'.1,
+            o'.2,
+            r.1,
+          ),
+        ))

@@ -1,5 +1,6 @@
 -- Lists of places that are linked, after links were written.
-use Rattle.std.proofs.Common.{◌≡◌, ℕ, ◌+◌, ◌%◌, ◌^◌, ◌<◌, ◌≤◌, Bool, cond, eqb, eqb-true, ltb, List, [], ◌∷◌, ◌++◌, length, refl, sym, ap, subst, ◌∙◌, arith, inl, inr}
+use Rattle.std.proofs.Common.{◌≡◌, ℕ, ◌+◌, ◌%◌, ◌^◌, ◌<◌, ◌≤◌, Bool, cond, eqb, eqb-true, ltb, List, [], ◌∷◌, ◌++◌, length, refl, sym, ap, subst, ◌∙◌, arith}
+use Rattle.std.proofs.Common.{inl, inr}
 use Rattle.std.specs.Prelude.{◌⊎◌}
 use mathlib.Core.Logic.{⊎_elim}
 use Rattle.std.proofs.lemmas.Bool.{cond_both, ltb-true, ltb-false, lt-ltb, eq-eqb, true≢false}
@@ -24,7 +25,8 @@ module _ (xs : List ℕ) (k p n : ℕ) (fits : p < length xs → p + 64 ≤ leng
 
   pub link-other : (q : ℕ) → q + 4 ≤ length xs → (p < length xs → (q + 4 ≤ p + k) ⊎ (p + k + 4 ≤ q)) → number_at (with_link xs k p n) q 4 ≡ number_at xs q 4
   link-other q room off = cond_both (ltb p (length xs)) put xs (λ ys. number_at ys q 4 ≡ number_at xs q 4)
-      (λ t. let in_it = ltb-true p (length xs) t in let whole = fits in_it in number_at-other xs (p + k) n (omega arith) q room (⊎_elim (λ a. inl a) (λ a. inr (omega arith)) (off in_it))) (λ t. refl)
+      (λ t. let in_it = ltb-true p (length xs) t in let whole = fits in_it in
+      number_at-other xs (p + k) n (omega arith) q room (⊎_elim (λ a. inl a) (λ a. inr (omega arith)) (off in_it))) (λ t. refl)
 
 -- words of headers lie apart
 pub apart_words : (p q k j : ℕ) → p % 64 ≡ 0 → q % 64 ≡ 0 → k ≤ 60 → j ≤ 60 → (p ≡ q → (j + 4 ≤ k) ⊎ (k + 4 ≤ j)) → (q + j + 4 ≤ p + k) ⊎ (p + k + 4 ≤ q + j)
@@ -32,12 +34,14 @@ apart_words p q k j a b c d off = by_test (eqb p q)
     (λ t. let is = eqb-true p q t in ⊎_elim (λ h. inl (omega arith)) (λ h. inr (omega arith)) (off is))
     (λ t. by_test (ltb p q)
     (λ s. let less = ltb-true p q s in inr (omega arith))
-    (λ s. let more = ltb-false p q s in let differ : p ≡ q → ⊥ = (λ is. true≢false (sym (eq-eqb p q is) ∙ t)) in by_test (ltb q p) (λ w. let less = ltb-true q p w in inl (omega arith)) (λ w. let same = ltb-false q p w in absurd (differ (omega arith)))))
+    (λ s. let more = ltb-false p q s in let differ : p ≡ q → ⊥ = (λ is. true≢false (sym (eq-eqb p q is) ∙ t)) in
+    by_test (ltb q p) (λ w. let less = ltb-true q p w in inl (omega arith)) (λ w. let same = ltb-false q p w in absurd (differ (omega arith)))))
 
 -- the word at j of the header at q stays
 pub link-apart : (xs : List ℕ) (k p n q j : ℕ) → (p < length xs → (p % 64 ≡ 0) × (p + 64 ≤ length xs)) → k ≤ 60 → q % 64 ≡ 0 → q + 64 ≤ length xs → j ≤ 60
     → (p ≡ q → (j + 4 ≤ k) ⊎ (k + 4 ≤ j)) → number_at (with_link xs k p n) (q + j) 4 ≡ number_at xs (q + j) 4
-link-apart xs k p n q j fits small step room few off = link-other xs k p n (λ h. (fits h).1) small (q + j) (omega arith) (λ h. apart_words p q k j (fits h).0 step small few off)
+link-apart xs k p n q j fits small step room few off = link-other xs k p n (λ h. (fits h).1) small (q + j) (omega arith)
+    (λ h. apart_words p q k j (fits h).0 step small few off)
 
 -- the first is the head
 pub head_in : (xs : List ℕ) (w h : ℕ) (ps : List ℕ) → Linked xs w h ps → (h ≡ none) ⊎ (1 ≤ times h ps)
@@ -51,18 +55,22 @@ last_of w (p ∷ ps) = last_of p ps
 
 pub last_in : (w : ℕ) (ps : List ℕ) → (last_of w ps ≡ w) ⊎ (1 ≤ times (last_of w ps) ps)
 last_in w [] = inl refl
-last_in w (p ∷ ps) = ⊎_elim (λ is. let one : bit (eqb p (last_of p ps)) ≡ 1 = ap (λ (k : ℕ). cond (eqb p k) 1 0) is ∙ same_one p in inr (omega arith)) (λ h. inr (omega arith)) (last_in p ps)
+last_in w (p ∷ ps) = ⊎_elim (λ is. let one : bit (eqb p (last_of p ps)) ≡ 1 = ap (λ (k : ℕ). cond (eqb p k) 1 0) is ∙ same_one p in
+    inr (omega arith)) (λ h. inr (omega arith)) (last_in p ps)
 
 pub last_among : (w p : ℕ) (ps : List ℕ) → 1 ≤ times (last_of w (p ∷ ps)) (p ∷ ps)
-last_among w p ps = ⊎_elim (λ is. let one : bit (eqb p (last_of p ps)) ≡ 1 = ap (λ (k : ℕ). cond (eqb p k) 1 0) is ∙ same_one p in omega arith) (λ h. omega arith) (last_in p ps)
+last_among w p ps = ⊎_elim (λ is. let one : bit (eqb p (last_of p ps)) ≡ 1 = ap (λ (k : ℕ). cond (eqb p k) 1 0) is ∙ same_one p in
+    omega arith) (λ h. omega arith) (last_in p ps)
 
 -- what the element at p keeps of those beside it
-pub beside : (xs : List ℕ) (w h : ℕ) (b : List ℕ) (p : ℕ) (a : List ℕ) → Linked xs w h (b ++ p ∷ a) → (number_at xs (p + 20) 4 ≡ last_of w b) × Linked xs p (number_at xs (p + 16) 4) a
+pub beside : (xs : List ℕ) (w h : ℕ) (b : List ℕ) (p : ℕ) (a : List ℕ) → Linked xs w h (b ++ p ∷ a) →
+    (number_at xs (p + 20) 4 ≡ last_of w b) × Linked xs p (number_at xs (p + 16) 4) a
 beside xs w h [] p a l = (l.1, l.2)
 beside xs w h (q ∷ b) p a l = beside xs q (number_at xs (q + 16) 4) b p a l.2
 
 module _ (xs ys : List ℕ) where
-  pub linked_stay : (w h : ℕ) (ps : List ℕ) → Linked xs w h ps → ((p : ℕ) → 1 ≤ times p ps → (number_at ys (p + 16) 4 ≡ number_at xs (p + 16) 4) × (number_at ys (p + 20) 4 ≡ number_at xs (p + 20) 4)) → Linked ys w h ps
+  pub linked_stay : (w h : ℕ) (ps : List ℕ) → Linked xs w h ps → ((p : ℕ) → 1 ≤ times p ps → (number_at ys (p + 16) 4 ≡ number_at xs (p + 16) 4)
+      × (number_at ys (p + 20) 4 ≡ number_at xs (p + 20) 4)) → Linked ys w h ps
   linked_stay w h [] l same = l
   linked_stay w h (p ∷ ps) l same =
       let one = same_one p in let s = same p (omega arith) in
@@ -70,7 +78,8 @@ module _ (xs ys : List ℕ) where
 
   -- another stands before the first
   pub restart : (w u h : ℕ) (ps : List ℕ) → Linked xs w h ps → times h ps ≤ 1 → (1 ≤ times h ps → number_at ys (h + 20) 4 ≡ u)
-      → ((q : ℕ) → 1 ≤ times q ps → (q ≡ h → ⊥) → number_at ys (q + 20) 4 ≡ number_at xs (q + 20) 4) → ((q : ℕ) → 1 ≤ times q ps → number_at ys (q + 16) 4 ≡ number_at xs (q + 16) 4) → Linked ys u h ps
+      → ((q : ℕ) → 1 ≤ times q ps → (q ≡ h → ⊥) → number_at ys (q + 20) 4 ≡ number_at xs (q + 20) 4) →
+      ((q : ℕ) → 1 ≤ times q ps → number_at ys (q + 16) 4 ≡ number_at xs (q + 16) 4) → Linked ys u h ps
   restart w u h [] l few first back next = l
   restart w u h (p ∷ ps) l few first back next =
       let is = l.0 in let one = same_one p in let some : 1 ≤ times h (p ∷ ps) = subst (λ (k : ℕ). 1 ≤ times k (p ∷ ps)) (sym is) (omega arith) in
@@ -78,8 +87,11 @@ module _ (xs ys : List ℕ) where
         is,
         ap (λ (k : ℕ). number_at ys (k + 20) 4) (sym is) ∙ first some,
         subst (λ (n : ℕ). Linked ys p n ps) (sym (next p (omega arith)))
-            (linked_stay p (number_at xs (p + 16) 4) ps l.2 (λ q in_it.
-            (next q (omega arith), back q (omega arith) (λ same. let at : q ≡ p = same ∙ is in let more : 1 ≤ times p ps = subst (λ (k : ℕ). 1 ≤ times k ps) at in_it in absurd (omega arith))))),
+            (linked_stay p (number_at xs (p + 16) 4) ps l.2 (λ q in_it. (
+              next q (omega arith),
+              back q (omega arith) (λ same. let at : q ≡ p = same ∙ is in
+                  let more : 1 ≤ times p ps = subst (λ (k : ℕ). 1 ≤ times k ps) at in_it in absurd (omega arith)),
+            ))),
       )
 
 -- h, or v where nothing stands before
@@ -94,15 +106,27 @@ module _ (xs ys : List ℕ) (p u v : ℕ) (a : List ℕ) (next : number_at xs (p
       → (1 ≤ times u b → number_at ys (u + 16) 4 ≡ v) → (1 ≤ times v a → number_at ys (v + 20) 4 ≡ u) → Linked ys w (first_or v h b) (b ++ a)
   unlinked w h [] l last before few N B N' B' =
       subst (λ (k : ℕ). Linked ys k v a) (sym last)
-      (restart xs ys p u v a (subst (λ (k : ℕ). Linked xs p k a) next l.2) (few v) B' B (λ q h'. N q h' (λ is. let no : times q a ≡ 0 = ap (λ (k : ℕ). times k a) is ∙ past in absurd (omega arith))))
+      (restart xs ys p u v a (subst (λ (k : ℕ). Linked xs p k a) next l.2) (few v) B' B
+      (λ q h'. N q h' (λ is. let no : times q a ≡ 0 = ap (λ (k : ℕ). times k a) is ∙ past in absurd (omega arith))))
   unlinked w h (q ∷ []) l last before few N B N' B' =
       let one = same_one q in let here : 1 ≤ times q (q ∷ []) = omega arith in
-      let rest = unlinked q (number_at xs (q + 16) 4) [] l.2 last refl (λ k. let f = few k in omega arith) (λ k h'. N k (omega arith)) (λ k h'. B k (omega arith)) (λ h'. absurd (let h'' : 1 ≤ 0 = h' in omega arith)) B' in
-      let to : number_at ys (q + 16) 4 ≡ v = ap (λ (k : ℕ). number_at ys (k + 16) 4) last ∙ N' (subst (λ (k : ℕ). 1 ≤ times k (q ∷ [])) last here) in
-      (l.0, B q (omega arith) (λ is. let no : times q (q ∷ []) ≡ 0 = ap (λ (k : ℕ). times k (q ∷ [])) is ∙ before in absurd (omega arith)) ∙ l.1, subst (λ (n : ℕ). Linked ys q n a) (sym to) rest)
+      let rest = unlinked q (number_at xs (q + 16) 4) [] l.2 last refl (λ k. let f = few k in
+      omega arith) (λ k h'. N k (omega arith)) (λ k h'. B k (omega arith)) (λ h'. absurd (let h'' : 1 ≤ 0 = h' in omega arith)) B' in
+      let to : number_at ys (q + 16) 4 ≡ v = ap (λ (k : ℕ). number_at ys (k + 16) 4) last ∙ N' (subst (λ (k : ℕ). 1 ≤ times k (q ∷ [])) last here) in (
+        l.0,
+        B q (omega arith) (λ is. let no : times q (q ∷ []) ≡ 0 = ap (λ (k : ℕ). times k (q ∷ [])) is ∙ before in absurd (omega arith))
+            ∙ l.1,
+        subst (λ (n : ℕ). Linked ys q n a) (sym to) rest,
+      )
   unlinked w h (q ∷ r ∷ b) l last before few N B N' B' =
       let one = same_one q in
-      let rest = unlinked q (number_at xs (q + 16) 4) (r ∷ b) l.2 last (omega arith) (λ k. let f = few k in omega arith) (λ k h'. N k (omega arith)) (λ k h'. B k (omega arith)) (λ h'. N' (omega arith)) B' in
+      let rest = unlinked q (number_at xs (q + 16) 4) (r ∷ b) l.2 last (omega arith) (λ k. let f = few k in
+      omega arith) (λ k h'. N k (omega arith)) (λ k h'. B k (omega arith)) (λ h'. N' (omega arith)) B' in
       let inner : 1 ≤ times u (r ∷ b) = subst (λ (k : ℕ). 1 ≤ times k (r ∷ b)) last (last_among q r b) in
-      let differ : q ≡ u → ⊥ = (λ is. let f = few q in let more : 1 ≤ times q (r ∷ b) = subst (λ (k : ℕ). 1 ≤ times k (r ∷ b)) (sym is) inner in let s = times-append q (r ∷ b) a in absurd (omega arith)) in
-      (l.0, B q (omega arith) (λ is. let no : times q (q ∷ r ∷ b) ≡ 0 = ap (λ (k : ℕ). times k (q ∷ r ∷ b)) is ∙ before in absurd (omega arith)) ∙ l.1, subst (λ (n : ℕ). Linked ys q n ((r ∷ b) ++ a)) (sym (N q (omega arith) differ)) rest)
+      let differ : q ≡ u → ⊥ = (λ is. let f = few q in let more : 1 ≤ times q (r ∷ b) = subst (λ (k : ℕ). 1 ≤ times k (r ∷ b)) (sym is) inner in
+      let s = times-append q (r ∷ b) a in absurd (omega arith)) in (
+        l.0,
+        B q (omega arith) (λ is. let no : times q (q ∷ r ∷ b) ≡ 0 = ap (λ (k : ℕ). times k (q ∷ r ∷ b)) is ∙ before in absurd (omega arith))
+            ∙ l.1,
+        subst (λ (n : ℕ). Linked ys q n ((r ∷ b) ++ a)) (sym (N q (omega arith) differ)) rest,
+      )

@@ -25,21 +25,30 @@ module _ (xs ys : List ℕ) (same : (k : ℕ) → k + 4 ≤ length xs → k % 64
       let at = first_place xs e low l.0 in let some = l.1 in let bound = laid_bound xs es (end_of e) high l.2 in let fit = k.1.3 in
       let s0 = k.1.0 in let s2 = k.1.2 in
       let rest = words es (end_of e) high e.size l.2 k.2 room in (
-        (l.0 ∙ sym (element-number xs ys low (same low (omega arith) (omega arith)) (same (low + 4) (omega arith) (omega arith)) (same (low + 8) (omega arith) (omega arith))), l.1, rest.0),
+        (
+          l.0 ∙ sym (element-number xs ys low (same low (omega arith) (omega arith)) (same (low + 4) (omega arith) (omega arith))
+              (same (low + 8) (omega arith) (omega arith))),
+          l.1,
+          rest.0,
+        ),
         ((same (e.place + 12) (omega arith) (omega arith) ∙ k.0.0, same (e.place + e.pad + 8) (omega arith) (omega arith) ∙ k.0.1), k.1, rest.1),
       )
 
-pub relinked : (r : RegionView) → IsLaid r → (ys : List ℕ) → length ys ≡ length r.bytes → ((k : ℕ) → k + 4 ≤ length r.bytes → k % 64 ≤ 12 → number_at ys k 4 ≡ number_at r.bytes k 4)
+pub relinked : (r : RegionView) → IsLaid r → (ys : List ℕ) → length ys ≡ length r.bytes →
+    ((k : ℕ) → k + 4 ≤ length r.bytes → k % 64 ≤ 12 → number_at ys k 4 ≡ number_at r.bytes k 4)
     → IsLaid (record r { bytes = ys }) × (elements_in ys ≡ elements_in r.bytes)
 relinked r laid ys long same =
     let most = laid.0 in let w = words r.bytes ys same (elements_in r.bytes) 0 (length r.bytes) 0 laid.1 laid.3 (omega arith) in
     let l : Laid ys 0 (length ys) (elements_in r.bytes) = subst (λ (n : ℕ). Laid ys 0 n (elements_in r.bytes)) (sym long) w.0 in
-    let is = all_decoded ys (elements_in r.bytes) l in
-    ((omega arith, subst (Laid ys 0 (length ys)) (sym is) l, subst (λ (es : List Element). Lends es r.lent) (sym is) laid.2, subst (Kept ys 0) (sym is) w.1), is)
+    let is = all_decoded ys (elements_in r.bytes) l in (
+      (omega arith, subst (Laid ys 0 (length ys)) (sym is) l, subst (λ (es : List Element). Lends es r.lent) (sym is) laid.2, subst (Kept ys 0) (sym is) w.1),
+      is,
+    )
 
 -- a word that links is none of the others
 pub linking : (p k j : ℕ) → p % 64 ≡ 0 → k % 64 ≤ 12 → 16 ≤ j → j ≤ 60 → (k + 4 ≤ p + j) ⊎ (p + j + 4 ≤ k)
-linking p k j a b c d = by_test (ltb k (p + j)) (λ t. let h = ltb-true k (p + j) t in inl (omega arith)) (λ t. let h = ltb-false k (p + j) t in inr (omega arith))
+linking p k j a b c d = by_test (ltb k (p + j)) (λ t. let h = ltb-true k (p + j) t in inl (omega arith)) (λ t. let h = ltb-false k (p + j) t in
+    inr (omega arith))
 
 -- an element's header
 pub record Header (r : RegionView) (p : ℕ) : Type 0 where
@@ -47,7 +56,8 @@ pub record Header (r : RegionView) (p : ℕ) : Type 0 where
   pub room : p + 64 ≤ length r.bytes
   pub unlent : IsUnlent r.lent p 64
 
-pub header_of : (r : RegionView) → IsLaid r → (before : List Element) (e : Element) (after : List Element) → elements_in r.bytes ≡ before ++ e ∷ after → Header r e.place
+pub header_of : (r : RegionView) → IsLaid r → (before : List Element) (e : Element) (after : List Element) → elements_in r.bytes ≡ before ++ e ∷ after →
+    Header r e.place
 header_of r laid before e after split =
     let b = e_bound r laid before e after split in let low = b.0 in let some = b.1 in
     record { step = (kept_here r laid before e after split).1.0; room = omega arith; unlent = e_header r laid before e after split }
@@ -78,4 +88,5 @@ module _ (r : RegionView) (laid : IsLaid r) (heads : List ℕ) (off : List Eleme
   link_listed c p is in_it = ⊎_elim (λ z. let most = laid.0 in absurd (omega arith)) (λ h. h) is
 
   pub link_small : (c p : ℕ) → (p ≡ none) ⊎ (1 ≤ times p (w.0 c)) → p < 2 ^ 32
-  link_small c p is = ⊎_elim (λ z. let few : none < 2 ^ 32 = lit< tt in omega arith) (λ h. let k = (listed_header c p h).room in let most = laid.0 in omega arith) is
+  link_small c p is = ⊎_elim (λ z. let few : none < 2 ^ 32 = lit< tt in omega arith) (λ h. let k = (listed_header c p h).room in
+      let most = laid.0 in omega arith) is

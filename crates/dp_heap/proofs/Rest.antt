@@ -18,7 +18,8 @@ nothing_left r p w le = rest_is r p w ∙ none w.1 w.3
   where
     none : (es : List Element) → Laid r.bytes p (length r.bytes) es → es ≡ []
     none [] l = refl
-    none (e ∷ es) l = let at = first_place r.bytes e p l.0 in let some = l.1 in let bound = laid_bound r.bytes es (end_of e) (length r.bytes) l.2 in absurd (omega arith)
+    none (e ∷ es) l = let at = first_place r.bytes e p l.0 in let some = l.1 in
+        let bound = laid_bound r.bytes es (end_of e) (length r.bytes) l.2 in absurd (omega arith)
 
 module _ (r : RegionView) (laid : IsLaid r) (p : ℕ) (w : IsReached r p) (more : p < length r.bytes) where
   pub next : Next r p w.0 w.1
@@ -29,4 +30,5 @@ module _ (r : RegionView) (laid : IsLaid r) (p : ℕ) (w : IsReached r p) (more 
 
   pub rest_next : rest_of r p ≡ element_at r.bytes p ∷ rest_of r (p + (element_at r.bytes p).size)
   unfolding next reached
-  rest_next = let n = next in rest_is r p w ∙ n.is ∙ ap (λ (es : List Element). element_at r.bytes p ∷ es) (sym (rest_is r (p + (element_at r.bytes p).size) reached))
+  rest_next = let n = next in rest_is r p w ∙ n.is ∙ ap (λ (es : List Element). element_at r.bytes p ∷ es)
+      (sym (rest_is r (p + (element_at r.bytes p).size) reached))

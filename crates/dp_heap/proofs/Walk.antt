@@ -1,5 +1,6 @@
 -- A walk over a list of free elements, and over the lists.
-use Rattle.std.proofs.Common.{◌≡◌, ℕ, zero, suc, ◌+◌, ◌<◌, ◌≤◌, Bool, false, cond, eqb, eqb-true, ltb, leb, List, [], ◌∷◌, ◌++◌, length, refl, sym, ap, subst, ◌∙◌, arith}
+use Rattle.std.proofs.Common.{◌≡◌, ℕ, zero, suc, ◌+◌, ◌<◌, ◌≤◌, Bool, false, cond, eqb, eqb-true, ltb, leb, List, [], ◌∷◌, ◌++◌, length, refl, sym, ap, subst}
+use Rattle.std.proofs.Common.{◌∙◌, arith}
 use Rattle.std.specs.Prelude.{slice_index}
 use Rattle.std.proofs.lemmas.Bool.{cond_both, eq-eqb, ltb-true, ltb-false, leb-false, lt-leb, true≢false, false_from_ne_true}
 use Rattle.std.proofs.lemmas.List.{length-append}
@@ -22,7 +23,8 @@ abbrev pub steps_left : ℕ → List ℕ → ℕ → ℕ
 steps_left zero xs p = zero
 steps_left (suc n) xs p = cond (eqb p none) zero (suc (steps_left n xs (number_at xs (p + 16) 4)))
 
-pub steps_are : (n : ℕ) (xs : List ℕ) (w h : ℕ) (ps : List ℕ) → Linked xs w h ps → ((q : ℕ) → 1 ≤ times q ps → q < none) → length ps ≤ n → steps_left n xs h ≡ length ps
+pub steps_are : (n : ℕ) (xs : List ℕ) (w h : ℕ) (ps : List ℕ) → Linked xs w h ps → ((q : ℕ) → 1 ≤ times q ps → q < none) → length ps ≤ n →
+    steps_left n xs h ≡ length ps
 steps_are zero xs w h [] l far few = refl
 steps_are zero xs w h (p ∷ ps) l far few = absurd (let few' : suc (length ps) ≤ zero = few in omega arith)
 steps_are (suc n) xs w h [] l far few = ap (λ (b : Bool). cond b zero (suc (steps_left n xs (number_at xs (h + 16) 4)))) (eq-eqb h none l)
@@ -30,13 +32,15 @@ steps_are (suc n) xs w h (p ∷ ps) l far few =
     let one = same_one p in let low = far p (omega arith) in let few' : suc (length ps) ≤ suc n = few in
     let differ : eqb h none ≡ false = false_from_ne_true (eqb h none) (λ t. let is = eqb-true h none t in let at = l.0 in absurd (omega arith)) in
     let rest = steps_are n xs p (number_at xs (p + 16) 4) ps l.2 (λ q k. far q (omega arith)) (omega arith) in
-    ap (λ (b : Bool). cond b zero (suc (steps_left n xs (number_at xs (h + 16) 4)))) differ ∙ ap (λ (k : ℕ). suc (steps_left n xs (number_at xs (k + 16) 4))) l.0 ∙ ap suc rest
+    ap (λ (b : Bool). cond b zero (suc (steps_left n xs (number_at xs (h + 16) 4)))) differ
+    ∙ ap (λ (k : ℕ). suc (steps_left n xs (number_at xs (k + 16) 4))) l.0 ∙ ap suc rest
 
 -- there are no more of them than elements
 module _ (c : ℕ) where
   belongs_small : (p : ℕ) (e : Element) → belongs c p e ≤ bit (eqb e.place p)
   belongs_small p e = by_test (eqb e.place p)
-      (λ t. let one : bit (eqb e.place p) ≡ 1 = ap bit t in let most : belongs c p e ≤ 1 = cond_both _ 1 0 (λ n. n ≤ 1) (λ _. omega arith) (λ _. omega arith) in omega arith)
+      (λ t. let one : bit (eqb e.place p) ≡ 1 = ap bit t in let most : belongs c p e ≤ 1 =
+      cond_both _ 1 0 (λ n. n ≤ 1) (λ _. omega arith) (λ _. omega arith) in omega arith)
       (λ t. let no = belongs_off c p e (λ all. true≢false (sym (eq-eqb e.place p all.2) ∙ t)) in omega arith)
 
   pub few_enough : (es : List Element) (ps : List ℕ) → ((p : ℕ) → times p ps ≤ belong c p es) → length ps ≤ length es
@@ -45,8 +49,10 @@ module _ (c : ℕ) where
   few_enough (e ∷ es) ps h = by_test (ltb 0 (times e.place ps))
       (λ t. let s = times_split e.place ps (let some = ltb-true 0 (times e.place ps) t in omega arith) in
       let rest = few_enough es (s.0 ++ s.1) (λ p.
-      let k = h p in let j = times-append p s.0 s.1 in let i = ap (times p) s.2 ∙ times-append p s.0 (e.place ∷ s.1) in let small = belongs_small p e in omega arith) in
-      let n1 = ap length s.2 ∙ length-append s.0 (e.place ∷ s.1) in let n2 = length-append s.0 s.1 in let n3 : length (e.place ∷ s.1) ≡ suc (length s.1) = refl in let n4 : length (e ∷ es) ≡ suc (length es) = refl in omega arith)
+      let k = h p in let j = times-append p s.0 s.1 in let i = ap (times p) s.2 ∙ times-append p s.0 (e.place ∷ s.1) in
+      let small = belongs_small p e in omega arith) in
+      let n1 = ap length s.2 ∙ length-append s.0 (e.place ∷ s.1) in let n2 = length-append s.0 s.1 in
+      let n3 : length (e.place ∷ s.1) ≡ suc (length s.1) = refl in let n4 : length (e ∷ es) ≡ suc (length es) = refl in omega arith)
       (λ t. let none' = ltb-false 0 (times e.place ps) t in
       let rest = few_enough es ps (λ p. let k = h p in by_test (eqb e.place p)
       (λ same. let z : times p ps ≡ times e.place ps = ap (λ (q : ℕ). times q ps) (sym (eqb-true e.place p same)) in omega arith)
@@ -56,7 +62,8 @@ module _ (c : ℕ) where
 pub count_bound : (xs : List ℕ) (es : List Element) (low high : ℕ) → Laid xs low high es → low + length es ≤ high
 count_bound xs [] low high l = let same : low ≡ high = l in let z : low + 0 ≤ high = omega arith in z
 count_bound xs (e ∷ es) low high l =
-    let at = first_place xs e low l.0 in let some = l.1 in let rest = count_bound xs es (end_of e) high l.2 in let n : length (e ∷ es) ≡ suc (length es) = refl in omega arith
+    let at = first_place xs e low l.0 in let some = l.1 in let rest = count_bound xs es (end_of e) high l.2 in
+    let n : length (e ∷ es) ≡ suc (length es) = refl in omega arith
 
 -- the walk over the list c has come to p: those at `seen` cannot hold the block, and `left` are to come
 abbrev pub Walked : List ℕ → ℕ → ℕ → ℕ → ℕ → Type 0
@@ -65,8 +72,15 @@ Walked xs c n a p =
     × ((q : ℕ) → 1 ≤ times q seen → (d : ℕ) → CanHold (element_at xs q) n a d → ⊥)
 
 pub walk_begins : (xs heads : List ℕ) (c n a : ℕ) → c < 5 → Listed xs heads (elements_in xs) [] → Walked xs c n a (slice_index heads c)
-walk_begins xs heads c n a small w =
-    ([], w.0 c, none, w.2 c small, λ q. let count = w.3 c q in let z : times q [] ≡ 0 = refl in let y : belong c q [] ≡ 0 = refl in omega arith, λ q h. absurd (let h' : 1 ≤ 0 = h in omega arith))
+walk_begins xs heads c n a small w = (
+  [],
+  w.0 c,
+  none,
+  w.2 c small,
+  λ q. let count = w.3 c q in let z : times q [] ≡ 0 = refl in
+      let y : belong c q [] ≡ 0 = refl in omega arith,
+  λ q h. absurd (let h' : 1 ≤ 0 = h in omega arith),
+)
 
 -- the element that it has come to
 pub record Free_at (r : RegionView) (p : ℕ) : Type 0 where
@@ -124,7 +138,8 @@ module _ (r : RegionView) (laid : IsLaid r) (c n a p : ℕ) (w : Walked r.bytes 
               ps,
               p,
               subst (λ (k : ℕ). Linked r.bytes k (number_at r.bytes (k + 16) 4) ps) (sym same) l.2,
-              λ m. let count = w.4 m in let all = ap (times m) is in let one : bit (eqb p m) ≡ bit (eqb q m) = ap (λ (k : ℕ). bit (eqb k m)) same in omega arith,
+              λ m. let count = w.4 m in let all = ap (times m) is in let one : bit (eqb p m) ≡ bit (eqb q m) = ap (λ (k : ℕ). bit (eqb k m)) same in
+                  omega arith,
               λ m h d can. by_test (eqb p m)
                   (λ t. never d (subst (λ (k : ℕ). CanHold (element_at r.bytes k) n a d) (sym (eqb-true p m t)) can))
                   (λ t. let no : bit (eqb p m) ≡ 0 = ap bit t in w.5 m (omega arith) d can),
@@ -140,7 +155,8 @@ module _ (r : RegionView) (laid : IsLaid r) (c n a p : ℕ) (w : Walked r.bytes 
   walk_ended is e in_it class d can =
       let h = here r laid in_it.0 e in_it.1 in_it.2 in
       let some : 1 ≤ belong c e.place (elements_in r.bytes) =
-      subst (λ (k : ℕ). 1 ≤ belong k e.place (elements_in r.bytes)) class (subst (λ (es : List Element). 1 ≤ belong (class_of e.size) e.place es) (sym in_it.2) (belongs_of in_it.0 e in_it.1 can.0)) in
+      subst (λ (k : ℕ). 1 ≤ belong k e.place (elements_in r.bytes)) class
+      (subst (λ (es : List Element). 1 ≤ belong (class_of e.size) e.place es) (sym in_it.2) (belongs_of in_it.0 e in_it.1 can.0)) in
       let count = w.4 e.place in let nothing = empty w.1 w.3 left_far e.place in
       w.5 e.place (omega arith) d (subst (λ (x : Element). CanHold x n a d) ((h.0)) can)
     where
@@ -148,7 +164,8 @@ module _ (r : RegionView) (laid : IsLaid r) (c n a p : ℕ) (w : Walked r.bytes 
       empty [] l far m = refl
       empty (q ∷ ps) l far m = let one = same_one q in let low = far q (omega arith) in let at = l.0 in absurd (omega arith)
 
-pub smaller : (r : RegionView) (laid : IsLaid r) (c n a p : ℕ) (w : Walked r.bytes c n a p) → (p ≡ none → ⊥) → ((d : ℕ) → CanHold (element_at r.bytes p) n a d → ⊥)
+pub smaller : (r : RegionView) (laid : IsLaid r) (c n a p : ℕ) (w : Walked r.bytes c n a p) → (p ≡ none → ⊥) →
+    ((d : ℕ) → CanHold (element_at r.bytes p) n a d → ⊥)
     → steps_left (length r.bytes) r.bytes (number_at r.bytes (p + 16) 4) < steps_left (length r.bytes) r.bytes p
 smaller r laid c n a p w differ never =
     let o = onward r laid c n a p w differ never in let less = o.less in
@@ -158,20 +175,28 @@ smaller r laid c n a p w differ never =
 cond_up : (n m limit low i j : ℕ) → n ≤ m → low ≤ j → i ≤ j → cond (leb n limit) low i ≤ cond (leb m limit) low j
 cond_up n m limit low i j le a b = by_test (leb n limit)
     (λ t. subst (λ (k : Bool). cond k low i ≤ cond (leb m limit) low j) (sym t) (cond_both (leb m limit) low j (λ k. low ≤ k) (λ _. omega arith) (λ _. a)))
-    (λ t. let over = leb-false n limit t in subst (λ (k : Bool). cond k low i ≤ cond (leb m limit) low j) (sym t) (subst (λ (k : Bool). i ≤ cond k low j) (sym (lt-leb m limit (omega arith))) b))
+    (λ t. let over = leb-false n limit t in subst (λ (k : Bool). cond k low i ≤ cond (leb m limit) low j) (sym t)
+    (subst (λ (k : Bool). i ≤ cond k low j) (sym (lt-leb m limit (omega arith))) b))
 
 pub class_up : (n m : ℕ) → n ≤ m → class_of n ≤ class_of m
 class_up n m le =
     let t3 : 3 ≤ cond (leb m 16384) 3 4 = cond_both (leb m 16384) 3 4 (λ k. 3 ≤ k) (λ _. omega arith) (λ _. omega arith) in
-    let t2 : 2 ≤ cond (leb m 4096) 2 (cond (leb m 16384) 3 4) = cond_both (leb m 4096) 2 (cond (leb m 16384) 3 4) (λ k. 2 ≤ k) (λ _. omega arith) (λ _. omega arith) in
-    let t1 : 1 ≤ cond (leb m 1024) 1 (cond (leb m 4096) 2 (cond (leb m 16384) 3 4)) = cond_both (leb m 1024) 1 (cond (leb m 4096) 2 (cond (leb m 16384) 3 4)) (λ k. 1 ≤ k) (λ _. omega arith) (λ _. omega arith) in
-    cond_up n m 256 0 (cond (leb n 1024) 1 (cond (leb n 4096) 2 (cond (leb n 16384) 3 4))) (cond (leb m 1024) 1 (cond (leb m 4096) 2 (cond (leb m 16384) 3 4))) le (omega arith)
+    let t2 : 2 ≤ cond (leb m 4096) 2 (cond (leb m 16384) 3 4) = cond_both (leb m 4096) 2 (cond (leb m 16384) 3 4) (λ k. 2 ≤ k) (λ _. omega arith)
+    (λ _. omega arith) in
+    let t1 : 1 ≤ cond (leb m 1024) 1 (cond (leb m 4096) 2 (cond (leb m 16384) 3 4)) =
+    cond_both (leb m 1024) 1 (cond (leb m 4096) 2 (cond (leb m 16384) 3 4)) (λ k. 1 ≤ k) (λ _. omega arith) (λ _. omega arith) in
+    cond_up n m 256 0 (cond (leb n 1024) 1 (cond (leb n 4096) 2 (cond (leb n 16384) 3 4)))
+    (cond (leb m 1024) 1 (cond (leb m 4096) 2 (cond (leb m 16384) 3 4))) le (omega arith)
     (cond_up n m 1024 1 (cond (leb n 4096) 2 (cond (leb n 16384) 3 4)) (cond (leb m 4096) 2 (cond (leb m 16384) 3 4)) le (omega arith)
     (cond_up n m 4096 2 (cond (leb n 16384) 3 4) (cond (leb m 16384) 3 4) le (omega arith) (cond_up n m 16384 3 4 4 le (omega arith) (omega arith))))
 
 pub nothing_fits : (n a : ℕ) (es : List Element) → ((e : Element) → IsIn e es → (d : ℕ) → CanHold e n a d → ⊥) → NothingFits n a es
 nothing_fits n a [] never = tt
-nothing_fits n a (e ∷ es) never = (never e ([], es, refl), nothing_fits n a es (λ x in_it. never x (e ∷ in_it.0, in_it.1, ap (λ (ys : List Element). e ∷ ys) in_it.2)))
+nothing_fits n a (e ∷ es) never = (
+  never e ([], es, refl),
+  nothing_fits n a es
+      (λ x in_it. never x (e ∷ in_it.0, in_it.1, ap (λ (ys : List Element). e ∷ ys) in_it.2)),
+)
 
 -- the lists from that of the least size up to c have no element that can hold a block
 abbrev pub Past : List ℕ → ℕ → ℕ → ℕ → Type 0
@@ -192,4 +217,5 @@ past_more xs n a c w lt none' =
 
 pub past_all : (xs : List ℕ) (n a c : ℕ) → Past xs n a c → 5 ≤ c → NothingFits n a (elements_in xs)
 past_all xs n a c w over = nothing_fits n a (elements_in xs) (λ e in_it d can.
-    let lo = can.2 in let hi = can.3 in let small = class_small e.size in let up = class_up (n + 64) e.size (omega arith) in w.2 (class_of e.size) up (omega arith) e in_it refl d can)
+    let lo = can.2 in let hi = can.3 in let small = class_small e.size in
+    let up = class_up (n + 64) e.size (omega arith) in w.2 (class_of e.size) up (omega arith) e in_it refl d can)

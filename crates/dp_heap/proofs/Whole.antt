@@ -21,7 +21,8 @@ not_two true false rest x y z = true≢false (sym y)
 not_two false b rest x y z = true≢false (sym x)
 
 module _ (xs : List ℕ) (some : 0 < length xs) where
-  pub whole : (es : List Element) → Laid xs 0 (length xs) es → Kept xs 0 es → IsTrue (apart es) → count_of is_busy es ≡ 0 → es ≡ record { place = 0; size = length xs; state = Free; pad = 0 } ∷ []
+  pub whole : (es : List Element) → Laid xs 0 (length xs) es → Kept xs 0 es → IsTrue (apart es) → count_of is_busy es ≡ 0 →
+      es ≡ record { place = 0; size = length xs; state = Free; pad = 0 } ∷ []
   whole [] laid kept off none = absurd (let empty : 0 ≡ length xs = laid in omega arith)
   whole (e ∷ []) laid kept off none =
       let free = (none_busy (is_free e) 0 none).0 in let place = first_place xs e 0 laid.0 in

@@ -48,4 +48,5 @@ NoneAt d (e ∷ es) = (has_block d e ≡ false) × NoneAt d es
 -- e had the block at d, and is free in new
 abbrev pub Emptied : ℕ → Element → List Element → List Element → Type 0
 Emptied d whole old new =
-    (before : List Element) × (e : Element) × (after : List Element) × (old ≡ before ++ e ∷ after) × (has_block d e ≡ true) × (whole ≡ freed e) × (new ≡ before ++ freed e ∷ after)
+    (before : List Element) × (e : Element) × (after : List Element) × (old ≡ before ++ e ∷ after) × (has_block d e ≡ true) × (whole ≡ freed e)
+    × (new ≡ before ++ freed e ∷ after)

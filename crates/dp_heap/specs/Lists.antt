@@ -40,7 +40,8 @@ belong c p = sum_of (belongs c p)
 -- the lists that begin at `heads` have the free ones of es, each once and in the list of its size, but for those of `off`
 abbrev pub Listed : List ℕ → List ℕ → List Element → List Element → Type 0
 Listed xs heads es off =
-    (lists : ℕ → List ℕ) × (length heads ≡ 5) × ((c : ℕ) → c < 5 → Linked xs none (slice_index heads c) (lists c)) × ((c p : ℕ) → times p (lists c) + belong c p off ≡ belong c p es)
+    (lists : ℕ → List ℕ) × (length heads ≡ 5) × ((c : ℕ) → c < 5 → Linked xs none (slice_index heads c) (lists c))
+    × ((c p : ℕ) → times p (lists c) + belong c p off ≡ belong c p es)
 
 -- outside low up to high no word changes but the one at 12 of the header at high
 abbrev pub Outside : ℕ → ℕ → List ℕ → List ℕ → Type 0

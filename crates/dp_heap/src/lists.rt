@@ -41,7 +41,8 @@ impl Lists {
         ensures laid { IsLaid region.new }
         ensures home { region.new.home ≡ region.old.home }
         ensures same { elements_in region.new.bytes ≡ elements_in region.old.bytes }
-        ensures listed { (off : List Item) → Listed region.old.bytes self.old.heads (elements_in region.old.bytes) (e.now ∷ off) → Listed region.new.bytes self.new.heads (elements_in region.new.bytes) off }
+        ensures listed { (off : List Item) → Listed region.old.bytes self.old.heads (elements_in region.old.bytes) (e.now ∷ off) →
+            Listed region.new.bytes self.new.heads (elements_in region.new.bytes) off }
     {
         let class = class_of(e.size as u64);
         let first = self.heads[class];
@@ -55,11 +56,13 @@ impl Lists {
     pub(crate) fn leave(&mut self, region: &mut Region, e: &Element)
         requires laid { IsLaid region.old × IsIn e.now (elements_in region.old.bytes) }
         requires free { e.now.state ≡ State.Free }
-        requires listed { (off : List Item) × Listed region.old.bytes self.old.heads (elements_in region.old.bytes) off × (belong (class_of e.now.size) e.now.place off ≡ 0) }
+        requires listed { (off : List Item) × Listed region.old.bytes self.old.heads (elements_in region.old.bytes) off
+            × (belong (class_of e.now.size) e.now.place off ≡ 0) }
         ensures laid { IsLaid region.new }
         ensures home { region.new.home ≡ region.old.home }
         ensures same { elements_in region.new.bytes ≡ elements_in region.old.bytes }
-        ensures off { (off : List Item) → Listed region.old.bytes self.old.heads (elements_in region.old.bytes) off → belong (class_of e.now.size) e.now.place off ≡ 0 → Listed region.new.bytes self.new.heads (elements_in region.new.bytes) (e.now ∷ off) }
+        ensures off { (off : List Item) → Listed region.old.bytes self.old.heads (elements_in region.old.bytes) off →
+            belong (class_of e.now.size) e.now.place off ≡ 0 → Listed region.new.bytes self.new.heads (elements_in region.new.bytes) (e.now ∷ off) }
     {
         let next = region.load_u32(e.place + NEXT);
         let before = region.load_u32(e.place + BEFORE);
@@ -74,7 +77,8 @@ impl Lists {
     pub(crate) fn find(&self, region: &Region, len: u64, align: u64) -> Option<(Element, u32)>
         requires laid { IsLaid region.now × Listed region.now.bytes self.now.heads (elements_in region.now.bytes) [] }
         requires align { (64 ≤ align) × (align < 2 ^ 32) × (len < 2 ^ 33) }
-        ensures { MatchOption result (NothingFits len align (elements_in region.now.bytes)) (λ f. IsIn f.0 (elements_in region.now.bytes) × (f.0.state ≡ State.Free) × IsHighest f.0 len align f.1) }
+        ensures { MatchOption result (NothingFits len align (elements_in region.now.bytes)) (λ f. IsIn f.0 (elements_in region.now.bytes)
+            × (f.0.state ≡ State.Free) × IsHighest f.0 len align f.1) }
     {
         let mut class = class_of(len + 64);
         while class < 5 {
@@ -97,7 +101,8 @@ impl Lists {
         requires laid { IsLaid region.now × Listed region.now.bytes self.now.heads (elements_in region.now.bytes) [] }
         requires align { (64 ≤ align) × (align < 2 ^ 32) × (len < 2 ^ 33) }
         requires class { class < 5 }
-        ensures { MatchOption result (NoneHolds class len align (elements_in region.now.bytes)) (λ f. IsIn f.0 (elements_in region.now.bytes) × (f.0.state ≡ State.Free) × IsHighest f.0 len align f.1) }
+        ensures { MatchOption result (NoneHolds class len align (elements_in region.now.bytes)) (λ f. IsIn f.0 (elements_in region.now.bytes)
+            × (f.0.state ≡ State.Free) × IsHighest f.0 len align f.1) }
     {
         let mut place = self.heads[class];
         while place != NONE {

@@ -148,7 +148,8 @@ fn join(region: &mut Region, x: Element, y: Element) -> Element
     ensures laid { IsLaid region.new }
     ensures home { region.new.home ≡ region.old.home }
     ensures outside { Outside x.place (end_of result) region.old.bytes region.new.bytes }
-    ensures pieces { (before after : List Item) → elements_in region.old.bytes ≡ before ++ x ∷ y ∷ after → elements_in region.new.bytes ≡ before ++ both x y ∷ after }
+    ensures pieces { (before after : List Item) → elements_in region.old.bytes ≡ before ++ x ∷ y ∷ after → elements_in region.new.bytes ≡ before
+        ++ both x y ∷ after }
 {
     let size = x.size + y.size;
     write_header(region, x.place, size, State::Free, 0);
@@ -165,7 +166,8 @@ pub(crate) fn join_above(region: &mut Region, lists: &mut Lists, e: Element) -> 
     ensures home { region.new.home ≡ region.old.home }
     ensures free { result.state ≡ State.Free }
     ensures listed { Listed region.new.bytes lists.new.heads (elements_in region.new.bytes) (result ∷ []) }
-    ensures pieces { (before after : List Item) → elements_in region.old.bytes ≡ before ++ e ∷ after → (rest : List Item) × (joined e after ≡ result ∷ rest) × (elements_in region.new.bytes ≡ before ++ result ∷ rest) }
+    ensures pieces { (before after : List Item) → elements_in region.old.bytes ≡ before ++ e ∷ after → (rest : List Item) × (joined e after ≡ result ∷ rest)
+        × (elements_in region.new.bytes ≡ before ++ result ∷ rest) }
 {
     let end = e.place + e.size;
     if end == region.size() {

@@ -7,7 +7,8 @@ use Rattle.dp_model.specs.declared.rule.Rule.TheVariants.{J1, J2}
 use Rattle.dp_model.specs.Rules.{Question, holds, later_rules, IsAccepted}
 use Rattle.dp_infer.proofs.Stronger.{both_are}
 
-found_holds : (b : Bool) (test : Rule → Bool) (rule : Rule) (rules : List Rule) → test rule ≡ b → cond (not b) (Some rule) (find (λ r. not (test r)) rules) ≡ None
+found_holds : (b : Bool) (test : Rule → Bool) (rule : Rule) (rules : List Rule) → test rule ≡ b → cond (not b) (Some rule) (find (λ r. not (test r)) rules)
+    ≡ None
     → (find (λ r. not (test r)) rules ≡ None → list_all test rules ≡ true) → list_all test (rule ∷ rules) ≡ true
 found_holds true test rule rules is e more = both_are is (more e)
 found_holds false test rule rules is e more = absurd cc

@@ -1,5 +1,6 @@
 -- Facts that change keep what one says more than the other.
-use Rattle.std.proofs.Common.{◌≡◌, ℕ, zero, suc, ◌≤◌, Bool, true, false, ◌&&◌, ◌||◌, ◌==◌, cond, List, [], ◌∷◌, Option, Some, None, refl, sym, ap, ◌∙◌, ⊎_elim, subst, arith}
+use Rattle.std.proofs.Common.{◌≡◌, ℕ, zero, suc, ◌≤◌, Bool, true, false, ◌&&◌, ◌||◌, ◌==◌, cond, List, [], ◌∷◌, Option, Some, None, refl, sym, ap, ◌∙◌}
+use Rattle.std.proofs.Common.{⊎_elim, subst, arith}
 use Rattle.std.specs.Prelude.{nat_le, slice_get, slice_set, option_and_then}
 use Rattle.std.specs.List.{list_all}
 use Rattle.std.specs.Option.{option_map_or}
@@ -11,10 +12,14 @@ use Rattle.dp_model.specs.declared.row.Row.{Row}
 use Rattle.dp_model.specs.Groups.{are_groups, belongs, size, least, share_left, is_in, share_of_group, reshared_fact, reshared}
 use Rattle.std.specs.List.{AllZip}
 use Rattle.std.proofs.lemmas.Option.{same_Some}
-use Rattle.dp_model.specs.Laws.Groups.{group_at_is, group_at_belongs, group_at_none, dissolved_out, dissolved_stays, groups_of_row, least_belongs, unnamed, fact_at, changed_is, belongs_at, belongs_there, belongs_set, belongs_other, belongs_in, belongs_out, in_one, size_same, other_group, sole_no_group, loose_no_group, left_name}
+use Rattle.dp_model.specs.Laws.Groups.{group_at_is, group_at_belongs, group_at_none, dissolved_out, dissolved_stays, groups_of_row, least_belongs, unnamed}
+use Rattle.dp_model.specs.Laws.Groups.{fact_at, changed_is, belongs_at, belongs_there, belongs_set, belongs_other, belongs_in, belongs_out, in_one, size_same}
+use Rattle.dp_model.specs.Laws.Groups.{other_group, sole_no_group, loose_no_group, left_name}
 use Rattle.dp_infer.proofs.Stronger.{StrongerFact, AtMost, zip_length}
 use Rattle.std.proofs.Common.{◌+◌, length, min}
-use Rattle.dp_model.specs.Rows.{is_empty, shared, twin, twin_share, joins, Holding, holding, held, held_at, with_fact, emptied, changed, owns_head, chained_share, entails_share, after_chain, group_at, with_shares, renamed, dissolved, after_free, after_leave, after_chained, after_clone, if_single, is_fact_of_row, is_well_formed_row}
+use Rattle.dp_model.specs.Rows.{is_empty, shared, twin, twin_share, joins, Holding, holding, held, held_at, with_fact, emptied, changed, owns_head}
+use Rattle.dp_model.specs.Rows.{chained_share, entails_share, after_chain, group_at, with_shares, renamed, dissolved, after_free, after_leave, after_chained}
+use Rattle.dp_model.specs.Rows.{after_clone, if_single, is_fact_of_row, is_well_formed_row}
 use Rattle.dp_model.specs.Rules.{is_empty_at}
 use Rattle.dp_model.specs.Laws.Lists.{get_set_other}
 use Rattle.std.proofs.Common.{inl, inr, ◌⊎◌}
@@ -22,7 +27,8 @@ use Rattle.dp_model.specs.Laws.Cases.{by_cases}
 use Rattle.std.specs.List.{position_from}
 use Rattle.std.proofs.lemmas.Iterator.Adapters.{position_from-zero}
 use Rattle.std.specs.Prelude.{◌≢◌}
-use Rattle.dp_infer.proofs.Sharing.{KeepsGroups, keeps_moved, keeps_out, keeps_dissolved, set_out, share_same, share_zero, share_cases, share_chained, sole_more}
+use Rattle.dp_infer.proofs.Sharing.{KeepsGroups, keeps_moved, keeps_out, keeps_dissolved, set_out, share_same, share_zero, share_cases, share_chained}
+use Rattle.dp_infer.proofs.Sharing.{sole_more}
 use Rattle.dp_infer.proofs.Stronger.{StrongerHolding, StrongerOption, Stronger}
 use Rattle.dp_infer.proofs.Registers.{zip_set, fact_set, held_both}
 
@@ -43,7 +49,8 @@ fact_segs (Held share head tail first last segs) x fits e =
     let same : record { share = share; head = head; tail = tail; first = first; last = last; segs = segs } ≡ x = cc in
     subst (λ (h : Holding). 1 ≤ h.segs) same some
 
-pub facts_segs : (facts : List Fact) (p : ℕ) (x : Holding) → list_all is_fact_of_row facts ≡ true → option_and_then holding (slice_get facts p) ≡ Some x → 1 ≤ x.segs
+pub facts_segs : (facts : List Fact) (p : ℕ) (x : Holding) → list_all is_fact_of_row facts ≡ true → option_and_then holding (slice_get facts p) ≡ Some x →
+    1 ≤ x.segs
 facts_segs [] p x fits e = absurd cc
 facts_segs (f ∷ fs) zero x fits e = fact_segs f x (and_parts (is_fact_of_row f) (list_all is_fact_of_row fs) fits).0 e
 facts_segs (f ∷ fs) (suc p) x fits e = facts_segs fs p x (and_parts (is_fact_of_row f) (list_all is_fact_of_row fs) fits).1 e
@@ -51,7 +58,8 @@ facts_segs (f ∷ fs) (suc p) x fits e = facts_segs fs p x (and_parts (is_fact_o
 -- ---- a fact changed
 
 -- a fact that belongs to the same groups
-changed_belongs : (row : Row) (p : ℕ) (f : Holding → Holding) → ((h : Holding) → held_at row p ≡ Some h → (x : ℕ) → is_in x (held (f h)) ≡ is_in x (held h)) → (x i : ℕ) → belongs (changed row p f).facts x i ≡ belongs row.facts x i
+changed_belongs : (row : Row) (p : ℕ) (f : Holding → Holding) → ((h : Holding) → held_at row p ≡ Some h → (x : ℕ) → is_in x (held (f h)) ≡ is_in x (held h)) →
+    (x i : ℕ) → belongs (changed row p f).facts x i ≡ belongs row.facts x i
 changed_belongs row p f keeps x i = go (held_at row p) refl
   where
     go : (o : Option Holding) → held_at row p ≡ o → belongs (changed row p f).facts x i ≡ belongs row.facts x i
@@ -75,12 +83,14 @@ changed_go a b p f g (Some x) (Some y) s o ex ey each groups =
 changed_go a b p f g None (Some y) s o ex ey each groups = absurd o
 changed_go a b p f g (Some x) None s o ex ey each groups = absurd o
 
-pub changed_keeps : (a b : Row) (p : ℕ) (f g : Holding → Holding) → Stronger a b → AreWellFormed a → ((h : Holding) → (f h).share ≡ h.share) → ((h : Holding) → (g h).share ≡ h.share)
+pub changed_keeps : (a b : Row) (p : ℕ) (f g : Holding → Holding) → Stronger a b → AreWellFormed a → ((h : Holding) → (f h).share ≡ h.share) →
+    ((h : Holding) → (g h).share ≡ h.share)
     → ((h k : Holding) → 1 ≤ h.segs → StrongerHolding h k → StrongerHolding (f h) (g k))
     → Stronger (changed a p f) (changed b p g)
 changed_keeps a b p f g s fits keep keep' each =
     changed_go a b p f g (held_at a p) (held_at b p) s (held_both a b p s) refl refl (λ h k e. each h k (facts_segs a.facts p h (facts_fit a fits) e))
-    (keeps_moved a.facts (changed a p f).facts b.facts (changed b p g).facts (changed_belongs a p f (λ h e x. ap (λ n. n == share_of_group x) (keep h))) (changed_belongs b p g (λ h e x. ap (λ n. n == share_of_group x) (keep' h))) s.groups)
+    (keeps_moved a.facts (changed a p f).facts b.facts (changed b p g).facts (changed_belongs a p f (λ h e x. ap (λ n. n == share_of_group x) (keep h)))
+    (changed_belongs b p g (λ h e x. ap (λ n. n == share_of_group x) (keep' h))) s.groups)
 
 pub single_more : (h k : Holding) (n : ℕ) → 1 ≤ h.segs → h.segs ≤ k.segs → if_single k n ≤ if_single h n
 single_more h k n some less = go (k.segs == 1) refl
@@ -116,7 +126,8 @@ one_left g n (Held share head tail first last segs) (Held s h t f l k) m out =
 one_left g n Empty (Held s h t f l k) m out = absurd m
 one_left g n (Held share head tail first last segs) Empty m out = absurd m
 
-pub reshared_left : (g n : ℕ) (fs hs : List Fact) → AllZip StrongerFact fs hs → ((i : ℕ) → belongs fs g i ≡ true → belongs hs g i ≡ false) → AllZip StrongerFact (reshared g n fs) hs
+pub reshared_left : (g n : ℕ) (fs hs : List Fact) → AllZip StrongerFact fs hs → ((i : ℕ) → belongs fs g i ≡ true → belongs hs g i ≡ false) →
+    AllZip StrongerFact (reshared g n fs) hs
 reshared_left g n [] [] z out = tt
 reshared_left g n (f ∷ fs) (h ∷ hs) z out = (one_left g n f h z.0 (out 0), reshared_left g n fs hs z.1 (λ i. out (suc i)))
 reshared_left g n [] (h ∷ hs) z out = absurd z
@@ -138,7 +149,8 @@ one_both g n (Held share head tail first last segs) (Held s h t f l k) m same =
 one_both g n Empty (Held s h t f l k) m same = absurd m
 one_both g n (Held share head tail first last segs) Empty m same = absurd m
 
-pub reshared_both : (g n : ℕ) (fs hs : List Fact) → AllZip StrongerFact fs hs → ((i : ℕ) → belongs fs g i ≡ belongs hs g i) → AllZip StrongerFact (reshared g n fs) (reshared g n hs)
+pub reshared_both : (g n : ℕ) (fs hs : List Fact) → AllZip StrongerFact fs hs → ((i : ℕ) → belongs fs g i ≡ belongs hs g i) →
+    AllZip StrongerFact (reshared g n fs) (reshared g n hs)
 reshared_both g n [] [] z same = tt
 reshared_both g n (f ∷ fs) (h ∷ hs) z same = (one_both g n f h z.0 (same 0), reshared_both g n fs hs z.1 (λ i. same (suc i)))
 reshared_both g n [] (h ∷ hs) z same = absurd z
@@ -147,16 +159,20 @@ reshared_both g n (f ∷ fs) [] z same = absurd z
 pub dissolved_keeps : (a b : Row) (p : ℕ) → Stronger a b → Stronger (dissolved a p) (dissolved b p)
 dissolved_keeps a b p s = go (group_at a p) (group_at b p) refl refl
   where
-    fact_of : (o o' : Option ℕ) → AllZip StrongerFact (option_map_or (λ g. with_shares a g 0) o a).facts (option_map_or (λ g. with_shares b g 0) o' b).facts → group_at a p ≡ o → group_at b p ≡ o' → AllZip StrongerFact (dissolved a p).facts (dissolved b p).facts
-    fact_of o o' z e e' = subst (λ x. AllZip StrongerFact (option_map_or (λ g. with_shares a g 0) x a).facts (dissolved b p).facts) (sym e) (subst (λ x. AllZip StrongerFact (option_map_or (λ g. with_shares a g 0) o a).facts (option_map_or (λ g. with_shares b g 0) x b).facts) (sym e') z)
+    fact_of : (o o' : Option ℕ) → AllZip StrongerFact (option_map_or (λ g. with_shares a g 0) o a).facts (option_map_or (λ g. with_shares b g 0) o' b).facts →
+        group_at a p ≡ o → group_at b p ≡ o' → AllZip StrongerFact (dissolved a p).facts (dissolved b p).facts
+    fact_of o o' z e e' = subst (λ x. AllZip StrongerFact (option_map_or (λ g. with_shares a g 0) x a).facts (dissolved b p).facts) (sym e)
+        (subst (λ x. AllZip StrongerFact (option_map_or (λ g. with_shares a g 0) o a).facts (option_map_or (λ g. with_shares b g 0) x b).facts) (sym e') z)
 
-    made : AllZip StrongerFact (dissolved a p).facts (dissolved b p).facts → (x y : Option ℕ) → group_at a p ≡ x → group_at b p ≡ y → Stronger (dissolved a p) (dissolved b p)
+    made : AllZip StrongerFact (dissolved a p).facts (dissolved b p).facts → (x y : Option ℕ) → group_at a p ≡ x → group_at b p ≡ y →
+        Stronger (dissolved a p) (dissolved b p)
     made z x y e e' = record {
       live = live a x e ∙ s.live;
       other_live = live b y e' ∙ s.other_live;
       facts = z;
       groups = keeps_dissolved a b p s.groups;
-      bounds = subst (λ ms. AllZip AtMost ms (dissolved b p).bounds) (sym (bounds a x e)) (subst (λ ns. AllZip AtMost a.bounds ns) (sym (bounds b y e')) s.bounds);
+      bounds = subst (λ ms. AllZip AtMost ms (dissolved b p).bounds) (sym (bounds a x e))
+          (subst (λ ns. AllZip AtMost a.bounds ns) (sym (bounds b y e')) s.bounds);
     }
       where
         live : (r : Row) (o : Option ℕ) → group_at r p ≡ o → (dissolved r p).live ≡ r.live
@@ -182,7 +198,8 @@ dissolved_keeps a b p s = go (group_at a p) (group_at b p) refl refl
     go (Some g) (Some x) e e' =
         let there : belongs a.facts x p ≡ true = both x e' p ∙ group_at_belongs b p x e' in
         let same : g ≡ x = same_Some g x (sym e ∙ group_at_is a p x there) in
-        made (fact_of (Some g) (Some x) (subst (λ n. AllZip StrongerFact (reshared n 0 a.facts) (reshared x 0 b.facts)) (sym same) (reshared_both x 0 a.facts b.facts s.facts (both x e'))) e e') (Some g) (Some x) e e'
+        made (fact_of (Some g) (Some x) (subst (λ n. AllZip StrongerFact (reshared n 0 a.facts) (reshared x 0 b.facts)) (sym same)
+        (reshared_both x 0 a.facts b.facts s.facts (both x e'))) e e') (Some g) (Some x) e e'
 
 pub leave_keeps' : (a b : Row) (p : ℕ) → Stronger a b → Stronger (after_leave a p) (after_leave b p)
 leave_keeps' a b p s = emptied_keeps (dissolved a p) (dissolved b p) p (dissolved_keeps a b p s)
@@ -197,16 +214,27 @@ chained_apart a b g = ne_eqb (chained_share a b) (8 + g) (λ e. absurd (omega (a
     most false true = omega arith
     most false false = omega arith
 
-chain_go : (a b : Row) (p q : ℕ) (x y : Option Holding) → Stronger a b → ((g : ℕ) → belongs a.facts g p ≡ false) → ((g : ℕ) → belongs b.facts g p ≡ false) → StrongerOption x y
-    → Stronger (option_map_or (λ t. emptied (changed a p (λ h. after_chain h t)) q) x a) (option_map_or (λ t. emptied (changed b p (λ h. after_chain h t)) q) y b)
+chain_go : (a b : Row) (p q : ℕ) (x y : Option Holding) → Stronger a b → ((g : ℕ) → belongs a.facts g p ≡ false) → ((g : ℕ) → belongs b.facts g p ≡ false) →
+    StrongerOption x y
+    → Stronger (option_map_or (λ t. emptied (changed a p (λ h. after_chain h t)) q) x a)
+    (option_map_or (λ t. emptied (changed b p (λ h. after_chain h t)) q) y b)
 chain_go a b p q None None s out out' o = s
 chain_go a b p q (Some x) (Some y) s out out' o =
     emptied_keeps (changed a p (λ h. after_chain h x)) (changed b p (λ h. after_chain h y)) q
     (changed_go a b p (λ h. after_chain h x) (λ h. after_chain h y) (held_at a p) (held_at b p) s (held_both a b p s) refl refl
-    (λ h k e m. record { share = share_chained h.share x.share k.share y.share m.share o.share; head = m.head; tail = o.tail; first = m.first; last = o.last; segs = omega (arith, m.segs, o.segs) })
+    (λ h k e m. record {
+      share = share_chained h.share x.share k.share y.share m.share o.share;
+      head = m.head;
+      tail = o.tail;
+      first = m.first;
+      last = o.last;
+      segs = omega (arith, m.segs, o.segs);
+    })
     (keeps_moved a.facts (changed a p (λ h. after_chain h x)).facts b.facts (changed b p (λ h. after_chain h y)).facts
-    (changed_belongs a p (λ h. after_chain h x) (λ h e g. chained_apart h.share x.share g ∙ sym (sym (belongs_at a.facts g p (held h) (fact_at a p h e)) ∙ out g)))
-    (changed_belongs b p (λ h. after_chain h y) (λ h e g. chained_apart h.share y.share g ∙ sym (sym (belongs_at b.facts g p (held h) (fact_at b p h e)) ∙ out' g)))
+    (changed_belongs a p (λ h. after_chain h x) (λ h e g. chained_apart h.share x.share g
+    ∙ sym (sym (belongs_at a.facts g p (held h) (fact_at a p h e)) ∙ out g)))
+    (changed_belongs b p (λ h. after_chain h y) (λ h e g. chained_apart h.share y.share g
+    ∙ sym (sym (belongs_at b.facts g p (held h) (fact_at b p h e)) ∙ out' g)))
     s.groups))
 chain_go a b p q None (Some y) s out out' o = absurd o
 chain_go a b p q (Some x) None s out out' o = absurd o
@@ -218,12 +246,14 @@ chain_keeps a b p q s fits =
     let a' = dissolved (dissolved a p) q in
     let b' = dissolved (dissolved b p) q in
     chain_go a' b' p q (held_at a' q) (held_at b' q) two
-    (λ g. dissolved_stays (dissolved a p) q p g (dissolved_out a p g)) (λ g. dissolved_stays (dissolved b p) q p g (dissolved_out b p g)) (held_both a' b' q two)
+    (λ g. dissolved_stays (dissolved a p) q p g (dissolved_out a p g)) (λ g. dissolved_stays (dissolved b p) q p g (dissolved_out b p g))
+    (held_both a' b' q two)
 
 -- ---- a packet is freed
 
 -- the least register of a group is the same where the same registers belong
-least_same : (xs ys : List Fact) (g i : ℕ) → length xs ≡ length ys → ((j : ℕ) → belongs xs g j ≡ belongs ys g j) → position_from (is_in g) i xs ≡ position_from (is_in g) i ys
+least_same : (xs ys : List Fact) (g i : ℕ) → length xs ≡ length ys → ((j : ℕ) → belongs xs g j ≡ belongs ys g j) → position_from (is_in g) i xs
+    ≡ position_from (is_in g) i ys
 least_same [] [] g i long same = refl
 least_same (x ∷ xs) (y ∷ ys) g i long same = by_cases (is_in g y)
     (λ here. let first : is_in g x ≡ true = same 0 ∙ here in rw (first, here) refl)
@@ -238,10 +268,12 @@ share_left_same : (xs ys : List Fact) (g : ℕ) → length xs ≡ length ys → 
 share_left_same xs ys g long same = rw (size_same xs ys g g long same, least_is xs ys g long same) refl
 
 -- the name of what is left of a group is that of no other
-left_share : (a : Row) (p g x i : ℕ) → AreWellFormed a → (f : Fact) → slice_get a.facts p ≡ Some f → belongs (emptied a p).facts x i ≡ true → x ≢ g → (share_left (emptied a p).facts g == share_of_group x) ≡ false
+left_share : (a : Row) (p g x i : ℕ) → AreWellFormed a → (f : Fact) → slice_get a.facts p ≡ Some f → belongs (emptied a p).facts x i ≡ true → x ≢ g →
+    (share_left (emptied a p).facts g == share_of_group x) ≡ false
 left_share a p g x i fits f at inside ne = by_cases (size (emptied a p).facts g == 1)
     (λ one. ap (λ b. cond b 2 (option_map_or share_of_group (least (emptied a p).facts g) 0) == share_of_group x) one ∙ sole_no_group x)
-    (λ more. ap (λ b. cond b 2 (option_map_or share_of_group (least (emptied a p).facts g) 0) == share_of_group x) more ∙ named (least (emptied a p).facts g) refl)
+    (λ more. ap (λ b. cond b 2 (option_map_or share_of_group (least (emptied a p).facts g) 0) == share_of_group x) more
+    ∙ named (least (emptied a p).facts g) refl)
   where
     named : (o : Option ℕ) → least (emptied a p).facts g ≡ o → (option_map_or share_of_group (least (emptied a p).facts g) 0 == share_of_group x) ≡ false
     named None e = ap (λ o. option_map_or share_of_group o 0 == share_of_group x) e ∙ loose_no_group x
@@ -253,7 +285,8 @@ left_share a p g x i fits f at inside ne = by_cases (size (emptied a p).facts g 
         (left_name a p g m (groups_of_row a fits) f at (least_belongs (emptied a p).facts g m e)))
 
 -- what is left of a group is renamed in the first row alone
-renamed_left : (a b : Row) (p g : ℕ) → AreWellFormed a → (f : Fact) → slice_get a.facts p ≡ Some f → Stronger (emptied a p) (emptied b p) → ((i : ℕ) → belongs (emptied b p).facts g i ≡ false) → Stronger (renamed (emptied a p) g) (emptied b p)
+renamed_left : (a b : Row) (p g : ℕ) → AreWellFormed a → (f : Fact) → slice_get a.facts p ≡ Some f → Stronger (emptied a p) (emptied b p) →
+    ((i : ℕ) → belongs (emptied b p).facts g i ≡ false) → Stronger (renamed (emptied a p) g) (emptied b p)
 renamed_left a b p g fits f at s none =
     let n = share_left (emptied a p).facts g in
     record {
@@ -264,24 +297,28 @@ renamed_left a b p g fits f at s none =
           let ne : x ≢ g = λ same. let wrong : true ≡ false = sym inside ∙ (ap (λ y. belongs (emptied b p).facts y i) same ∙ none i) in cc in
           let before : belongs (emptied a p).facts x i ≡ true = s.groups i x inside i ∙ inside in
           by_cases (belongs (emptied a p).facts g j)
-          (λ here. belongs_in (emptied a p).facts x g n j here ∙ (left_share a p g x i fits f at before ne ∙ (sym (in_one (emptied a p).facts g x j ne here) ∙ s.groups i x inside j)))
+          (λ here. belongs_in (emptied a p).facts x g n j here ∙ (left_share a p g x i fits f at before ne
+          ∙ (sym (in_one (emptied a p).facts g x j ne here) ∙ s.groups i x inside j)))
           (λ away. belongs_out (emptied a p).facts x g n j away ∙ s.groups i x inside j);
       bounds = s.bounds;
     }
 
 -- in both rows, by a name that no other group has
-renamed_both : (a b : Row) (g n : ℕ) → Stronger a b → ((j : ℕ) → belongs a.facts g j ≡ belongs b.facts g j) → ((x i : ℕ) → belongs a.facts x i ≡ true → x ≢ g → (n == share_of_group x) ≡ false) → Stronger (with_shares a g n) (with_shares b g n)
+renamed_both : (a b : Row) (g n : ℕ) → Stronger a b → ((j : ℕ) → belongs a.facts g j ≡ belongs b.facts g j) →
+    ((x i : ℕ) → belongs a.facts x i ≡ true → x ≢ g → (n == share_of_group x) ≡ false) → Stronger (with_shares a g n) (with_shares b g n)
 renamed_both a b g n s same named = record {
   live = s.live;
   other_live = s.other_live;
   facts = reshared_both g n a.facts b.facts s.facts same;
   groups = λ i x inside j. by_cases (belongs a.facts g j)
       (λ here. belongs_in a.facts x g n j here ∙ sym (belongs_in b.facts x g n j (sym (same j) ∙ here)))
-      (λ away. belongs_out a.facts x g n j away ∙ (by_cases (belongs b.facts g i) (renamed i x j inside away) (λ out. s.groups i x (sym (belongs_out b.facts x g n i out) ∙ inside) j) ∙ sym (belongs_out b.facts x g n j (sym (same j) ∙ away))));
+      (λ away. belongs_out a.facts x g n j away ∙ (by_cases (belongs b.facts g i) (renamed i x j inside away)
+      (λ out. s.groups i x (sym (belongs_out b.facts x g n i out) ∙ inside) j) ∙ sym (belongs_out b.facts x g n j (sym (same j) ∙ away))));
   bounds = s.bounds;
 }
   where
-    renamed : (i x j : ℕ) → belongs (reshared g n b.facts) x i ≡ true → belongs a.facts g j ≡ false → belongs b.facts g i ≡ true → belongs a.facts x j ≡ belongs b.facts x j
+    renamed : (i x j : ℕ) → belongs (reshared g n b.facts) x i ≡ true → belongs a.facts g j ≡ false → belongs b.facts g i ≡ true →
+        belongs a.facts x j ≡ belongs b.facts x j
     renamed i x j inside away ig = by_cases (belongs b.facts x j)
         (λ there. s.groups j x there j)
         (λ gone. by_cases (belongs a.facts x j)
@@ -299,8 +336,11 @@ free_keeps a b p s fits fits' = go (group_at a p) (group_at b p) refl refl
     e : Stronger (emptied a p) (emptied b p)
     e = emptied_keeps a b p s
 
-    made : (o o' : Option ℕ) → Stronger (option_map_or (λ g. renamed (emptied a p) g) o (emptied a p)) (option_map_or (λ g. renamed (emptied b p) g) o' (emptied b p)) → group_at a p ≡ o → group_at b p ≡ o' → Stronger (after_free a p) (after_free b p)
-    made o o' z ea eb = subst (λ x. Stronger (option_map_or (λ g. renamed (emptied a p) g) x (emptied a p)) (after_free b p)) (sym ea) (subst (λ x. Stronger (option_map_or (λ g. renamed (emptied a p) g) o (emptied a p)) (option_map_or (λ g. renamed (emptied b p) g) x (emptied b p))) (sym eb) z)
+    made : (o o' : Option ℕ) → Stronger (option_map_or (λ g. renamed (emptied a p) g) o (emptied a p))
+        (option_map_or (λ g. renamed (emptied b p) g) o' (emptied b p)) → group_at a p ≡ o → group_at b p ≡ o' → Stronger (after_free a p) (after_free b p)
+    made o o' z ea eb = subst (λ x. Stronger (option_map_or (λ g. renamed (emptied a p) g) x (emptied a p)) (after_free b p)) (sym ea)
+        (subst (λ x. Stronger (option_map_or (λ g. renamed (emptied a p) g) o (emptied a p)) (option_map_or (λ g. renamed (emptied b p) g) x (emptied b p)))
+        (sym eb) z)
 
     both : (g : ℕ) → group_at b p ≡ Some g → (j : ℕ) → belongs a.facts g j ≡ belongs b.facts g j
     both g eb = s.groups p g (group_at_belongs b p g eb)
@@ -326,7 +366,8 @@ free_keeps a b p s fits fits' = go (group_at a p) (group_at b p) refl refl
         let there : belongs a.facts x p ≡ true = both x eb p ∙ group_at_belongs b p x eb in
         let same : g ≡ x = same_Some g x (sym ea ∙ group_at_is a p x there) in
         let left : (j : ℕ) → belongs (emptied a p).facts x j ≡ belongs (emptied b p).facts x j = λ j. ⊎_elim
-        (λ is. ap (belongs (emptied a p).facts x) is ∙ (set_out a.facts p x Empty refl ∙ (sym (set_out b.facts p x Empty refl) ∙ ap (belongs (emptied b p).facts x) (sym is))))
+        (λ is. ap (belongs (emptied a p).facts x) is ∙ (set_out a.facts p x Empty refl
+        ∙ (sym (set_out b.facts p x Empty refl) ∙ ap (belongs (emptied b p).facts x) (sym is))))
         (λ ne. belongs_other a.facts x p j Empty ne ∙ (both x eb j ∙ sym (belongs_other b.facts x p j Empty ne)))
         (cases_eq j p) in
         let names = share_left_same (emptied a p).facts (emptied b p).facts x (zip_length StrongerFact (emptied a p).facts (emptied b p).facts e.facts) left in
@@ -340,10 +381,12 @@ free_keeps a b p s fits fits' = go (group_at a p) (group_at b p) refl refl
 -- ---- a packet is cloned: the target is empty
 
 -- the groups of the twin of a packet
-twin_facts : (row : Row) (p q n : ℕ) (h : Holding) → held_at row q ≡ Some h → (twin row p q h n).facts ≡ slice_set (slice_set row.facts q (held (shared n h))) p (held (shared n h))
+twin_facts : (row : Row) (p q n : ℕ) (h : Holding) → held_at row q ≡ Some h →
+    (twin row p q h n).facts ≡ slice_set (slice_set row.facts q (held (shared n h))) p (held (shared n h))
 twin_facts row p q n h e = ap (λ r. slice_set r.facts p (held (shared n h))) (changed_is row q (shared n) h e)
 
-twin_p : (row : Row) (p q n : ℕ) (h : Holding) (f : Fact) (x : ℕ) → held_at row q ≡ Some h → slice_get row.facts p ≡ Some f → p ≢ q → belongs (twin row p q h n).facts x p ≡ (n == share_of_group x)
+twin_p : (row : Row) (p q n : ℕ) (h : Holding) (f : Fact) (x : ℕ) → held_at row q ≡ Some h → slice_get row.facts p ≡ Some f → p ≢ q →
+    belongs (twin row p q h n).facts x p ≡ (n == share_of_group x)
 twin_p row p q n h f x e at ne =
     ap (λ fs. belongs fs x p) (twin_facts row p q n h e)
     ∙ belongs_set (slice_set row.facts q (held (shared n h))) x p f (held (shared n h)) (get_set_other row.facts q p (held (shared n h)) ne ∙ at)
@@ -351,9 +394,11 @@ twin_p row p q n h f x e at ne =
 twin_q : (row : Row) (p q n : ℕ) (h : Holding) (x : ℕ) → held_at row q ≡ Some h → p ≢ q → belongs (twin row p q h n).facts x q ≡ (n == share_of_group x)
 twin_q row p q n h x e ne =
     ap (λ fs. belongs fs x q) (twin_facts row p q n h e)
-    ∙ (belongs_other (slice_set row.facts q (held (shared n h))) x p q (held (shared n h)) (λ is. ne (sym is)) ∙ belongs_set row.facts x q (held h) (held (shared n h)) (fact_at row q h e))
+    ∙ (belongs_other (slice_set row.facts q (held (shared n h))) x p q (held (shared n h)) (λ is. ne (sym is))
+    ∙ belongs_set row.facts x q (held h) (held (shared n h)) (fact_at row q h e))
 
-twin_else : (row : Row) (p q n : ℕ) (h : Holding) (x i : ℕ) → held_at row q ≡ Some h → i ≢ p → i ≢ q → belongs (twin row p q h n).facts x i ≡ belongs row.facts x i
+twin_else : (row : Row) (p q n : ℕ) (h : Holding) (x i : ℕ) → held_at row q ≡ Some h → i ≢ p → i ≢ q → belongs (twin row p q h n).facts x i
+    ≡ belongs row.facts x i
 twin_else row p q n h x i e np nq =
     ap (λ fs. belongs fs x i) (twin_facts row p q n h e)
     ∙ (belongs_other (slice_set row.facts q (held (shared n h))) x p i (held (shared n h)) np ∙ belongs_other row.facts x q i (held (shared n h)) nq)
@@ -400,11 +445,14 @@ twin_keeps a b p q n n' x y s t = record {
     more : StrongerHolding (shared n x) (shared n' y)
     more = record { share = t.share; head = t.more.head; tail = t.more.tail; first = t.more.first; last = t.more.last; segs = t.more.segs }
 
-    both : (g j : ℕ) → (n == share_of_group g) ≡ (n' == share_of_group g) → belongs a.facts g j ≡ belongs b.facts g j → belongs (twin a p q x n).facts g j ≡ belongs (twin b p q y n').facts g j
+    both : (g j : ℕ) → (n == share_of_group g) ≡ (n' == share_of_group g) → belongs a.facts g j ≡ belongs b.facts g j → belongs (twin a p q x n).facts g j
+        ≡ belongs (twin b p q y n').facts g j
     both g j name same = ⊎_elim
-        (λ is. ap (belongs (twin a p q x n).facts g) is ∙ (twin_p a p q n x t.fa g t.first t.at t.apart ∙ (name ∙ (sym (twin_p b p q n' y t.fb g t.second t.at' t.apart) ∙ ap (belongs (twin b p q y n').facts g) (sym is)))))
+        (λ is. ap (belongs (twin a p q x n).facts g) is ∙ (twin_p a p q n x t.fa g t.first t.at t.apart
+        ∙ (name ∙ (sym (twin_p b p q n' y t.fb g t.second t.at' t.apart) ∙ ap (belongs (twin b p q y n').facts g) (sym is)))))
         (λ np. ⊎_elim
-        (λ is. ap (belongs (twin a p q x n).facts g) is ∙ (twin_q a p q n x g t.first t.apart ∙ (name ∙ (sym (twin_q b p q n' y g t.second t.apart) ∙ ap (belongs (twin b p q y n').facts g) (sym is)))))
+        (λ is. ap (belongs (twin a p q x n).facts g) is ∙ (twin_q a p q n x g t.first t.apart
+        ∙ (name ∙ (sym (twin_q b p q n' y g t.second t.apart) ∙ ap (belongs (twin b p q y n').facts g) (sym is)))))
         (λ nq. twin_else a p q n x g j t.first np nq ∙ (same ∙ sym (twin_else b p q n' y g j t.second np nq)))
         (cases_eq j q))
         (cases_eq j p)
@@ -412,7 +460,8 @@ twin_keeps a b p q n n' x y s t = record {
     fresh : (g j : ℕ) → (n' == share_of_group g) ≡ true → belongs (twin a p q x n).facts g j ≡ belongs (twin b p q y n').facts g j
     fresh g j e = let (name, same) = t.new g e in both g j (name ∙ sym e) (same j)
 
-    stale : (i g j : ℕ) → (n' == share_of_group g) ≡ false → belongs (twin b p q y n').facts g i ≡ true → belongs (twin a p q x n).facts g j ≡ belongs (twin b p q y n').facts g j
+    stale : (i g j : ℕ) → (n' == share_of_group g) ≡ false → belongs (twin b p q y n').facts g i ≡ true → belongs (twin a p q x n).facts g j
+        ≡ belongs (twin b p q y n').facts g j
     stale i g j out inside = ⊎_elim
         (λ one. let wrong : true ≡ false = sym inside ∙ (one g ∙ out) in cc)
         (λ (np, nq).
@@ -448,7 +497,8 @@ reshared_empty (f ∷ facts) g n zero e = ap (λ x. Some (reshared_fact g n x)) 
 reshared_empty (f ∷ facts) g n (suc p) e = reshared_empty facts g n p e
 
 -- all of the source's group get another share
-reshared_at : (facts : List Fact) (g n q : ℕ) (h : Holding) → slice_get facts q ≡ Some (held h) → (h.share == share_of_group g) ≡ true → slice_get (reshared g n facts) q ≡ Some (held (shared n h))
+reshared_at : (facts : List Fact) (g n q : ℕ) (h : Holding) → slice_get facts q ≡ Some (held h) → (h.share == share_of_group g) ≡ true →
+    slice_get (reshared g n facts) q ≡ Some (held (shared n h))
 reshared_at [] g n q h e inside = cc
 reshared_at (f ∷ facts) g n zero h e inside =
     let is : f ≡ held h = same_Some f (held h) e in
@@ -460,18 +510,22 @@ reshared_at (f ∷ facts) g n (suc q) h e inside = reshared_at facts g n q h e i
 -- the name is that of the group, or of a register to whose name no register belongs
 least_name : (row : Row) (p g : ℕ) → AreWellFormed row → slice_get row.facts p ≡ Some Empty → (min p g ≡ g) ⊎ ((i : ℕ) → belongs row.facts (min p g) i ≡ false)
 least_name row p g fits at = by_cases (nat_le p g)
-    (λ less. let is : min p g ≡ p = omega (arith, leb-true p g less) in inr (subst (λ n. (i : ℕ) → belongs row.facts n i ≡ false) (sym is) (unnamed row.facts p (groups_of_row row fits) (belongs_at row.facts p p Empty at))))
+    (λ less. let is : min p g ≡ p = omega (arith, leb-true p g less) in
+    inr (subst (λ n. (i : ℕ) → belongs row.facts n i ≡ false) (sym is)
+    (unnamed row.facts p (groups_of_row row fits) (belongs_at row.facts p p Empty at))))
     (λ more. inl (omega (arith, leb-false p g more)))
 
 -- so it is that of no other group
-name_free : (row : Row) (p g x i : ℕ) → AreWellFormed row → slice_get row.facts p ≡ Some Empty → belongs row.facts x i ≡ true → x ≢ g → (share_of_group (min p g) == share_of_group x) ≡ false
+name_free : (row : Row) (p g x i : ℕ) → AreWellFormed row → slice_get row.facts p ≡ Some Empty → belongs row.facts x i ≡ true → x ≢ g →
+    (share_of_group (min p g) == share_of_group x) ≡ false
 name_free row p g x i fits at inside ne = other_group (min p g) x (λ same. ⊎_elim
     (λ is. ne (sym same ∙ is))
     (λ none. let wrong : true ≡ false = sym inside ∙ (ap (λ n. belongs row.facts n i) (sym same) ∙ none i) in cc)
     (least_name row p g fits at))
 
 -- where the source belongs to no group, no register has the name of the new one
-new_name : (row : Row) (p q : ℕ) → AreWellFormed row → slice_get row.facts p ≡ Some Empty → group_at row q ≡ None → (i : ℕ) → belongs row.facts (min p q) i ≡ false
+new_name : (row : Row) (p q : ℕ) → AreWellFormed row → slice_get row.facts p ≡ Some Empty → group_at row q ≡ None →
+    (i : ℕ) → belongs row.facts (min p q) i ≡ false
 new_name row p q fits at t = ⊎_elim
     (λ is. subst (λ n. (i : ℕ) → belongs row.facts n i ≡ false) (sym is) (unnamed row.facts q (groups_of_row row fits) (group_at_none row q t q)))
     (λ none. none)
@@ -498,12 +552,14 @@ record Sources (a b : Row) (p q : ℕ) (x y : Holding) : Type 0 where
   pub apart : p ≢ q
 
 -- the source belongs to the same group in both
-clone_both : (a b : Row) (p q g : ℕ) (x y : Holding) → Sources a b p q x y → group_at a q ≡ Some g → group_at b q ≡ Some g → Stronger (joins a p q x g) (joins b p q y g)
+clone_both : (a b : Row) (p q g : ℕ) (x y : Holding) → Sources a b p q x y → group_at a q ≡ Some g → group_at b q ≡ Some g →
+    Stronger (joins a p q x g) (joins b p q y g)
 clone_both a b p q g x y c t t' =
     let n = share_of_group (min p g) in
     let r = with_shares a g n in
     let r' = with_shares b g n in
-    let s : Stronger r r' = renamed_both a b g n c.stronger (c.stronger.groups q g (group_at_belongs b q g t')) (λ z i inside ne. name_free a p g z i c.fits c.at inside ne) in
+    let s : Stronger r r' = renamed_both a b g n c.stronger (c.stronger.groups q g (group_at_belongs b q g t'))
+    (λ z i inside ne. name_free a p g z i c.fits c.at inside ne) in
     let e : held_at r q ≡ Some (shared n x) = held_reshared a q g n x c.first t in
     let e' : held_at r' q ≡ Some (shared n y) = held_reshared b q g n y c.second t' in
     twin_keeps r r' p q n n (shared n x) (shared n y) s (record {
@@ -521,7 +577,8 @@ clone_both a b p q g x y c t t' =
     })
 
 -- it belongs to one in the first row alone
-clone_left : (a b : Row) (p q g : ℕ) (x y : Holding) → Sources a b p q x y → group_at a q ≡ Some g → group_at b q ≡ None → Stronger (joins a p q x g) (twin b p q y 0)
+clone_left : (a b : Row) (p q g : ℕ) (x y : Holding) → Sources a b p q x y → group_at a q ≡ Some g → group_at b q ≡ None →
+    Stronger (joins a p q x g) (twin b p q y 0)
 clone_left a b p q g x y c t t' =
     twin_keeps r b p q n 0 (shared n x) y s (record {
       first = e;
@@ -561,7 +618,8 @@ clone_left a b p q g x y c t t' =
       other_live = c.stronger.other_live;
       facts = reshared_left g n a.facts b.facts c.stronger.facts (λ i inside. none i);
       groups = λ i z inside j. by_cases (belongs a.facts g j)
-          (λ here. belongs_in a.facts z g n j here ∙ (name_free a p g z i c.fits c.at (before i z inside) (other i z inside) ∙ (sym (in_one a.facts g z j (other i z inside) here) ∙ c.stronger.groups i z inside j)))
+          (λ here. belongs_in a.facts z g n j here ∙ (name_free a p g z i c.fits c.at (before i z inside) (other i z inside)
+          ∙ (sym (in_one a.facts g z j (other i z inside) here) ∙ c.stronger.groups i z inside j)))
           (λ away. belongs_out a.facts z g n j away ∙ c.stronger.groups i z inside j);
       bounds = c.stronger.bounds;
     }
@@ -570,14 +628,17 @@ clone_left a b p q g x y c t t' =
     e = held_reshared a q g n x c.first t
 
 -- it belongs to none in either
-clone_begun : (a b : Row) (p q : ℕ) (x y : Holding) → Sources a b p q x y → group_at a q ≡ None → group_at b q ≡ None → Stronger (twin a p q x (twin_share p q x)) (twin b p q y (twin_share p q y))
+clone_begun : (a b : Row) (p q : ℕ) (x y : Holding) → Sources a b p q x y → group_at a q ≡ None → group_at b q ≡ None →
+    Stronger (twin a p q x (twin_share p q x)) (twin b p q y (twin_share p q y))
 clone_begun a b p q x y c t t' = go (x.share == 2) (y.share == 2) refl refl
   where
     n : ℕ
     n = share_of_group (min p q)
 
-    made : (m m' : ℕ) → entails_share m m' ≡ true → ((z : ℕ) → (m' == share_of_group z) ≡ true → ((m == share_of_group z) ≡ true) × ((j : ℕ) → belongs a.facts z j ≡ belongs b.facts z j))
-        → ((z i : ℕ) → belongs b.facts z i ≡ true → (m' == share_of_group z) ≡ false → (m == share_of_group z) ≡ false) → Stronger (twin a p q x m) (twin b p q y m')
+    made : (m m' : ℕ) → entails_share m m' ≡ true → ((z : ℕ) → (m' == share_of_group z) ≡ true →
+        ((m == share_of_group z) ≡ true) × ((j : ℕ) → belongs a.facts z j ≡ belongs b.facts z j))
+        → ((z i : ℕ) → belongs b.facts z i ≡ true → (m' == share_of_group z) ≡ false → (m == share_of_group z) ≡ false) →
+        Stronger (twin a p q x m) (twin b p q y m')
     made m m' share new old = twin_keeps a b p q m m' x y c.stronger (record {
       first = c.first;
       second = c.second;
@@ -607,14 +668,16 @@ clone_begun a b p q x y c t t' = go (x.share == 2) (y.share == 2) refl refl
             (is, λ j. subst (λ k. belongs a.facts k j ≡ belongs b.facts k j) same (new_name a p q c.fits c.at t j ∙ sym (new_name b p q c.fits' c.at' t' j))))
             (λ z i inside out. out)
         each true false eu ev = made n 0 (share_zero n 0 refl) (no_new n)
-            (λ z i inside out. other_group (min p q) z (λ same. let wrong : true ≡ false = sym inside ∙ (ap (λ k. belongs b.facts k i) (sym same) ∙ new_name b p q c.fits' c.at' t' i) in cc))
+            (λ z i inside out. other_group (min p q) z (λ same. let wrong : true ≡ false = sym inside
+            ∙ (ap (λ k. belongs b.facts k i) (sym same) ∙ new_name b p q c.fits' c.at' t' i) in cc))
         each false true eu ev =
             let two : x.share ≡ 2 = sole_more x.share y.share c.more.share (eqb-true y.share 2 ev) in
             let wrong : true ≡ false = sym (eq-eqb x.share 2 two) ∙ eu in cc
         each false false eu ev = made 0 0 (share_same 0) (no_new 0) (λ z i inside out. out)
 
 -- what a clone leaves
-clone_is : (row : Row) (p q : ℕ) (h : Holding) (o : Option ℕ) → held_at row q ≡ Some h → group_at row q ≡ o → after_clone row p q ≡ option_map_or (joins row p q h) o (twin row p q h (twin_share p q h))
+clone_is : (row : Row) (p q : ℕ) (h : Holding) (o : Option ℕ) → held_at row q ≡ Some h → group_at row q ≡ o →
+    after_clone row p q ≡ option_map_or (joins row p q h) o (twin row p q h (twin_share p q h))
 clone_is row p q h o e t =
     ap (λ u. option_map_or (λ h. option_map_or (joins row p q h) (group_at row q) (twin row p q h (twin_share p q h))) u row) e
     ∙ ap (λ u. option_map_or (joins row p q h) u (twin row p q h (twin_share p q h))) t
@@ -622,7 +685,8 @@ clone_is row p q h o e t =
 clone_none : (row : Row) (p q : ℕ) → held_at row q ≡ None → after_clone row p q ≡ row
 clone_none row p q e = ap (λ u. option_map_or (λ h. option_map_or (joins row p q h) (group_at row q) (twin row p q h (twin_share p q h))) u row) e
 
-pub clone_keeps : (a b : Row) (p q : ℕ) → Stronger a b → AreWellFormed a → AreWellFormed b → is_empty_at b p ≡ true → Stronger (after_clone a p q) (after_clone b p q)
+pub clone_keeps : (a b : Row) (p q : ℕ) → Stronger a b → AreWellFormed a → AreWellFormed b → is_empty_at b p ≡ true →
+    Stronger (after_clone a p q) (after_clone b p q)
 clone_keeps a b p q s fits fits' target = go (held_at a q) (held_at b q) refl refl (held_both a b q s)
   where
     at' : slice_get b.facts p ≡ Some Empty
@@ -636,16 +700,20 @@ clone_keeps a b p q s fits fits' target = go (held_at a q) (held_at b q) refl re
 
     groups : (x y : Holding) → Sources a b p q x y → (o o' : Option ℕ) → group_at a q ≡ o → group_at b q ≡ o' → Stronger (after_clone a p q) (after_clone b p q)
     groups x y c None None t t' =
-        both (twin a p q x (twin_share p q x)) (twin b p q y (twin_share p q y)) (clone_is a p q x None c.first t) (clone_is b p q y None c.second t') (clone_begun a b p q x y c t t')
+        both (twin a p q x (twin_share p q x)) (twin b p q y (twin_share p q y)) (clone_is a p q x None c.first t) (clone_is b p q y None c.second t')
+        (clone_begun a b p q x y c t t')
     groups x y c (Some g) None t t' =
-        let ne : (y.share == 2) ≡ false = ne_eqb y.share 2 (λ two. absurd (omega (arith, sole_more x.share y.share c.more.share two, eqb-true x.share (8 + g) (held_group a q g x c.first t)))) in
+        let ne : (y.share == 2) ≡ false = ne_eqb y.share 2 (λ two. absurd
+        (omega (arith, sole_more x.share y.share c.more.share two, eqb-true x.share (8 + g) (held_group a q g x c.first t)))) in
         both (joins a p q x g) (twin b p q y (twin_share p q y)) (clone_is a p q x (Some g) c.first t) (clone_is b p q y None c.second t')
         (subst (λ d. Stronger (joins a p q x g) (twin b p q y (cond d (share_of_group (min p q)) 0))) (sym ne) (clone_left a b p q g x y c t t'))
-    groups x y c None (Some g) t t' = let wrong : false ≡ true = sym (group_at_none a q t g) ∙ (s.groups q g (group_at_belongs b q g t') q ∙ group_at_belongs b q g t') in cc
+    groups x y c None (Some g) t t' = let wrong : false ≡ true = sym (group_at_none a q t g)
+        ∙ (s.groups q g (group_at_belongs b q g t') q ∙ group_at_belongs b q g t') in cc
     groups x y c (Some g) (Some h) t t' =
         let there : belongs a.facts h q ≡ true = s.groups q h (group_at_belongs b q h t') q ∙ group_at_belongs b q h t' in
         let same : group_at a q ≡ Some h = group_at_is a q h there in
-        both (joins a p q x h) (joins b p q y h) (clone_is a p q x (Some h) c.first same) (clone_is b p q y (Some h) c.second t') (clone_both a b p q h x y c same t')
+        both (joins a p q x h) (joins b p q y h) (clone_is a p q x (Some h) c.first same) (clone_is b p q y (Some h) c.second t')
+        (clone_both a b p q h x y c same t')
 
     go : (o o' : Option Holding) → held_at a q ≡ o → held_at b q ≡ o' → StrongerOption o o' → Stronger (after_clone a p q) (after_clone b p q)
     go None None e e' m = both a b (clone_none a p q e) (clone_none b p q e') s

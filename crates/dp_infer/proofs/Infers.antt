@@ -1,5 +1,6 @@
 -- The rows that are found pass where some rows do.
-use Rattle.std.proofs.Common.{◌≡◌, ℕ, zero, suc, ◌+◌, ◌<◌, ◌≤◌, Bool, true, false, not, ◌||◌, List, length, set, Option, Some, None, refl, sym, ap, ◌∙◌, subst, inl, inr, arith}
+use Rattle.std.proofs.Common.{◌≡◌, ℕ, zero, suc, ◌+◌, ◌<◌, ◌≤◌, Bool, true, false, not, ◌||◌, List, length, set, Option, Some, None, refl, sym, ap, ◌∙◌}
+use Rattle.std.proofs.Common.{subst, inl, inr, arith}
 use Rattle.std.specs.Prelude.{nat_lt, slice_get, replicate, IsTrue, ◌⊎◌, Result, Ok, Err, IfOk, IfErr}
 use Rattle.std.specs.List.{list_all}
 use Rattle.std.specs.Option.{option_map_or}
@@ -72,19 +73,23 @@ begun_go q (Some row) fits some is e =
       done = λ k lt. absurd (omega arith);
     }
 
-begun_sound : (q : Question) → IsAccepted q → list_all is_well_formed_row q.rows ≡ true → 0 < length q.program → Sound q (begun (entry_row q.env q.entry) (length q.program)) 0
+begun_sound : (q : Question) → IsAccepted q → list_all is_well_formed_row q.rows ≡ true → 0 < length q.program →
+    Sound q (begun (entry_row q.env q.entry) (length q.program)) 0
 begun_sound q accepted fits some = begun_go q (entry_row q.env q.entry) fits some refl (second_rule q accepted)
 
-pub found_sound : (q : Question) → IsForward q.program → IsAccepted q → list_all is_well_formed_row q.rows ≡ true → 0 < length q.program → Sound q (found_rows q.program q.env q.entry) (length q.program)
+pub found_sound : (q : Question) → IsForward q.program → IsAccepted q → list_all is_well_formed_row q.rows ≡ true → 0 < length q.program →
+    Sound q (found_rows q.program q.env q.entry) (length q.program)
 found_sound q forward accepted fits some =
-    let all = spread_sound q q.program 0 (begun (entry_row q.env q.entry) (length q.program)) forward accepted fits (λ k. let e : 0 + k ≡ k = omega arith in rw e refl) (begun_sound q accepted fits some) in
+    let all = spread_sound q q.program 0 (begun (entry_row q.env q.entry) (length q.program)) forward accepted fits (λ k. let e : 0 + k ≡ k = omega arith in
+    rw e refl) (begun_sound q accepted fits some) in
     let e : 0 + length q.program ≡ length q.program = omega arith in
     subst (λ (n : ℕ). Sound q (found_rows q.program q.env q.entry) n) e all
 
 -- ---- the end
 
 -- the rules hold of a live row
-live_hold : (q : Question) (rows : List Row) (label : ℕ) (i : Instr) (row : Row) → IsAccepted q → list_all is_well_formed_row q.rows ≡ true → Sound q rows (length q.program) → slice_get q.program label ≡ Some i → slice_get rows label ≡ Some row → row.live ≡ true
+live_hold : (q : Question) (rows : List Row) (label : ℕ) (i : Instr) (row : Row) → IsAccepted q → list_all is_well_formed_row q.rows ≡ true →
+    Sound q rows (length q.program) → slice_get q.program label ≡ Some i → slice_get rows label ≡ Some row → row.live ≡ true
     → list_all (holds_at (question q.program (certificate_of rows) q.env q.entry) label i row) later_rules ≡ true
 live_hold q rows label i row accepted cert_fits so at_i at_row live =
     let (u, at_u, s) = passes_at q.rows label row (so.fit.below label row at_row live) in
@@ -104,13 +109,15 @@ live_hold q rows label i row accepted cert_fits so at_i at_row live =
     (both_are (end_keeps row u i s each.1.1.1.1.1.1.1.0)
     (both_are entailed refl))))))))
 
-later_hold : (q : Question) (rows : List Row) (label : ℕ) → IsAccepted q → list_all is_well_formed_row q.rows ≡ true → Sound q rows (length q.program) → list_all (holds (question q.program (certificate_of rows) q.env q.entry) label) later_rules ≡ true
+later_hold : (q : Question) (rows : List Row) (label : ℕ) → IsAccepted q → list_all is_well_formed_row q.rows ≡ true → Sound q rows (length q.program) →
+    list_all (holds (question q.program (certificate_of rows) q.env q.entry) label) later_rules ≡ true
 later_hold q rows label accepted cert_fits so = go (slice_get q.program label) (slice_get rows label) refl refl
   where
     r : Question
     r = question q.program (certificate_of rows) q.env q.entry
 
-    at : (i : Instr) (row : Row) (b : Bool) → row.live ≡ b → slice_get q.program label ≡ Some i → slice_get rows label ≡ Some row → list_all (λ rule. not b || holds_at r label i row rule) later_rules ≡ true
+    at : (i : Instr) (row : Row) (b : Bool) → row.live ≡ b → slice_get q.program label ≡ Some i → slice_get rows label ≡ Some row →
+        list_all (λ rule. not b || holds_at r label i row rule) later_rules ≡ true
     at i row false dead at_i at_row = refl
     at i row true live at_i at_row = live_hold q rows label i row accepted cert_fits so at_i at_row live
 
@@ -119,9 +126,11 @@ later_hold q rows label accepted cert_fits so = go (slice_get q.program label) (
     go (Some i) None e f = rw (e, f) refl
     go (Some i) (Some row) e f = rw (e, f) (at i row row.live refl e f)
 
-pub sound_accepted : (q : Question) (rows : List Row) → IsAccepted q → list_all is_well_formed_row q.rows ≡ true → Sound q rows (length q.program) → IsAccepted (question q.program (certificate_of rows) q.env q.entry)
+pub sound_accepted : (q : Question) (rows : List Row) → IsAccepted q → list_all is_well_formed_row q.rows ≡ true → Sound q rows (length q.program) →
+    IsAccepted (question q.program (certificate_of rows) q.env q.entry)
 sound_accepted q rows accepted cert_fits so =
-    is_accepted (question q.program (certificate_of rows) q.env q.entry) (eq-eqb (length rows) (length q.program) so.long) so.begins (λ label. later_hold q rows label accepted cert_fits so)
+    is_accepted (question q.program (certificate_of rows) q.env q.entry) (eq-eqb (length rows) (length q.program) so.long) so.begins
+    (λ label. later_hold q rows label accepted cert_fits so)
 
 -- ---- what is owed
 
@@ -136,29 +145,37 @@ none_other program env entry label rule forward some refused rows h =
     let accepted = sound_accepted (question program (certificate_of rows) env entry) (found_rows program env entry) h.1 h.0 so in
     cc (refused.0, accepted label)
 
-pub most_of : (program : List Instr) (env : Environment) (entry : Entry) (found : List Row) → 1 ≤ length program → found ≡ found_rows program env entry → SaysMost program env entry found
+pub most_of : (program : List Instr) (env : Environment) (entry : Entry) (found : List Row) → 1 ≤ length program → found ≡ found_rows program env entry →
+    SaysMost program env entry found
 most_of program env entry found some e = subst (λ (rows : List Row). SaysMost program env entry rows) (sym e) (says_most program env entry (omega arith))
 
-pub none_of : (program : List Instr) (env : Environment) (entry : Entry) (cert : Certificate) (label : ℕ) (rule : Rule) → 1 ≤ length program → cert ≡ certificate_of (found_rows program env entry)
+pub none_of : (program : List Instr) (env : Environment) (entry : Entry) (cert : Certificate) (label : ℕ) (rule : Rule) → 1 ≤ length program →
+    cert ≡ certificate_of (found_rows program env entry)
     → IsRefused (question program cert env entry) label rule → IsForward program → (rows : List Row) → ¬ Certifies program env entry rows
 none_of program env entry cert label rule some e refused forward =
-    none_other program env entry label rule forward (omega arith) (subst (λ (found : Certificate). IsRefused (question program found env entry) label rule) e refused)
+    none_other program env entry label rule forward (omega arith) (subst (λ (found : Certificate). IsRefused (question program found env entry) label rule) e
+    refused)
 
 pub begun_well_formed : (rows : List Row) (entry : Option Row) (n : ℕ) → rows ≡ begun entry n → IsTrue (list_all is_well_formed_row rows)
 begun_well_formed rows None n e = rw e (dead_well_formed n)
-begun_well_formed rows (Some row) n e = rw e (all_set is_well_formed_row (replicate n dead_row) 0 (joined row row) (dead_well_formed n) (joined_well_formed row row))
+begun_well_formed rows (Some row) n e = rw e (all_set is_well_formed_row (replicate n dead_row) 0 (joined row row) (dead_well_formed n)
+    (joined_well_formed row row))
 
 -- where a forward program is accepted with no rows, none say more
-pub none_but : (program : List Instr) (env : Environment) (entry : Entry) (result : Result Certificate InferError) → (IsForward program → (rows : List Row) → ¬ Certifies program env entry rows) → IfErr result (λ e. IsWithout program env entry e)
+pub none_but : (program : List Instr) (env : Environment) (entry : Entry) (result : Result Certificate InferError) →
+    (IsForward program → (rows : List Row) → ¬ Certifies program env entry rows) → IfErr result (λ e. IsWithout program env entry e)
 none_but program env entry (Ok cert) never = tt
 none_but program env entry (Err Memory) never = tt
 none_but program env entry (Err (NoCert label rule)) never = never
 
-pub best_anyway : {E : Type 0} → (program : List Instr) (env : Environment) (entry : Entry) (result : Result Certificate E) → HasNone program env entry → IfOk result (λ cert. Certifies program env entry cert.rows ⊎ HasNone program env entry)
+pub best_anyway : {E : Type 0} → (program : List Instr) (env : Environment) (entry : Entry) (result : Result Certificate E) → HasNone program env entry →
+    IfOk result (λ cert. Certifies program env entry cert.rows ⊎ HasNone program env entry)
 best_anyway program env entry (Ok cert) never = inr never
 best_anyway program env entry (Err e) never = tt
 
-pub most_anyway : (program : List Instr) (env : Environment) (entry : Entry) (result : Result Certificate InferError) → IfOk result (λ cert. Certifies program env entry cert.rows) → (IsForward program → (rows : List Row) → ¬ Certifies program env entry rows) → IfOk result (λ cert. SaysMost program env entry cert.rows)
+pub most_anyway : (program : List Instr) (env : Environment) (entry : Entry) (result : Result Certificate InferError) →
+    IfOk result (λ cert. Certifies program env entry cert.rows) → (IsForward program → (rows : List Row) → ¬ Certifies program env entry rows) →
+    IfOk result (λ cert. SaysMost program env entry cert.rows)
 most_anyway program env entry (Ok cert) is never = λ forward. absurd (never forward cert.rows is)
 most_anyway program env entry (Err e) is never = tt
 
@@ -166,6 +183,7 @@ begun_long : (entry : Option Row) (n : ℕ) → length (begun entry n) ≡ n
 begun_long None n = dead_long n
 begun_long (Some row) n = length-set (replicate n dead_row) 0 (joined row row) ∙ dead_long n
 
-pub found_long : (program : List Instr) (env : Environment) (entry : Entry) (rows : List Row) → rows ≡ found_rows program env entry → length rows ≡ length program
+pub found_long : (program : List Instr) (env : Environment) (entry : Entry) (rows : List Row) → rows ≡ found_rows program env entry →
+    length rows ≡ length program
 found_long program env entry rows is =
     ap length is ∙ (spread_long env program 0 (begun (entry_row env entry) (length program)) ∙ begun_long (entry_row env entry) (length program))

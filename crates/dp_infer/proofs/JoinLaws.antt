@@ -55,7 +55,8 @@ IsCommon fs gs x = is_group fs x && same_registers fs gs x
 abbrev kept : List Fact → List Fact → ℕ → ℕ
 kept fs gs n = cond (nat_le 8 n) (cond (IsCommon fs gs (n - 8)) n 0) n
 
-common_is : (fs gs : List Fact) (share head tail first last segs : ℕ) → common_fact fs gs (Held share head tail first last segs) ≡ Held (kept fs gs share) head tail first last segs
+common_is : (fs gs : List Fact) (share head tail first last segs : ℕ) → common_fact fs gs (Held share head tail first last segs)
+    ≡ Held (kept fs gs share) head tail first last segs
 common_is fs gs share head tail first last segs = by_cases (nat_le 8 share)
     (λ above. by_cases (IsCommon fs gs (share - 8))
     (λ e. rw (above, e) refl)
@@ -76,7 +77,8 @@ kept_common fs gs n each = by_cases (nat_le 8 n)
     (λ above. rw (above, each (n - 8) (omega (arith, leb-true 8 n above))) refl)
     (λ below. rw below refl)
 
-kept_least : (fs gs : List Fact) (a b u : ℕ) → entails_share a u ≡ true → entails_share b u ≡ true → is_share u ≡ true → ((x : ℕ) → u ≡ share_of_group x → IsCommon fs gs x ≡ true) → entails_share (kept fs gs (joined_share a b)) u ≡ true
+kept_least : (fs gs : List Fact) (a b u : ℕ) → entails_share a u ≡ true → entails_share b u ≡ true → is_share u ≡ true →
+    ((x : ℕ) → u ≡ share_of_group x → IsCommon fs gs x ≡ true) → entails_share (kept fs gs (joined_share a b)) u ≡ true
 kept_least fs gs a b u h k fits each = ⊎_elim
     (λ z. share_zero (kept fs gs (joined_share a b)) u z)
     (⊎_elim
@@ -86,9 +88,12 @@ kept_least fs gs a b u h k fits each = ⊎_elim
     (λ eb.
     let is : joined_share a b ≡ u = subst (λ n. joined_share n b ≡ u) (sym ea) (subst (λ n. joined_share u n ≡ u) (sym eb) (rw (eq-eqb u u refl, fits) refl)) in
     share_is (kept fs gs (joined_share a b)) u (ap (kept fs gs) is ∙ kept_common fs gs u each))
-    (λ (two, one). subst (λ n. entails_share (kept fs gs (joined_share a b)) n ≡ true) (sym one) (subst (λ n. entails_share (kept fs gs (joined_share n b)) 1 ≡ true) (sym (ea ∙ one)) (subst (λ n. entails_share (kept fs gs (joined_share 1 n)) 1 ≡ true) (sym two) refl))))
+    (λ (two, one). subst (λ n. entails_share (kept fs gs (joined_share a b)) n
+    ≡ true) (sym one) (subst (λ n. entails_share (kept fs gs (joined_share n b)) 1
+    ≡ true) (sym (ea ∙ one)) (subst (λ n. entails_share (kept fs gs (joined_share 1 n)) 1 ≡ true) (sym two) refl))))
     (share_cases b u k))
-    (λ (two, one). subst (λ n. entails_share (kept fs gs (joined_share a b)) n ≡ true) (sym one) (subst (λ n. entails_share (kept fs gs (joined_share n b)) 1 ≡ true) (sym two) (⊎_elim
+    (λ (two, one). subst (λ n. entails_share (kept fs gs (joined_share a b)) n
+    ≡ true) (sym one) (subst (λ n. entails_share (kept fs gs (joined_share n b)) 1 ≡ true) (sym two) (⊎_elim
     (λ z. absurd (omega (arith, z, one)))
     (⊎_elim
     (λ eb. subst (λ n. entails_share (kept fs gs (joined_share 2 n)) 1 ≡ true) (sym (eb ∙ one)) refl)
@@ -102,7 +107,8 @@ kept_least fs gs a b u h k fits each = ⊎_elim
 abbrev AreCommon : List Fact → List Fact → Fact → Type 0
 AreCommon fs gs u = (x : ℕ) → is_in x u ≡ true → IsCommon fs gs x ≡ true
 
-fact_join : (fs gs : List Fact) (f g u : Fact) → StrongerFact f u → StrongerFact g u → is_fact_of_row u ≡ true → AreCommon fs gs u → HaveLeast StrongerFact f g (common_fact fs gs (joined_fact f g)) u
+fact_join : (fs gs : List Fact) (f g u : Fact) → StrongerFact f u → StrongerFact g u → is_fact_of_row u ≡ true → AreCommon fs gs u →
+    HaveLeast StrongerFact f g (common_fact fs gs (joined_fact f g)) u
 fact_join fs gs Empty Empty Empty h k fits common = record { left = tt; right = tt; least = tt }
 fact_join fs gs (Held share head tail first last segs) (Held s h t f l n) (Held s' h' t' f' l' n') p q fits common =
     let (a, most) = and_parts (is_share s' && nat_le 1 n') (nat_le n' 64) fits in
@@ -112,8 +118,22 @@ fact_join fs gs (Held share head tail first last segs) (Held s h t f l n) (Held 
     subst (λ y. HaveLeast StrongerFact (Held share head tail first last segs) (Held s h t f l n) y (Held s' h' t' f' l' n'))
     (sym (common_is fs gs (joined_share share s) (min head h) (min tail t) (min first f) (min last l) (min 64 (max 1 (max segs n)))))
     (record {
-      left = record { share = kept_less fs gs share (joined_share share s) (joined_left share s); head = omega arith; tail = omega arith; first = omega arith; last = omega arith; segs = omega (arith, p.segs, segs_most) };
-      right = record { share = kept_less fs gs s (joined_share share s) (joined_right share s); head = omega arith; tail = omega arith; first = omega arith; last = omega arith; segs = omega (arith, q.segs, segs_most) };
+      left = record {
+        share = kept_less fs gs share (joined_share share s) (joined_left share s);
+        head = omega arith;
+        tail = omega arith;
+        first = omega arith;
+        last = omega arith;
+        segs = omega (arith, p.segs, segs_most);
+      };
+      right = record {
+        share = kept_less fs gs s (joined_share share s) (joined_right share s);
+        head = omega arith;
+        tail = omega arith;
+        first = omega arith;
+        last = omega arith;
+        segs = omega (arith, q.segs, segs_most);
+      };
       least = record {
         share = kept_least fs gs share s s' p.share q.share b (λ x e. common x (eq-eqb s' (8 + x) e));
         head = omega (arith, p.head, q.head);
@@ -128,7 +148,8 @@ fact_join fs gs Empty g (Held s h t f l n) p q fits common = absurd p
 fact_join fs gs (Held share head tail first last segs) g Empty p q fits common = absurd p
 fact_join fs gs (Held share head tail first last segs) Empty (Held s h t f l n) p q fits common = absurd q
 
-each_join : (fs gs xs ys us : List Fact) → AllZip StrongerFact xs us → AllZip StrongerFact ys us → list_all is_fact_of_row us ≡ true → AllByRecursion (AreCommon fs gs) us
+each_join : (fs gs xs ys us : List Fact) → AllZip StrongerFact xs us → AllZip StrongerFact ys us → list_all is_fact_of_row us ≡ true →
+    AllByRecursion (AreCommon fs gs) us
     → HaveLeast (AllZip StrongerFact) xs ys (map (common_fact fs gs) (paired joined_fact xs ys)) us
 each_join fs gs [] [] [] p q fits common = record { left = tt; right = tt; least = tt }
 each_join fs gs (f ∷ xs) (g ∷ ys) (u ∷ us) p q fits common =
@@ -142,7 +163,8 @@ each_join fs gs [] (g ∷ ys) [] p q fits common = absurd q
 each_join fs gs (f ∷ xs) [] (u ∷ us) p q fits common = absurd q
 
 -- the groups of a row that both entail are common to both
-common_at : (fs gs us : List Fact) → length fs ≡ length us → length gs ≡ length us → KeepsGroups fs us → KeepsGroups gs us → are_groups us ≡ true → (i x : ℕ) → belongs us x i ≡ true → IsCommon fs gs x ≡ true
+common_at : (fs gs us : List Fact) → length fs ≡ length us → length gs ≡ length us → KeepsGroups fs us → KeepsGroups gs us → are_groups us ≡ true →
+    (i x : ℕ) → belongs us x i ≡ true → IsCommon fs gs x ≡ true
 common_at fs gs us lf lg kf kg groups i x inside =
     let (u, at, is) = belongs_there us x i inside in
     let here = all_at (λ fact. option_map_or (is_group us) (group_of fact) true) us i u groups at in
@@ -158,15 +180,18 @@ all_common fs gs [] each = tt
 all_common fs gs (u ∷ us) each = (each 0, all_common fs gs us (λ i. each (suc i)))
 
 -- the facts that two rows have in common
-facts_join : (fs gs us : List Fact) → AllZip StrongerFact fs us → AllZip StrongerFact gs us → KeepsGroups fs us → KeepsGroups gs us → list_all is_fact_of_row us ≡ true → are_groups us ≡ true
+facts_join : (fs gs us : List Fact) → AllZip StrongerFact fs us → AllZip StrongerFact gs us → KeepsGroups fs us → KeepsGroups gs us →
+    list_all is_fact_of_row us ≡ true → are_groups us ≡ true
     → HaveLeast (AllZip StrongerFact) fs gs (joined_facts fs gs) us
 facts_join fs gs us p q kp kq fits groups =
-    each_join fs gs fs gs us p q fits (all_common fs gs us (common_at fs gs us (zip_length StrongerFact fs us p) (zip_length StrongerFact gs us q) kp kq groups))
+    each_join fs gs fs gs us p q fits (all_common fs gs us (common_at fs gs us (zip_length StrongerFact fs us p) (zip_length StrongerFact gs us q) kp kq
+    groups))
 
 -- ---- groups
 
 -- a register belongs to a group of what is common exactly where it does in both, and the group is common
-share_in : (fs gs : List Fact) (x a b : ℕ) → kept fs gs (joined_share a b) ≡ share_of_group x → (IsCommon fs gs x ≡ true) × ((a == share_of_group x) ≡ true) × ((b == share_of_group x) ≡ true) × (is_share (share_of_group x) ≡ true)
+share_in : (fs gs : List Fact) (x a b : ℕ) → kept fs gs (joined_share a b) ≡ share_of_group x → (IsCommon fs gs x ≡ true) × ((a == share_of_group x) ≡ true)
+    × ((b == share_of_group x) ≡ true) × (is_share (share_of_group x) ≡ true)
 share_in fs gs x a b e = by_cases (nat_le 8 (joined_share a b))
     (λ above. by_cases (IsCommon fs gs (joined_share a b - 8))
     (λ c.
@@ -192,37 +217,46 @@ share_in fs gs x a b e = by_cases (nat_le 8 (joined_share a b))
     small true = omega arith
     small false = omega arith
 
-elem_in : (fs gs : List Fact) (x : ℕ) (f g : Fact) → is_in x (common_fact fs gs (joined_fact f g)) ≡ true → (IsCommon fs gs x ≡ true) × (is_in x f ≡ true) × (is_in x g ≡ true) × (is_share (share_of_group x) ≡ true)
+elem_in : (fs gs : List Fact) (x : ℕ) (f g : Fact) → is_in x (common_fact fs gs (joined_fact f g)) ≡ true →
+    (IsCommon fs gs x ≡ true) × (is_in x f ≡ true) × (is_in x g ≡ true) × (is_share (share_of_group x) ≡ true)
 elem_in fs gs x Empty g e = cc
 elem_in fs gs x (Held share head tail first last segs) Empty e = cc
 elem_in fs gs x (Held share head tail first last segs) (Held s h t f l n) e =
-    let is = subst (λ y. is_in x y ≡ true) (common_is fs gs (joined_share share s) (min head h) (min tail t) (min first f) (min last l) (min 64 (max 1 (max segs n)))) e in
+    let is = subst (λ y. is_in x y ≡ true) (common_is fs gs (joined_share share s) (min head h) (min tail t) (min first f) (min last l)
+    (min 64 (max 1 (max segs n)))) e in
     share_in fs gs x share s (eqb-true (kept fs gs (joined_share share s)) (8 + x) is)
 
-elem_from : (fs gs : List Fact) (x : ℕ) (f g : Fact) → IsCommon fs gs x ≡ true → is_share (share_of_group x) ≡ true → is_in x f ≡ true → is_in x g ≡ true → is_in x (common_fact fs gs (joined_fact f g)) ≡ true
+elem_from : (fs gs : List Fact) (x : ℕ) (f g : Fact) → IsCommon fs gs x ≡ true → is_share (share_of_group x) ≡ true → is_in x f ≡ true → is_in x g ≡ true →
+    is_in x (common_fact fs gs (joined_fact f g)) ≡ true
 elem_from fs gs x Empty g c fits e e' = cc
 elem_from fs gs x (Held share head tail first last segs) Empty c fits e e' = cc
 elem_from fs gs x (Held share head tail first last segs) (Held s h t f l n) c fits e e' =
     let a = eqb-true share (8 + x) e in
     let b = eqb-true s (8 + x) e' in
-    let is : joined_share share s ≡ 8 + x = subst (λ n. joined_share n s ≡ 8 + x) (sym a) (subst (λ n. joined_share (8 + x) n ≡ 8 + x) (sym b) (rw (eq-eqb (8 + x) (8 + x) refl, fits) refl)) in
-    let left : kept fs gs (joined_share share s) ≡ 8 + x = ap (kept fs gs) is ∙ kept_common fs gs (8 + x) (λ y same. let number : x ≡ y = omega (arith, same) in subst (λ n. IsCommon fs gs n ≡ true) number c) in
-    subst (λ y. is_in x y ≡ true) (sym (common_is fs gs (joined_share share s) (min head h) (min tail t) (min first f) (min last l) (min 64 (max 1 (max segs n))))) (eq-eqb (kept fs gs (joined_share share s)) (8 + x) left)
+    let is : joined_share share s ≡ 8 + x = subst (λ n. joined_share n s
+    ≡ 8 + x) (sym a) (subst (λ n. joined_share (8 + x) n ≡ 8 + x) (sym b) (rw (eq-eqb (8 + x) (8 + x) refl, fits) refl)) in
+    let left : kept fs gs (joined_share share s) ≡ 8 + x = ap (kept fs gs) is
+    ∙ kept_common fs gs (8 + x) (λ y same. let number : x ≡ y = omega (arith, same) in subst (λ n. IsCommon fs gs n ≡ true) number c) in
+    subst (λ y. is_in x y ≡ true) (sym (common_is fs gs (joined_share share s) (min head h) (min tail t) (min first f) (min last l)
+    (min 64 (max 1 (max segs n))))) (eq-eqb (kept fs gs (joined_share share s)) (8 + x) left)
 
-all_in : (fs gs xs ys : List Fact) (x i : ℕ) → belongs (map (common_fact fs gs) (paired joined_fact xs ys)) x i ≡ true → (IsCommon fs gs x ≡ true) × (belongs xs x i ≡ true) × (belongs ys x i ≡ true) × (is_share (share_of_group x) ≡ true)
+all_in : (fs gs xs ys : List Fact) (x i : ℕ) → belongs (map (common_fact fs gs) (paired joined_fact xs ys)) x i ≡ true →
+    (IsCommon fs gs x ≡ true) × (belongs xs x i ≡ true) × (belongs ys x i ≡ true) × (is_share (share_of_group x) ≡ true)
 all_in fs gs [] ys x i e = cc
 all_in fs gs (f ∷ xs) [] x i e = cc
 all_in fs gs (f ∷ xs) (g ∷ ys) x zero e = elem_in fs gs x f g e
 all_in fs gs (f ∷ xs) (g ∷ ys) x (suc i) e = all_in fs gs xs ys x i e
 
-all_out : (fs gs xs ys : List Fact) (x i : ℕ) → IsCommon fs gs x ≡ true → is_share (share_of_group x) ≡ true → belongs xs x i ≡ true → belongs ys x i ≡ true → belongs (map (common_fact fs gs) (paired joined_fact xs ys)) x i ≡ true
+all_out : (fs gs xs ys : List Fact) (x i : ℕ) → IsCommon fs gs x ≡ true → is_share (share_of_group x) ≡ true → belongs xs x i ≡ true → belongs ys x i ≡ true →
+    belongs (map (common_fact fs gs) (paired joined_fact xs ys)) x i ≡ true
 all_out fs gs [] ys x i c fits e e' = cc
 all_out fs gs (f ∷ xs) [] x i c fits e e' = cc
 all_out fs gs (f ∷ xs) (g ∷ ys) x zero c fits e e' = elem_from fs gs x f g c fits e e'
 all_out fs gs (f ∷ xs) (g ∷ ys) x (suc i) c fits e e' = all_out fs gs xs ys x i c fits e e'
 
 -- a common group has the same registers there
-same_there : (fs gs : List Fact) (x : ℕ) → IsCommon fs gs x ≡ true → is_share (share_of_group x) ≡ true → (j : ℕ) → belongs (joined_facts fs gs) x j ≡ belongs fs x j
+same_there : (fs gs : List Fact) (x : ℕ) → IsCommon fs gs x ≡ true → is_share (share_of_group x) ≡ true →
+    (j : ℕ) → belongs (joined_facts fs gs) x j ≡ belongs fs x j
 same_there fs gs x c fits j =
     let (long, each) = same_at fs gs x (and_parts (is_group fs x) (same_registers fs gs x) c).1 in
     by_cases (belongs fs x j)
@@ -244,7 +278,8 @@ group_share us i x fits inside =
         subst (λ n. is_share n ≡ true) (eqb-true share (8 + x) is) b.0
 
 -- and their groups
-groups_join : (fs gs us : List Fact) → AllZip StrongerFact fs us → AllZip StrongerFact gs us → KeepsGroups fs us → KeepsGroups gs us → list_all is_fact_of_row us ≡ true → are_groups us ≡ true
+groups_join : (fs gs us : List Fact) → AllZip StrongerFact fs us → AllZip StrongerFact gs us → KeepsGroups fs us → KeepsGroups gs us →
+    list_all is_fact_of_row us ≡ true → are_groups us ≡ true
     → HaveLeast KeepsGroups fs gs (joined_facts fs gs) us
 groups_join fs gs us p q kp kq fits groups = record {
   left = λ i x inside j. let (c, f, g, s) = all_in fs gs fs gs x i inside in sym (same_there fs gs x c s j);
@@ -279,8 +314,10 @@ elem_fits : (fs gs : List Fact) (f g : Fact) → is_fact_of_row (common_fact fs 
 elem_fits fs gs Empty g = refl
 elem_fits fs gs (Held share head tail first last segs) Empty = refl
 elem_fits fs gs (Held share head tail first last segs) (Held s h t f l n) =
-    subst (λ y. is_fact_of_row y ≡ true) (sym (common_is fs gs (joined_share share s) (min head h) (min tail t) (min first f) (min last l) (min 64 (max 1 (max segs n)))))
-    (both_are (both_are (kept_is_share fs gs (joined_share share s) (joined_is_share share s)) (le-leb 1 (min 64 (max 1 (max segs n))) (omega arith))) (le-leb (min 64 (max 1 (max segs n))) 64 (omega arith)))
+    subst (λ y. is_fact_of_row y ≡ true) (sym (common_is fs gs (joined_share share s) (min head h) (min tail t) (min first f) (min last l)
+    (min 64 (max 1 (max segs n)))))
+    (both_are (both_are (kept_is_share fs gs (joined_share share s) (joined_is_share share s)) (le-leb 1 (min 64 (max 1 (max segs n))) (omega arith)))
+    (le-leb (min 64 (max 1 (max segs n))) 64 (omega arith)))
 
 all_fit : (fs gs xs ys : List Fact) → list_all is_fact_of_row (map (common_fact fs gs) (paired joined_fact xs ys)) ≡ true
 all_fit fs gs [] ys = refl
@@ -293,9 +330,11 @@ length_joined fs gs (f ∷ xs) [] e = absurd (omega arith)
 length_joined fs gs (f ∷ xs) (g ∷ ys) e = ap suc (length_joined fs gs xs ys (omega arith))
 
 joined_groups : (fs gs : List Fact) → are_groups (joined_facts fs gs) ≡ true
-joined_groups fs gs = all_from_each (λ fact. option_map_or (is_group (joined_facts fs gs)) (group_of fact) true) (joined_facts fs gs) (λ i y at. go i y at (group_of y) refl)
+joined_groups fs gs = all_from_each (λ fact. option_map_or (is_group (joined_facts fs gs)) (group_of fact) true) (joined_facts fs gs)
+    (λ i y at. go i y at (group_of y) refl)
   where
-    go : (i : ℕ) (y : Fact) → slice_get (joined_facts fs gs) i ≡ Some y → (o : Option ℕ) → group_of y ≡ o → option_map_or (is_group (joined_facts fs gs)) (group_of y) true ≡ true
+    go : (i : ℕ) (y : Fact) → slice_get (joined_facts fs gs) i ≡ Some y → (o : Option ℕ) → group_of y ≡ o →
+        option_map_or (is_group (joined_facts fs gs)) (group_of y) true ≡ true
     go i y at None e = ap (λ o. option_map_or (is_group (joined_facts fs gs)) o true) e
     go i y at (Some x) e =
         let (c, f, g, s) = all_in fs gs fs gs x i (belongs_at (joined_facts fs gs) x i y at ∙ group_is x y e) in

@@ -31,15 +31,19 @@ leads_tests (x ∷ xs) (y ∷ ys) z = ((z.0.0, row_test x.row y.row z.0.1), lead
 leads_tests [] (y ∷ ys) z = absurd z
 leads_tests (x ∷ xs) [] z = absurd z
 
-pub rows_after : (env : Environment) (label : ℕ) (i : Instr) (a b : Row) → IsTrue (is_well_formed_row a) → IsTrue (is_well_formed_row b) → IsTrue (entails a b) → IsTrue (targets_fit b i) → LeadsEntail (leads env label a i) (leads env label b i)
-rows_after env label i a b fits fits' e target = leads_tests (leads env label a i) (leads env label b i) (leads_keep env label a b i (stronger a b e) (fits_from a fits) (fits_from b fits') target)
+pub rows_after : (env : Environment) (label : ℕ) (i : Instr) (a b : Row) → IsTrue (is_well_formed_row a) → IsTrue (is_well_formed_row b) →
+    IsTrue (entails a b) → IsTrue (targets_fit b i) → LeadsEntail (leads env label a i) (leads env label b i)
+rows_after env label i a b fits fits' e target = leads_tests (leads env label a i) (leads env label b i)
+    (leads_keep env label a b i (stronger a b e) (fits_from a fits) (fits_from b fits') target)
 
-pub rules_hold : (q : Question) (label : ℕ) (i : Instr) (a b : Row) (rule : Rule) → IsTrue (is_well_formed_row a) → IsTrue (is_well_formed_row b) → IsTrue (entails a b) → IsTrue (targets_fit b i) → IsTrue (holds_at q label i b rule) → IsTrue (holds_at q label i a rule)
+pub rules_hold : (q : Question) (label : ℕ) (i : Instr) (a b : Row) (rule : Rule) → IsTrue (is_well_formed_row a) → IsTrue (is_well_formed_row b) →
+    IsTrue (entails a b) → IsTrue (targets_fit b i) → IsTrue (holds_at q label i b rule) → IsTrue (holds_at q label i a rule)
 rules_hold q label i a b J1 fits fits' e target h = refl
 rules_hold q label i a b J2 fits fits' e target h = refl
 rules_hold q label i a b J3 fits fits' e target h =
     let (places, within) = and_parts (places_exist q.env i) (list_all (λ to. nat_lt to.to (length q.program)) (leads q.env label b i)) h in
-    both_are places (labels_keep (λ to. nat_lt to (length q.program)) (leads q.env label a i) (leads q.env label b i) (leads_keep q.env label a b i (stronger a b e) (fits_from a fits) (fits_from b fits') target) within)
+    both_are places (labels_keep (λ to. nat_lt to (length q.program)) (leads q.env label a i) (leads q.env label b i)
+    (leads_keep q.env label a b i (stronger a b e) (fits_from a fits) (fits_from b fits') target) within)
 rules_hold q label i a b J4 fits fits' e target h = all_held_keeps a b (uses i) (stronger a b e) h
 rules_hold q label i a b J5 fits fits' e target h = targets_keep a b i (stronger a b e) h
 rules_hold q label i a b J6 fits fits' e target h = bytes_keep a b i (stronger a b e) (fits_from a fits) h
@@ -47,4 +51,5 @@ rules_hold q label i a b J7 fits fits' e target h = share_keeps a b i (stronger 
 rules_hold q label i a b J8 fits fits' e target h = segments_keep a b i (stronger a b e) (fits_from a fits) h
 rules_hold q label i a b J9 fits fits' e target h = leave_keeps q.env a b i (stronger a b e) h
 rules_hold q label i a b J10 fits fits' e target h = end_keeps a b i (stronger a b e) h
-rules_hold q label i a b J11 fits fits' e target h = entailed_keeps q.rows (leads q.env label a i) (leads q.env label b i) (leads_keep q.env label a b i (stronger a b e) (fits_from a fits) (fits_from b fits') target) h
+rules_hold q label i a b J11 fits fits' e target h = entailed_keeps q.rows (leads q.env label a i) (leads q.env label b i)
+    (leads_keep q.env label a b i (stronger a b e) (fits_from a fits) (fits_from b fits') target) h

@@ -57,7 +57,8 @@ empty_keeps Empty g o e = refl
 empty_keeps (Held share head tail first last segs) Empty o e = absurd o
 empty_keeps (Held share head tail first last segs) (Held s h t f l n) o e = absurd cc
 
-pub empty_at_go : (fs gs : List Fact) (p : ℕ) → AllZip StrongerFact fs gs → option_map_or is_empty (slice_get gs p) false ≡ true → option_map_or is_empty (slice_get fs p) false ≡ true
+pub empty_at_go : (fs gs : List Fact) (p : ℕ) → AllZip StrongerFact fs gs → option_map_or is_empty (slice_get gs p) false ≡ true →
+    option_map_or is_empty (slice_get fs p) false ≡ true
 empty_at_go [] [] p o e = e
 empty_at_go (f ∷ fs) (g ∷ gs) zero o e = empty_keeps f g o.0 e
 empty_at_go (f ∷ fs) (g ∷ gs) (suc p) o e = empty_at_go fs gs p o.1 e

@@ -6,13 +6,15 @@ use Rattle.std.proofs.Math.Seq.{take-suc-set}
 use Rattle.dp_infer.specs.Joins.{paired}
 
 -- the next place
-paired_next : {A : Type 0} (f : A → A → A) (xs ys : List A) (i : ℕ) (x y : A) → slice_get xs i ≡ Some x → slice_get ys i ≡ Some y → paired f (drop i xs) (drop i ys) ≡ f x y ∷ paired f (drop (suc i) xs) (drop (suc i) ys)
+paired_next : {A : Type 0} (f : A → A → A) (xs ys : List A) (i : ℕ) (x y : A) → slice_get xs i ≡ Some x → slice_get ys i ≡ Some y →
+    paired f (drop i xs) (drop i ys) ≡ f x y ∷ paired f (drop (suc i) xs) (drop (suc i) ys)
 paired_next f (a ∷ xs) (b ∷ ys) zero x y e g = cc
 paired_next f (a ∷ xs) (b ∷ ys) (suc i) x y e g = paired_next f xs ys i x y e g
 paired_next f [] ys i x y e g = absurd cc
 paired_next f (a ∷ xs) [] i x y e g = absurd cc
 
-pub paired_more : {A : Type 0} (f : A → A → A) (xs ys out : List A) (i : ℕ) (x y z : A) (total : List A) → slice_get xs i ≡ Some x → slice_get ys i ≡ Some y → z ≡ f x y → i < length out
+pub paired_more : {A : Type 0} (f : A → A → A) (xs ys out : List A) (i : ℕ) (x y z : A) (total : List A) → slice_get xs i ≡ Some x → slice_get ys i ≡ Some y →
+    z ≡ f x y → i < length out
     → take i out ++ paired f (drop i xs) (drop i ys) ≡ total → take (i + 1) (set out i z) ++ paired f (drop (i + 1) xs) (drop (i + 1) ys) ≡ total
 paired_more f xs ys out i x y z total e g is room so_far =
     let grown : take (suc i) (set out i z) ≡ take i out ++ z ∷ [] = take-suc-set out i z room in

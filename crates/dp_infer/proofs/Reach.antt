@@ -1,5 +1,6 @@
 -- Control goes from a label to a later one.
-use Rattle.std.proofs.Common.{◌≡◌, ℕ, zero, suc, ◌<◌, ◌≤◌, Bool, true, false, List, [], ◌∷◌, length, set, Option, Some, None, refl, sym, ◌∙◌, inl, inr, subst, arith}
+use Rattle.std.proofs.Common.{◌≡◌, ℕ, zero, suc, ◌<◌, ◌≤◌, Bool, true, false, List, [], ◌∷◌, length, set, Option, Some, None, refl, sym, ◌∙◌, inl, inr, subst}
+use Rattle.std.proofs.Common.{arith}
 use Rattle.std.specs.Prelude.{nat_lt, slice_get, slice_set}
 use Rattle.std.specs.List.{list_all}
 use Rattle.std.specs.Option.{option_map_or}
@@ -54,13 +55,22 @@ meets there row u old new fits = go there.live refl
     go true e =
         let j = rows_join there row u (old e) new fits in
         let is : met there row ≡ joined there row = rw e refl in
-        record { up = λ h. subst (λ (r : Row). Stronger there r) (sym is) j.left; here = subst (λ (r : Row). Stronger row r) (sym is) j.right; least = subst (λ (r : Row). Stronger r u) (sym is) j.least }
+        record {
+          up = λ h. subst (λ (r : Row). Stronger there r) (sym is) j.left;
+          here = subst (λ (r : Row). Stronger row r) (sym is) j.right;
+          least = subst (λ (r : Row). Stronger r u) (sym is) j.least;
+        }
     go false e =
         let j = rows_join row row u new new fits in
         let is : met there row ≡ joined row row = rw e refl in
-        record { up = λ h. absurd (cc (h, e)); here = subst (λ (r : Row). Stronger row r) (sym is) j.left; least = subst (λ (r : Row). Stronger r u) (sym is) j.least }
+        record {
+          up = λ h. absurd (cc (h, e));
+          here = subst (λ (r : Row). Stronger row r) (sym is) j.left;
+          least = subst (λ (r : Row). Stronger r u) (sym is) j.least;
+        }
 
-reached_is : (label : ℕ) (rows : List Row) (lead : Lead) (there : Row) → label < lead.to → slice_get rows lead.to ≡ Some there → reached label rows lead ≡ set rows lead.to (met there lead.row)
+reached_is : (label : ℕ) (rows : List Row) (lead : Lead) (there : Row) → label < lead.to → slice_get rows lead.to ≡ Some there →
+    reached label rows lead ≡ set rows lead.to (met there lead.row)
 reached_is label rows lead there lt e =
     let test : nat_lt label lead.to ≡ true = le-leb (suc label) lead.to lt in
     rw (test, e) refl
@@ -87,7 +97,8 @@ fit_set q rows i m u fit e s = record {
       ];
 }
 
-pub reach_step : (q : Question) (label : ℕ) (rows : List Row) (lead : Lead) → list_all is_well_formed_row q.rows ≡ true → Fit q rows → label < lead.to → lead.to < length rows
+pub reach_step : (q : Question) (label : ℕ) (rows : List Row) (lead : Lead) → list_all is_well_formed_row q.rows ≡ true → Fit q rows → label < lead.to →
+    lead.to < length rows
     → row_passes q.rows lead.to (entails lead.row) ≡ true
     → Step q label rows (reached label rows lead) × (row_passes (reached label rows lead) lead.to (entails lead.row) ≡ true)
 reach_step q label rows lead fits fit lt within e =
@@ -114,7 +125,8 @@ reach_step q label rows lead fits fit lt within e =
 -- ---- all leads of an instruction
 
 -- what was entailed of leads stays entailed
-pub leads_grow : (rows rows' : List Row) (leads : List Lead) → Grows rows rows' → list_all (λ to. row_passes rows to.to (entails to.row)) leads ≡ true → list_all (λ to. row_passes rows' to.to (entails to.row)) leads ≡ true
+pub leads_grow : (rows rows' : List Row) (leads : List Lead) → Grows rows rows' → list_all (λ to. row_passes rows to.to (entails to.row)) leads ≡ true →
+    list_all (λ to. row_passes rows' to.to (entails to.row)) leads ≡ true
 leads_grow rows rows' [] grows e = refl
 leads_grow rows rows' (lead ∷ leads) grows e =
     let (here, rest) = and_parts (row_passes rows lead.to (entails lead.row)) (list_all (λ to. row_passes rows to.to (entails to.row)) leads) e in
@@ -137,7 +149,8 @@ pass_step q label rows (lead ∷ leads) fits fit later within e =
 
 -- ---- well formed
 
-reached_well_formed : (label : ℕ) (rows : List Row) (lead : Lead) → list_all is_well_formed_row rows ≡ true → list_all is_well_formed_row (reached label rows lead) ≡ true
+reached_well_formed : (label : ℕ) (rows : List Row) (lead : Lead) → list_all is_well_formed_row rows ≡ true →
+    list_all is_well_formed_row (reached label rows lead) ≡ true
 reached_well_formed label rows lead e = go (nat_lt label lead.to) refl
   where
     at : (o : Option Row) → list_all is_well_formed_row (option_map_or (λ there. slice_set rows lead.to (met there lead.row)) o rows) ≡ true
@@ -148,6 +161,7 @@ reached_well_formed label rows lead e = go (nat_lt label lead.to) refl
     go true t = rw t (at (slice_get rows lead.to))
     go false t = rw t e
 
-pub passed_well_formed : (label : ℕ) (rows : List Row) (leads : List Lead) → list_all is_well_formed_row rows ≡ true → list_all is_well_formed_row (passed_on label rows leads) ≡ true
+pub passed_well_formed : (label : ℕ) (rows : List Row) (leads : List Lead) → list_all is_well_formed_row rows ≡ true →
+    list_all is_well_formed_row (passed_on label rows leads) ≡ true
 passed_well_formed label rows [] e = e
 passed_well_formed label rows (lead ∷ leads) e = passed_well_formed label (reached label rows lead) leads (reached_well_formed label rows lead e)

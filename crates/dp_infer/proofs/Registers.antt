@@ -10,7 +10,8 @@ use Rattle.dp_model.specs.Rows.{holding, held_at, bound, with_bound, with_fact}
 use Rattle.dp_infer.proofs.Sharing.{KeepsGroups}
 use Rattle.dp_infer.proofs.Stronger.{StrongerOption, StrongerFact, AtMost, Stronger}
 
-pub zip_set : {A B : Type 0} (R : A → B → Type 0) (xs : List A) (ys : List B) (i : ℕ) (x : A) (y : B) → AllZip R xs ys → R x y → AllZip R (set xs i x) (set ys i y)
+pub zip_set : {A B : Type 0} (R : A → B → Type 0) (xs : List A) (ys : List B) (i : ℕ) (x : A) (y : B) → AllZip R xs ys → R x y →
+    AllZip R (set xs i x) (set ys i y)
 zip_set R [] [] i x y h r = tt
 zip_set R (a ∷ xs) (b ∷ ys) zero x y h r = (r, h.1)
 zip_set R (a ∷ xs) (b ∷ ys) (suc i) x y h r = (h.0, zip_set R xs ys i x y h.1 r)
@@ -38,7 +39,8 @@ bound_set a b r m n h le = record {
   bounds = zip_set AtMost a.bounds b.bounds r m n h.bounds le;
 }
 
-pub fact_set : (a b : Row) (p : ℕ) (f g : Fact) → Stronger a b → StrongerFact f g → KeepsGroups (with_fact a p f).facts (with_fact b p g).facts → Stronger (with_fact a p f) (with_fact b p g)
+pub fact_set : (a b : Row) (p : ℕ) (f g : Fact) → Stronger a b → StrongerFact f g → KeepsGroups (with_fact a p f).facts (with_fact b p g).facts →
+    Stronger (with_fact a p f) (with_fact b p g)
 fact_set a b p f g h s groups = record {
   live = h.live;
   other_live = h.other_live;
@@ -47,7 +49,8 @@ fact_set a b p f g h s groups = record {
   bounds = h.bounds;
 }
 
-facts_at : (fs gs : List Fact) (p : ℕ) → AllZip StrongerFact fs gs → StrongerOption (option_and_then holding (slice_get fs p)) (option_and_then holding (slice_get gs p))
+facts_at : (fs gs : List Fact) (p : ℕ) → AllZip StrongerFact fs gs → StrongerOption (option_and_then holding (slice_get fs p))
+    (option_and_then holding (slice_get gs p))
 facts_at [] [] p h = tt
 facts_at (f ∷ fs) (g ∷ gs) zero h = h.0
 facts_at (f ∷ fs) (g ∷ gs) (suc p) h = facts_at fs gs p h.1

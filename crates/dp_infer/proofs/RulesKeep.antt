@@ -33,25 +33,38 @@ targets_keep a b _ s e = refl
 
 -- at a place that is added to the offset
 from_keeps : (a b : Row) (p x off n : ℕ) → Stronger a b → AreWellFormed a
-    → holds_with b p (λ h. nat_le (bound b (Register x) + off + n) h.first) ≡ true → holds_with a p (λ h. nat_le (bound a (Register x) + off + n) h.first) ≡ true
+    → holds_with b p (λ h. nat_le (bound b (Register x) + off + n) h.first) ≡ true → holds_with a p (λ h. nat_le (bound a (Register x) + off + n) h.first)
+    ≡ true
 from_keeps a b p x off n s fits e =
     holds_keeps a b p (λ h. nat_le (bound a (Register x) + off + n) h.first) (λ h. nat_le (bound b (Register x) + off + n) h.first) s fits
-    (λ h k some m t. le-leb (bound a (Register x) + off + n) h.first (omega (arith, bound_at a b (Register x) s, m.first, leb-true (bound b (Register x) + off + n) k.first t))) e
+    (λ h k some m t. le-leb (bound a (Register x) + off + n) h.first (omega (
+      arith,
+      bound_at a b (Register x) s,
+      m.first,
+      leb-true (bound b (Register x) + off + n) k.first t,
+    ))) e
 
 pub bytes_keep : (a b : Row) (i : Instr) → Stronger a b → AreWellFormed a → bytes_fit b i ≡ true → bytes_fit a i ≡ true
-bytes_keep a b (Prepend p n) s fits e = holds_keeps a b p (λ h. nat_le n h.head) (λ h. nat_le n h.head) s fits (λ h k some m t. le_keeps n h.head k.head m.head t) e
-bytes_keep a b (Adj p n) s fits e = holds_keeps a b p (λ h. nat_le n h.first) (λ h. nat_le n h.first) s fits (λ h k some m t. le_keeps n h.first k.first m.first t) e
-bytes_keep a b (Append p n) s fits e = holds_keeps a b p (λ h. nat_le n h.tail) (λ h. nat_le n h.tail) s fits (λ h k some m t. le_keeps n h.tail k.tail m.tail t) e
-bytes_keep a b (Trim p n) s fits e = holds_keeps a b p (λ h. nat_le n h.last) (λ h. nat_le n h.last) s fits (λ h k some m t. le_keeps n h.last k.last m.last t) e
+bytes_keep a b (Prepend p n) s fits e = holds_keeps a b p (λ h. nat_le n h.head) (λ h. nat_le n h.head) s fits
+    (λ h k some m t. le_keeps n h.head k.head m.head t) e
+bytes_keep a b (Adj p n) s fits e = holds_keeps a b p (λ h. nat_le n h.first) (λ h. nat_le n h.first) s fits
+    (λ h k some m t. le_keeps n h.first k.first m.first t) e
+bytes_keep a b (Append p n) s fits e = holds_keeps a b p (λ h. nat_le n h.tail) (λ h. nat_le n h.tail) s fits
+    (λ h k some m t. le_keeps n h.tail k.tail m.tail t) e
+bytes_keep a b (Trim p n) s fits e = holds_keeps a b p (λ h. nat_le n h.last) (λ h. nat_le n h.last) s fits
+    (λ h k some m t. le_keeps n h.last k.last m.last t) e
 bytes_keep a b (Load r p off w) s fits e =
-    holds_keeps a b p (λ h. nat_le (off + bytes_in w) h.first) (λ h. nat_le (off + bytes_in w) h.first) s fits (λ h k some m t. le_keeps (off + bytes_in w) h.first k.first m.first t) e
+    holds_keeps a b p (λ h. nat_le (off + bytes_in w) h.first) (λ h. nat_le (off + bytes_in w) h.first) s fits
+    (λ h k some m t. le_keeps (off + bytes_in w) h.first k.first m.first t) e
 bytes_keep a b (Store p off w r) s fits e =
-    holds_keeps a b p (λ h. nat_le (off + bytes_in w) h.first) (λ h. nat_le (off + bytes_in w) h.first) s fits (λ h k some m t. le_keeps (off + bytes_in w) h.first k.first m.first t) e
+    holds_keeps a b p (λ h. nat_le (off + bytes_in w) h.first) (λ h. nat_le (off + bytes_in w) h.first) s fits
+    (λ h k some m t. le_keeps (off + bytes_in w) h.first k.first m.first t) e
 bytes_keep a b (LoadX r p x off w) s fits e = from_keeps a b p x off (bytes_in w) s fits e
 bytes_keep a b (StoreX p x off w r) s fits e = from_keeps a b p x off (bytes_in w) s fits e
 bytes_keep a b _ s fits e = refl
 
-append_test : (h k : Holding) → 1 ≤ h.segs → StrongerHolding h k → ((k.share == 2) || ((k.share == 1) && (k.segs == 1))) ≡ true → ((h.share == 2) || ((h.share == 1) && (h.segs == 1))) ≡ true
+append_test : (h k : Holding) → 1 ≤ h.segs → StrongerHolding h k → ((k.share == 2) || ((k.share == 1) && (k.segs == 1))) ≡ true →
+    ((h.share == 2) || ((h.share == 1) && (h.segs == 1))) ≡ true
 append_test h k some m e = ⊎_elim
     (λ two. rw (eq-eqb h.share 2 (sole_more h.share k.share m.share (eqb-true k.share 2 two))) refl)
     (λ one.
@@ -64,9 +77,12 @@ append_test h k some m e = ⊎_elim
     (or_cases (k.share == 2) ((k.share == 1) && (k.segs == 1)) e)
 
 pub share_keeps : (a b : Row) (i : Instr) → Stronger a b → AreWellFormed a → share_fits b i ≡ true → share_fits a i ≡ true
-share_keeps a b (Prepend p n) s fits e = holds_keeps a b p (λ h. owns_head h.share) (λ h. owns_head h.share) s fits (λ h k some m t. owns_more h.share k.share m.share t) e
-share_keeps a b (Store p off w r) s fits e = holds_keeps a b p (λ h. owns_head h.share) (λ h. owns_head h.share) s fits (λ h k some m t. owns_more h.share k.share m.share t) e
-share_keeps a b (StoreX p x off w r) s fits e = holds_keeps a b p (λ h. owns_head h.share) (λ h. owns_head h.share) s fits (λ h k some m t. owns_more h.share k.share m.share t) e
+share_keeps a b (Prepend p n) s fits e = holds_keeps a b p (λ h. owns_head h.share) (λ h. owns_head h.share) s fits
+    (λ h k some m t. owns_more h.share k.share m.share t) e
+share_keeps a b (Store p off w r) s fits e = holds_keeps a b p (λ h. owns_head h.share) (λ h. owns_head h.share) s fits
+    (λ h k some m t. owns_more h.share k.share m.share t) e
+share_keeps a b (StoreX p x off w r) s fits e = holds_keeps a b p (λ h. owns_head h.share) (λ h. owns_head h.share) s fits
+    (λ h k some m t. owns_more h.share k.share m.share t) e
 share_keeps a b (Append p n) s fits e =
     holds_keeps a b p (λ h. (h.share == 2) || ((h.share == 1) && (h.segs == 1))) (λ h. (h.share == 2) || ((h.share == 1) && (h.segs == 1))) s fits append_test e
 share_keeps a b _ s fits e = refl
@@ -79,10 +95,12 @@ segments_keep a b (Chain p q) s fits e =
 segments_keep a b _ s fits e = refl
 
 ring_keeps : (a b : Row) (p : ℕ) (declared : Option Fact) → Stronger a b
-    → option_map_or (λ fact. entails_option (held_at b p) (holding fact)) declared false ≡ true → option_map_or (λ fact. entails_option (held_at a p) (holding fact)) declared false ≡ true
+    → option_map_or (λ fact. entails_option (held_at b p) (holding fact)) declared false ≡ true →
+    option_map_or (λ fact. entails_option (held_at a p) (holding fact)) declared false ≡ true
 ring_keeps a b p None s e = e
 ring_keeps a b p (Some fact) s e =
-    option_test (held_at a p) (holding fact) (option_further (held_at a p) (held_at b p) (holding fact) (held_both a b p s) (stronger_option (held_at b p) (holding fact) e))
+    option_test (held_at a p) (holding fact) (option_further (held_at a p) (held_at b p) (holding fact) (held_both a b p s)
+    (stronger_option (held_at b p) (holding fact) e))
 
 pub leave_keeps : (env : Environment) (a b : Row) (i : Instr) → Stronger a b → may_leave env b i ≡ true → may_leave env a i ≡ true
 leave_keeps env a b (Tx p r l) s e =
@@ -95,7 +113,8 @@ end_keeps a b Exit s e = all_empty_keeps a.facts b.facts s.facts e
 end_keeps a b _ s e = refl
 
 -- the labels to which an instruction leads are the same
-pub labels_keep : (test : ℕ → Bool) (xs ys : List Lead) → AllZip StrongerLead xs ys → list_all (λ to. test to.to) ys ≡ true → list_all (λ to. test to.to) xs ≡ true
+pub labels_keep : (test : ℕ → Bool) (xs ys : List Lead) → AllZip StrongerLead xs ys → list_all (λ to. test to.to) ys ≡ true → list_all (λ to. test to.to) xs
+    ≡ true
 labels_keep test [] [] z e = refl
 labels_keep test (x ∷ xs) (y ∷ ys) z e =
     let (here, rest) = and_parts (test y.to) (list_all (λ to. test to.to) ys) e in

@@ -1,5 +1,6 @@
 -- Groups of rows, of which each of the one is a group of the same registers in the other.
-use Rattle.std.proofs.Common.{◌≡◌, ◌≢◌, ◌⊎◌, ℕ, zero, suc, Bool, true, false, ◌&&◌, ◌||◌, List, [], ◌∷◌, length, Option, Some, None, refl, sym, ap, ◌∙◌, subst, arith, inl, inr, ⊎_elim}
+use Rattle.std.proofs.Common.{◌≡◌, ◌≢◌, ◌⊎◌, ℕ, zero, suc, Bool, true, false, ◌&&◌, ◌||◌, List, [], ◌∷◌, length, Option, Some, None, refl, sym, ap, ◌∙◌}
+use Rattle.std.proofs.Common.{subst, arith, inl, inr, ⊎_elim}
 use Rattle.std.specs.Prelude.{slice_get, slice_set, ◌==◌}
 use Rattle.std.specs.List.{list_all}
 use Rattle.std.specs.Option.{option_map_or}
@@ -9,7 +10,8 @@ use Rattle.dp_model.specs.declared.row.Fact.{Fact}
 use Rattle.dp_model.specs.declared.row.Row.{Row}
 use Rattle.dp_model.specs.Groups.{group_of, is_in, belongs, same_registers, keeps_groups}
 use Rattle.dp_model.specs.Rows.{entails_share, owns_head, chained_share, group_at, with_shares, dissolved}
-use Rattle.dp_model.specs.Laws.Groups.{same_at, kept_at, belongs_at, belongs_there, belongs_other, belongs_in, belongs_out, group_is, in_one, loose_no_group, group_at_is, group_at_belongs}
+use Rattle.dp_model.specs.Laws.Groups.{same_at, kept_at, belongs_at, belongs_there, belongs_other, belongs_in, belongs_out, group_is, in_one, loose_no_group}
+use Rattle.dp_model.specs.Laws.Groups.{group_at_is, group_at_belongs}
 use Rattle.dp_model.specs.Laws.Cases.{by_cases}
 
 -- each group of the second is a group of the same registers in the first
@@ -54,7 +56,8 @@ keeps_further fs gs hs one two i x inside j =
     one i x (here i ∙ inside) j ∙ here j
 
 -- rows in which the same registers belong to the same groups
-pub keeps_moved : (fs fs' gs gs' : List Fact) → ((x i : ℕ) → belongs fs' x i ≡ belongs fs x i) → ((x i : ℕ) → belongs gs' x i ≡ belongs gs x i) → KeepsGroups fs gs → KeepsGroups fs' gs'
+pub keeps_moved : (fs fs' gs gs' : List Fact) → ((x i : ℕ) → belongs fs' x i ≡ belongs fs x i) → ((x i : ℕ) → belongs gs' x i ≡ belongs gs x i) →
+    KeepsGroups fs gs → KeepsGroups fs' gs'
 keeps_moved fs fs' gs gs' first second keeps i x inside j = first x j ∙ (keeps i x (sym (second x i) ∙ inside) j ∙ sym (second x j))
 
 -- ---- the order of shares
@@ -99,7 +102,8 @@ sole_more a b e two = ⊎_elim (λ z. absurd (omega (arith, z, two))) (⊎_elim 
 
 pub owns_more : (a b : ℕ) → entails_share a b ≡ true → owns_head b ≡ true → owns_head a ≡ true
 owns_more a b e owns = ⊎_elim
-    (λ one. ⊎_elim (λ z. absurd (omega (arith, z, eqb-true b 1 one))) (⊎_elim (λ same. subst (λ n. owns_head n ≡ true) (sym same) owns) (λ (x, y). subst (λ n. owns_head n ≡ true) (sym x) refl)) (share_cases a b e))
+    (λ one. ⊎_elim (λ z. absurd (omega (arith, z, eqb-true b 1 one))) (⊎_elim (λ same. subst (λ n. owns_head n ≡ true) (sym same) owns)
+    (λ (x, y). subst (λ n. owns_head n ≡ true) (sym x) refl)) (share_cases a b e))
     (λ two. subst (λ n. owns_head n ≡ true) (sym (sole_more a b e (eqb-true b 2 two))) refl)
     (or_cases (b == 1) (b == 2) owns)
 
@@ -133,9 +137,11 @@ set_out [] p x f out = refl
 set_out (g ∷ fs) zero x f out = out
 set_out (g ∷ fs) (suc p) x f out = set_out fs p x f out
 
-pub keeps_out : (fs gs : List Fact) (p : ℕ) (f g : Fact) → ((x : ℕ) → is_in x f ≡ false) → ((x : ℕ) → is_in x g ≡ false) → KeepsGroups fs gs → KeepsGroups (slice_set fs p f) (slice_set gs p g)
+pub keeps_out : (fs gs : List Fact) (p : ℕ) (f g : Fact) → ((x : ℕ) → is_in x f ≡ false) → ((x : ℕ) → is_in x g ≡ false) → KeepsGroups fs gs →
+    KeepsGroups (slice_set fs p f) (slice_set gs p g)
 keeps_out fs gs p f g first second keeps i x inside j = ⊎_elim
-    (λ is. ap (belongs (slice_set fs p f) x) is ∙ (set_out fs p x f (first x) ∙ (sym (set_out gs p x g (second x)) ∙ ap (belongs (slice_set gs p g) x) (sym is))))
+    (λ is. ap (belongs (slice_set fs p f) x) is ∙ (set_out fs p x f (first x)
+    ∙ (sym (set_out gs p x g (second x)) ∙ ap (belongs (slice_set gs p g) x) (sym is))))
     (λ ne. belongs_other fs x p j f ne ∙ (keeps i x before j ∙ sym (belongs_other gs x p j g ne)))
     (cases_eq j p)
   where

@@ -1,5 +1,6 @@
 -- Control passes through a program, label by label.
-use Rattle.std.proofs.Common.{◌≡◌, ℕ, suc, ◌+◌, ◌<◌, Bool, true, false, not, ◌||◌, List, [], ◌∷◌, length, Option, Some, None, refl, sym, ap, ◌∙◌, inl, inr, subst, arith}
+use Rattle.std.proofs.Common.{◌≡◌, ℕ, suc, ◌+◌, ◌<◌, Bool, true, false, not, ◌||◌, List, [], ◌∷◌, length, Option, Some, None, refl, sym, ap, ◌∙◌, inl, inr}
+use Rattle.std.proofs.Common.{subst, arith}
 use Rattle.std.specs.Prelude.{nat_lt, slice_get}
 use Rattle.std.specs.List.{list_all}
 use Rattle.std.specs.Option.{option_map_or}
@@ -39,7 +40,8 @@ pub record LeadsWell (q : Question) (label : ℕ) (i : Instr) (row : Row) : Type
   pub entailed : list_all (λ to. row_passes q.rows to.to (entails to.row)) (leads q.env label row i) ≡ true
 
 -- a live label of an accepted certificate passes each rule
-pub live_rules : (q : Question) (label : ℕ) (i : Instr) (u : Row) → IsAccepted q → slice_get q.program label ≡ Some i → slice_get q.rows label ≡ Some u → u.live ≡ true
+pub live_rules : (q : Question) (label : ℕ) (i : Instr) (u : Row) → IsAccepted q → slice_get q.program label ≡ Some i → slice_get q.rows label ≡ Some u →
+    u.live ≡ true
     → list_all (holds_at q label i u) later_rules ≡ true
 live_rules q label i u accepted at_i at_u live =
     let all = each_rule q label accepted in
@@ -56,7 +58,8 @@ own_leads q label i u all =
     }
 
 -- what is entailed by the certificate's rows after is entailed by those that say more
-pub entailed_keeps : (rows : List Row) (xs ys : List Lead) → AllZip StrongerLead xs ys → list_all (λ to. row_passes rows to.to (entails to.row)) ys ≡ true → list_all (λ to. row_passes rows to.to (entails to.row)) xs ≡ true
+pub entailed_keeps : (rows : List Row) (xs ys : List Lead) → AllZip StrongerLead xs ys → list_all (λ to. row_passes rows to.to (entails to.row)) ys ≡ true →
+    list_all (λ to. row_passes rows to.to (entails to.row)) xs ≡ true
 entailed_keeps rows [] [] z e = refl
 entailed_keeps rows (x ∷ xs) (y ∷ ys) z e =
     let (here, rest) = and_parts (row_passes rows y.to (entails y.row)) (list_all (λ to. row_passes rows to.to (entails to.row)) ys) e in
@@ -67,7 +70,8 @@ entailed_keeps rows [] (y ∷ ys) z e = absurd z
 entailed_keeps rows (x ∷ xs) [] z e = absurd z
 
 -- the row that was found says more than the certificate's, and leads as well
-pub leads_well : (q : Question) (label : ℕ) (i : Instr) (row u : Row) → Stronger row u → AreWellFormed row → AreWellFormed u → list_all (holds_at q label i u) later_rules ≡ true → LeadsWell q label i row
+pub leads_well : (q : Question) (label : ℕ) (i : Instr) (row u : Row) → Stronger row u → AreWellFormed row → AreWellFormed u →
+    list_all (holds_at q label i u) later_rules ≡ true → LeadsWell q label i row
 leads_well q label i row u s fits fits' all =
     let own = own_leads q label i u all in
     let z = leads_keep q.env label row u i s fits fits' (all_from (holds_at q label i u) later_rules all).1.1.0 in
@@ -78,13 +82,15 @@ leads_well q label i row u s fits fits' all =
 
 -- ---- one label
 
-begins_grow : (rows rows' : List Row) (entry : Option Row) → Grows rows rows' → option_map_or (λ row. row_passes rows 0 (entails row)) entry false ≡ true → option_map_or (λ row. row_passes rows' 0 (entails row)) entry false ≡ true
+begins_grow : (rows rows' : List Row) (entry : Option Row) → Grows rows rows' → option_map_or (λ row. row_passes rows 0 (entails row)) entry false ≡ true →
+    option_map_or (λ row. row_passes rows' 0 (entails row)) entry false ≡ true
 begins_grow rows rows' None grows e = e
 begins_grow rows rows' (Some row) grows e = grows 0 row e
 
 -- a step from a label keeps what was found of the labels below, and finds the label
 after_step : (q : Question) (label : ℕ) (rows rows' : List Row) → Sound q rows label → Step q label rows rows' → list_all is_well_formed_row rows' ≡ true
-    → ((i : Instr) (row : Row) → slice_get q.program label ≡ Some i → slice_get rows label ≡ Some row → row.live ≡ true → list_all (λ to. row_passes rows' to.to (entails to.row)) (leads q.env label row i) ≡ true)
+    → ((i : Instr) (row : Row) → slice_get q.program label ≡ Some i → slice_get rows label ≡ Some row → row.live ≡ true →
+    list_all (λ to. row_passes rows' to.to (entails to.row)) (leads q.env label row i) ≡ true)
     → Sound q rows' (label + 1)
 after_step q label rows rows' so step fits here = record {
   long = step.long ∙ so.long;
@@ -102,7 +108,8 @@ after_step q label rows rows' so step fits here = record {
       ];
 }
 
-one_label : (q : Question) (label : ℕ) (i : Instr) (rows : List Row) → IsForward q.program → IsAccepted q → list_all is_well_formed_row q.rows ≡ true → slice_get q.program label ≡ Some i → Sound q rows label → Sound q (passed_from q.env label i rows) (label + 1)
+one_label : (q : Question) (label : ℕ) (i : Instr) (rows : List Row) → IsForward q.program → IsAccepted q → list_all is_well_formed_row q.rows ≡ true →
+    slice_get q.program label ≡ Some i → Sound q rows label → Sound q (passed_from q.env label i rows) (label + 1)
 one_label q label i rows forward accepted cert_fits at_i so =
     let within : label < length rows = omega (arith, so.long, slice_get_within q.program label i at_i) in
     let (row, at_row) = there_is rows label within in
@@ -118,10 +125,12 @@ one_label q label i rows forward accepted cert_fits at_i so =
         let is : passed_from q.env label i rows ≡ passed_on label rows (leads q.env label row i) = rw (at_row, live) refl in
         let (u, at_u, s) = passes_at q.rows label row (so.fit.below label row at_row live) in
         let fits : AreWellFormed row = fits_from row (all_at is_well_formed_row rows label row so.well_formed at_row) in
-        let well = leads_well q label i row u s fits (fits_from u (all_at is_well_formed_row q.rows label u cert_fits at_u)) (live_rules q label i u accepted at_i at_u s.other_live) in
+        let well = leads_well q label i row u s fits (fits_from u (all_at is_well_formed_row q.rows label u cert_fits at_u))
+        (live_rules q label i u accepted at_i at_u s.other_live) in
         let rows' = passed_on label rows (leads q.env label row i) in
         let within : list_all (λ to. nat_lt to.to (length rows)) (leads q.env label row i) ≡ true = rw so.long well.within in
-        let (step, entailed) = pass_step q label rows (leads q.env label row i) cert_fits so.fit (forward_leads q.env label row i (λ to names. forward label to i at_i names)) within well.entailed in
+        let (step, entailed) = pass_step q label rows (leads q.env label row i) cert_fits so.fit
+        (forward_leads q.env label row i (λ to names. forward label to i at_i names)) within well.entailed in
         let P : List Row → Type 0 = λ r. Sound q r (label + 1) in
         subst P (sym is) (after_step q label rows rows' so step (passed_well_formed label rows (leads q.env label row i) so.well_formed)
         (λ j other at_j at_other live'.
@@ -132,15 +141,18 @@ one_label q label i rows forward accepted cert_fits at_i so =
 
 -- ---- all labels
 
-pub spread_sound : (q : Question) (program : List Instr) (label : ℕ) (rows : List Row) → IsForward q.program → IsAccepted q → list_all is_well_formed_row q.rows ≡ true
-    → ((k : ℕ) → slice_get program k ≡ slice_get q.program (label + k)) → Sound q rows label → Sound q (spread q.env program label rows) (label + length program)
+pub spread_sound : (q : Question) (program : List Instr) (label : ℕ) (rows : List Row) → IsForward q.program → IsAccepted q →
+    list_all is_well_formed_row q.rows ≡ true
+    → ((k : ℕ) → slice_get program k ≡ slice_get q.program (label + k)) → Sound q rows label →
+    Sound q (spread q.env program label rows) (label + length program)
 unfolding spread
 spread_sound q [] label rows forward accepted fits rest so = let e : label + 0 ≡ label = omega arith in subst (λ (n : ℕ). Sound q rows n) (sym e) so
 spread_sound q (i ∷ program) label rows forward accepted fits rest so =
     let here : label + 0 ≡ label = omega arith in
     let at_i : slice_get q.program label ≡ Some i = rw here at (sym (rest 0)) in
     let one = one_label q label i rows forward accepted fits at_i so in
-    let more : (k : ℕ) → slice_get program k ≡ slice_get q.program (label + 1 + k) = λ k. let e : label + suc k ≡ label + 1 + k = omega arith in rw (← e) (rest (suc k)) in
+    let more : (k : ℕ) → slice_get program k ≡ slice_get q.program (label + 1 + k) = λ k. let e : label + suc k ≡ label + 1 + k = omega arith in
+    rw (← e) (rest (suc k)) in
     let all = spread_sound q program (label + 1) (passed_from q.env label i rows) forward accepted fits more one in
     let e : label + 1 + length program ≡ label + suc (length program) = omega arith in
     subst (λ (n : ℕ). Sound q (spread q.env program (label + 1) (passed_from q.env label i rows)) n) e all

@@ -44,8 +44,10 @@ both_are p q = rw (p, q) refl
 
 pub stronger_holding : (a b : Holding) → entails_holding a b ≡ true → StrongerHolding a b
 stronger_holding a b e =
-    let (e1, segs) = and_parts (entails_share a.share b.share && nat_le b.head a.head && nat_le b.tail a.tail && nat_le b.first a.first && nat_le b.last a.last) (nat_le a.segs b.segs) e in
-    let (e2, last) = and_parts (entails_share a.share b.share && nat_le b.head a.head && nat_le b.tail a.tail && nat_le b.first a.first) (nat_le b.last a.last) e1 in
+    let (e1, segs) = and_parts (entails_share a.share b.share && nat_le b.head a.head && nat_le b.tail a.tail && nat_le b.first a.first && nat_le b.last
+    a.last) (nat_le a.segs b.segs) e in
+    let (e2, last) = and_parts (entails_share a.share b.share && nat_le b.head a.head && nat_le b.tail a.tail && nat_le b.first a.first)
+    (nat_le b.last a.last) e1 in
     let (e3, first) = and_parts (entails_share a.share b.share && nat_le b.head a.head && nat_le b.tail a.tail) (nat_le b.first a.first) e2 in
     let (e4, tail) = and_parts (entails_share a.share b.share && nat_le b.head a.head) (nat_le b.tail a.tail) e3 in
     let (share, head) = and_parts (entails_share a.share b.share) (nat_le b.head a.head) e4 in
@@ -59,7 +61,14 @@ stronger_holding a b e =
     }
 
 pub holding_test : (a b : Holding) → StrongerHolding a b → entails_holding a b ≡ true
-holding_test a b h = rw (h.share, le-leb b.head a.head h.head, le-leb b.tail a.tail h.tail, le-leb b.first a.first h.first, le-leb b.last a.last h.last, le-leb a.segs b.segs h.segs) refl
+holding_test a b h = rw (
+  h.share,
+  le-leb b.head a.head h.head,
+  le-leb b.tail a.tail h.tail,
+  le-leb b.first a.first h.first,
+  le-leb b.last a.last h.last,
+  le-leb a.segs b.segs h.segs,
+) refl
 
 pub stronger_option : (a b : Option Holding) → entails_option a b ≡ true → StrongerOption a b
 stronger_option None None e = tt
@@ -73,13 +82,16 @@ option_test (Some a) (Some b) h = holding_test a b h
 option_test None (Some b) h = absurd h
 option_test (Some a) None h = absurd h
 
-pub zip_from : {A B : Type 0} (test : A → B → Bool) (R : A → B → Type 0) → ((x : A) (y : B) → test x y ≡ true → R x y) → (xs : List A) (ys : List B) → at_each_place test xs ys ≡ true → AllZip R xs ys
+pub zip_from : {A B : Type 0} (test : A → B → Bool) (R : A → B → Type 0) → ((x : A) (y : B) → test x y ≡ true → R x y) → (xs : List A) (ys : List B) →
+    at_each_place test xs ys ≡ true → AllZip R xs ys
 zip_from test R each [] [] e = tt
-zip_from test R each (x ∷ xs) (y ∷ ys) e = let (here, rest) = and_parts (test x y) (at_each_place test xs ys) e in (each x y here, zip_from test R each xs ys rest)
+zip_from test R each (x ∷ xs) (y ∷ ys) e = let (here, rest) = and_parts (test x y) (at_each_place test xs ys) e in
+    (each x y here, zip_from test R each xs ys rest)
 zip_from test R each [] (y ∷ ys) e = absurd cc
 zip_from test R each (x ∷ xs) [] e = absurd cc
 
-pub zip_test : {A B : Type 0} (test : A → B → Bool) (R : A → B → Type 0) → ((x : A) (y : B) → R x y → test x y ≡ true) → (xs : List A) (ys : List B) → AllZip R xs ys → at_each_place test xs ys ≡ true
+pub zip_test : {A B : Type 0} (test : A → B → Bool) (R : A → B → Type 0) → ((x : A) (y : B) → R x y → test x y ≡ true) → (xs : List A) (ys : List B) →
+    AllZip R xs ys → at_each_place test xs ys ≡ true
 zip_test test R each [] [] h = refl
 zip_test test R each (x ∷ xs) (y ∷ ys) h = both_are (each x y h.0) (zip_test test R each xs ys h.1)
 zip_test test R each [] (y ∷ ys) h = absurd h
@@ -93,7 +105,8 @@ zip_length R (x ∷ xs) [] h = absurd h
 
 pub stronger : (a b : Row) → entails a b ≡ true → Stronger a b
 stronger a b e =
-    let (e0, bounds) = and_parts (a.live && b.live && at_each_place entails_fact a.facts b.facts && keeps_groups a.facts b.facts) (at_each_place nat_le a.bounds b.bounds) e in
+    let (e0, bounds) = and_parts (a.live && b.live && at_each_place entails_fact a.facts b.facts && keeps_groups a.facts b.facts)
+    (at_each_place nat_le a.bounds b.bounds) e in
     let (e1, groups) = and_parts (a.live && b.live && at_each_place entails_fact a.facts b.facts) (keeps_groups a.facts b.facts) e0 in
     let (e2, facts) = and_parts (a.live && b.live) (at_each_place entails_fact a.facts b.facts) e1 in
     let (live, other_live) = and_parts a.live b.live e2 in
@@ -106,17 +119,37 @@ stronger a b e =
     }
 
 pub row_test : (a b : Row) → Stronger a b → entails a b ≡ true
-row_test a b h = rw (h.live, h.other_live, zip_test entails_fact StrongerFact (λ x y k. option_test (holding x) (holding y) k) a.facts b.facts h.facts, keeps_test a.facts b.facts (zip_length StrongerFact a.facts b.facts h.facts) h.groups, zip_test nat_le AtMost le-leb a.bounds b.bounds h.bounds) refl
+row_test a b h = rw (
+  h.live,
+  h.other_live,
+  zip_test entails_fact StrongerFact (λ x y k. option_test (holding x) (holding y) k) a.facts b.facts h.facts,
+  keeps_test a.facts b.facts (zip_length StrongerFact a.facts b.facts h.facts) h.groups,
+  zip_test nat_le AtMost le-leb a.bounds b.bounds h.bounds,
+) refl
 
 -- ---- each says what it says, and what follows from what follows
 
 pub holding_same : (a : Option Holding) → StrongerOption a a
 holding_same None = tt
-holding_same (Some a) = record { share = share_same a.share; head = omega arith; tail = omega arith; first = omega arith; last = omega arith; segs = omega arith }
+holding_same (Some a) = record {
+  share = share_same a.share;
+  head = omega arith;
+  tail = omega arith;
+  first = omega arith;
+  last = omega arith;
+  segs = omega arith;
+}
 
 pub option_further : (a b c : Option Holding) → StrongerOption a b → StrongerOption b c → StrongerOption a c
 option_further None None None h k = tt
-option_further (Some a) (Some b) (Some c) h k = record { share = share_further a.share b.share c.share h.share k.share; head = omega arith; tail = omega arith; first = omega arith; last = omega arith; segs = omega arith }
+option_further (Some a) (Some b) (Some c) h k = record {
+  share = share_further a.share b.share c.share h.share k.share;
+  head = omega arith;
+  tail = omega arith;
+  first = omega arith;
+  last = omega arith;
+  segs = omega arith;
+}
 option_further None None (Some c) h k = absurd k
 option_further None (Some b) c h k = absurd h
 option_further (Some a) None c h k = absurd h
@@ -126,7 +159,8 @@ pub zip_same : {A : Type 0} (R : A → A → Type 0) → ((x : A) → R x x) →
 zip_same R each [] = tt
 zip_same R each (x ∷ xs) = (each x, zip_same R each xs)
 
-pub zip_further : {A : Type 0} (R : A → A → Type 0) → ((x y z : A) → R x y → R y z → R x z) → (xs ys zs : List A) → AllZip R xs ys → AllZip R ys zs → AllZip R xs zs
+pub zip_further : {A : Type 0} (R : A → A → Type 0) → ((x y z : A) → R x y → R y z → R x z) → (xs ys zs : List A) → AllZip R xs ys → AllZip R ys zs →
+    AllZip R xs zs
 zip_further R each [] [] [] h k = tt
 zip_further R each (x ∷ xs) (y ∷ ys) (z ∷ zs) h k = (each x y z h.0 k.0, zip_further R each xs ys zs h.1 k.1)
 zip_further R each [] [] (z ∷ zs) h k = absurd k

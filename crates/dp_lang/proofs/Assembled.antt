@@ -1,5 +1,6 @@
 -- What statements become is a program.
-use Rattle.std.proofs.Common.{◌≡◌, ℕ, suc, ◌≤◌, Bool, true, false, cond, List, [], ◌∷◌, length, map, Option, Some, None, Result, Ok, Err, refl, sym, ap, subst, ◌∙◌, arith}
+use Rattle.std.proofs.Common.{◌≡◌, ℕ, suc, ◌≤◌, Bool, true, false, cond, List, [], ◌∷◌, length, map, Option, Some, None, Result, Ok, Err, refl, sym, ap}
+use Rattle.std.proofs.Common.{subst, ◌∙◌, arith}
 use Rattle.std.specs.Prelude.{IfSome, IfOk, ◌&&◌, nat_lt}
 use Rattle.std.specs.List.{list_all}
 use Rattle.std.specs.FinMap.{get}
@@ -58,11 +59,13 @@ Bound target count = (name : List ℕ) (l : ℕ) → target name ≡ Some l → 
 abbrev Good : ℕ → Kind → Argument ℕ → Type 0
 Good count k a = (is_of k a ≡ true) × (is_below count a ≡ true)
 
-label_good : (count : ℕ) (k : Kind) (name : List ℕ) (o : Option ℕ) → ((l : ℕ) → o ≡ Some l → nat_lt l count ≡ true) → is_of k (label name) ≡ true → IfSome (as_label o) (Good count k)
+label_good : (count : ℕ) (k : Kind) (name : List ℕ) (o : Option ℕ) → ((l : ℕ) → o ≡ Some l → nat_lt l count ≡ true) → is_of k (label name) ≡ true →
+    IfSome (as_label o) (Good count k)
 label_good count k name None bound h = tt
 label_good count k name (Some l) bound h = (sym (same_label k name l) ∙ h, bound l refl)
 
-argument_good : (target : List ℕ → Option ℕ) (count : ℕ) → Bound target count → (k : Kind) (a : Argument (List ℕ)) → is_of k a ≡ true → IfSome (resolved target a) (Good count k)
+argument_good : (target : List ℕ → Option ℕ) (count : ℕ) → Bound target count → (k : Kind) (a : Argument (List ℕ)) → is_of k a ≡ true →
+    IfSome (resolved target a) (Good count k)
 argument_good target count bound k (packet p) h = (sym (same_packet k p) ∙ h, refl)
 argument_good target count bound k (register r) h = (sym (same_register k r) ∙ h, refl)
 argument_good target count bound k (constant n) h = (sym (same_constant k n) ∙ h, refl)
@@ -73,17 +76,23 @@ argument_good target count bound k (label name) h = label_good count k name (tar
 abbrev AllGood : ℕ → List Kind → List (Argument ℕ) → Type 0
 AllGood count ks as' = (all_of ks as' ≡ true) × (list_all (is_below count) as' ≡ true)
 
-onto_good : (count : ℕ) (k : Kind) (ks : List Kind) (a : Option (Argument ℕ)) (as' : Option (List (Argument ℕ))) → IfSome a (Good count k) → IfSome as' (AllGood count ks) → IfSome (onto_resolved a as') (AllGood count (k ∷ ks))
-onto_good count k ks (Some a) (Some as') h t = (and_true (is_of k a) (all_of ks as') h.0 t.0, and_true (is_below count a) (list_all (is_below count) as') h.1 t.1)
+onto_good : (count : ℕ) (k : Kind) (ks : List Kind) (a : Option (Argument ℕ)) (as' : Option (List (Argument ℕ))) → IfSome a (Good count k) →
+    IfSome as' (AllGood count ks) → IfSome (onto_resolved a as') (AllGood count (k ∷ ks))
+onto_good count k ks (Some a) (Some as') h t = (
+  and_true (is_of k a) (all_of ks as') h.0 t.0,
+  and_true (is_below count a) (list_all (is_below count) as') h.1 t.1,
+)
 onto_good count k ks (Some a) None h t = tt
 onto_good count k ks None as' h t = tt
 
-arguments_good : (target : List ℕ → Option ℕ) (count : ℕ) → Bound target count → (ks : List Kind) (as' : List (Argument (List ℕ))) → all_of ks as' ≡ true → IfSome (all_resolved target as') (AllGood count ks)
+arguments_good : (target : List ℕ → Option ℕ) (count : ℕ) → Bound target count → (ks : List Kind) (as' : List (Argument (List ℕ))) → all_of ks as' ≡ true →
+    IfSome (all_resolved target as') (AllGood count ks)
 arguments_good target count bound [] [] h = (refl, refl)
 arguments_good target count bound [] (a ∷ as') h = absurd cc
 arguments_good target count bound (k ∷ ks) [] h = absurd cc
 arguments_good target count bound (k ∷ ks) (a ∷ as') h =
-    onto_good count k ks (resolved target a) (all_resolved target as') (argument_good target count bound k a (and_left (is_of k a) (all_of ks as') h)) (arguments_good target count bound ks as' (and_right (is_of k a) (all_of ks as') h))
+    onto_good count k ks (resolved target a) (all_resolved target as') (argument_good target count bound k a (and_left (is_of k a) (all_of ks as') h))
+    (arguments_good target count bound ks as' (and_right (is_of k a) (all_of ks as') h))
 
 -- ---- statements
 
@@ -92,7 +101,8 @@ pub record AreGood (count : ℕ) (n : ℕ) (ss : List (Statement ℕ)) : Type 0 
   pub placed : list_all (is_placed count) ss ≡ true
   pub as_many : length ss ≡ n
 
-statement_good : (count : ℕ) (line : ℕ) (form : Form) (as' : Option (List (Argument ℕ))) (n : ℕ) (rest : Result (List (Statement ℕ)) Fault) → IfSome as' (AllGood count (kinds_of form)) → IfOk rest (AreGood count n)
+statement_good : (count : ℕ) (line : ℕ) (form : Form) (as' : Option (List (Argument ℕ))) (n : ℕ) (rest : Result (List (Statement ℕ)) Fault) →
+    IfSome as' (AllGood count (kinds_of form)) → IfOk rest (AreGood count n)
     → IfOk (statement_with line form as' >>= λ first. rest >>= λ others. Ok (first ∷ others)) (AreGood count (suc n))
 statement_good count line form None n rest h t = tt
 statement_good count line form (Some as') n (Err e) h t = tt
@@ -102,10 +112,12 @@ statement_good count line form (Some as') n (Ok ss) h t = record {
   as_many = ap suc t.as_many;
 }
 
-statements_good : (target : List ℕ → Option ℕ) (count : ℕ) → Bound target count → (ss : List statements.Statement) → IfOk (all_statements target (map view.with_line ss)) (AreGood count (length ss))
+statements_good : (target : List ℕ → Option ℕ) (count : ℕ) → Bound target count → (ss : List statements.Statement) →
+    IfOk (all_statements target (map view.with_line ss)) (AreGood count (length ss))
 statements_good target count bound [] = record { fit = refl; placed = refl; as_many = refl }
 statements_good target count bound (s ∷ ss) =
-    statement_good count s.line s.form (all_resolved target (map argument s.arguments.items)) (length ss) (all_statements target (map view.with_line ss)) (arguments_good target count bound (kinds_of s.form) (map argument s.arguments.items) s.fits) (statements_good target count bound ss)
+    statement_good count s.line s.form (all_resolved target (map argument s.arguments.items)) (length ss) (all_statements target (map view.with_line ss))
+    (arguments_good target count bound (kinds_of s.form) (map argument s.arguments.items) s.fits) (statements_good target count bound ss)
 
 -- ---- instructions
 
@@ -134,17 +146,21 @@ leads count _ h = refl
 
 all_lead : (count : ℕ) (is : List Instr) → list_all (is_placed count) (map spelled is) ≡ true → list_all (leads_below count) is ≡ true
 all_lead count [] h = refl
-all_lead count (i ∷ is) h = and_true (leads_below count i) (list_all (leads_below count) is) (leads count i (and_left (is_placed count (spelled i)) (list_all (is_placed count) (map spelled is)) h)) (all_lead count is (and_right (is_placed count (spelled i)) (list_all (is_placed count) (map spelled is)) h))
+all_lead count (i ∷ is) h = and_true (leads_below count i) (list_all (leads_below count) is)
+    (leads count i (and_left (is_placed count (spelled i)) (list_all (is_placed count) (map spelled is)) h))
+    (all_lead count is (and_right (is_placed count (spelled i)) (list_all (is_placed count) (map spelled is)) h))
 
 all_in_range : (is : List Instr) → list_all fits (map spelled is) ≡ list_all is_in_range is
 all_in_range [] = refl
 all_in_range (i ∷ is) = ap (λ b. is_in_range i && b) (all_in_range is)
 
-pub is_program : (s : sources.Source) (is : List Instr) → all_statements (target_in (view.source s)) (map view.with_line s.statements.items) ≡ Ok (map spelled is) → 1 ≤ length is → IsProgram is
+pub is_program : (s : sources.Source) (is : List Instr) → all_statements (target_in (view.source s)) (map view.with_line s.statements.items)
+    ≡ Ok (map spelled is) → 1 ≤ length is → IsProgram is
 is_program s is read some =
     let n = length (map view.with_line s.statements.items) in
     let good : AreGood n (length s.statements.items) (map spelled is) =
-    subst (λ (r : Result (List (Statement ℕ)) Fault). IfOk r (AreGood n (length s.statements.items))) read (statements_good (target_in (view.source s)) n (λ name l. target_bound n (get s.labels name) l) s.statements.items) in
+    subst (λ (r : Result (List (Statement ℕ)) Fault). IfOk r (AreGood n (length s.statements.items))) read
+    (statements_good (target_in (view.source s)) n (λ name l. target_bound n (get s.labels name) l) s.statements.items) in
     let as_many : length is ≡ n = sym (length-map is spelled) ∙ good.as_many ∙ sym (length-map s.statements.items view.with_line) in
     record {
       some = some;

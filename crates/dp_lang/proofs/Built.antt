@@ -44,7 +44,8 @@ number_back : (least most l : ℕ) (a : Named) → is_of (kinds.Number least mos
 number_back least most l (Constant n) h = refl
 number_back least most l _ h = absurd cc
 
-less_back : (least most limit l : ℕ) → most < limit → (a : Named) → is_of (kinds.Number least most) (argument a) ≡ true → constant (less limit (number_in a)) ≡ numbered l a
+less_back : (least most limit l : ℕ) → most < limit → (a : Named) → is_of (kinds.Number least most) (argument a) ≡ true → constant (less limit (number_in a))
+    ≡ numbered l a
 less_back least most limit l few (Constant n) h =
     let small : n ≤ most = leb-true n most (and_right (nat_le least n) (nat_le n most) h) in
     rw (less_same limit n (omega arith)) refl
@@ -106,13 +107,16 @@ labels_resolved target (k ∷ []) (Register r ∷ []) h e = refl
 labels_resolved target (k ∷ []) (Constant n ∷ []) h e = refl
 labels_resolved target (k ∷ []) (Name name ∷ []) h e = by_label (target name.now)
 labels_resolved target (k ∷ j ∷ ks) (Packet p ∷ as') h e =
-    rw (labels_resolved target (j ∷ ks) as' (and_right (is_of k (argument (Packet p))) (all_of (j ∷ ks) (map argument as')) h) (and_right (is_plain k) (label_last (j ∷ ks)) e))
+    rw (labels_resolved target (j ∷ ks) as' (and_right (is_of k (argument (Packet p))) (all_of (j ∷ ks) (map argument as')) h)
+    (and_right (is_plain k) (label_last (j ∷ ks)) e))
     (onto_each (packet p) (λ l. map (numbered l) as') (label_in target as'))
 labels_resolved target (k ∷ j ∷ ks) (Register r ∷ as') h e =
-    rw (labels_resolved target (j ∷ ks) as' (and_right (is_of k (argument (Register r))) (all_of (j ∷ ks) (map argument as')) h) (and_right (is_plain k) (label_last (j ∷ ks)) e))
+    rw (labels_resolved target (j ∷ ks) as' (and_right (is_of k (argument (Register r))) (all_of (j ∷ ks) (map argument as')) h)
+    (and_right (is_plain k) (label_last (j ∷ ks)) e))
     (onto_each (register r) (λ l. map (numbered l) as') (label_in target as'))
 labels_resolved target (k ∷ j ∷ ks) (Constant n ∷ as') h e =
-    rw (labels_resolved target (j ∷ ks) as' (and_right (is_of k (argument (Constant n))) (all_of (j ∷ ks) (map argument as')) h) (and_right (is_plain k) (label_last (j ∷ ks)) e))
+    rw (labels_resolved target (j ∷ ks) as' (and_right (is_of k (argument (Constant n))) (all_of (j ∷ ks) (map argument as')) h)
+    (and_right (is_plain k) (label_last (j ∷ ks)) e))
     (onto_each (constant n) (λ l. map (numbered l) as') (label_in target as'))
 labels_resolved target (k ∷ j ∷ ks) (Name name ∷ as') h e =
     let not : is_of k (argument (Name name)) ≡ false = no_label k name.now (and_left (is_plain k) (label_last (j ∷ ks)) e) in
@@ -131,7 +135,8 @@ with0 P (a ∷ as') h f = absurd cc
 with_more : (P : List Named → Type 0) (k : Kind) (ks : List Kind) (as' : List Named) → all_of (k ∷ ks) (map argument as') ≡ true
     → ((a : Named) (more : List Named) → Fit k a → all_of ks (map argument more) ≡ true → P (a ∷ more)) → P as'
 with_more P k ks [] h f = absurd cc
-with_more P k ks (a ∷ more) h f = f a more (and_left (is_of k (argument a)) (all_of ks (map argument more)) h) (and_right (is_of k (argument a)) (all_of ks (map argument more)) h)
+with_more P k ks (a ∷ more) h f = f a more (and_left (is_of k (argument a)) (all_of ks (map argument more)) h)
+    (and_right (is_of k (argument a)) (all_of ks (map argument more)) h)
 
 with1 : (P : List Named → Type 0) (k : Kind) (as' : List Named) → all_of (k ∷ []) (map argument as') ≡ true → ((a : Named) → Fit k a → P (a ∷ [])) → P as'
 with1 P k as' h f = with_more P k [] as' h (λ a more ha t. with0 (λ m. P (a ∷ m)) more t (f a ha))
@@ -150,7 +155,8 @@ with4 P k j i g as' h f = with_more P k (j ∷ i ∷ g ∷ []) as' h (λ a more 
 
 with5 : (P : List Named → Type 0) (k j i g e : Kind) (as' : List Named) → all_of (k ∷ j ∷ i ∷ g ∷ e ∷ []) (map argument as') ≡ true
     → ((a b c d x : Named) → Fit k a → Fit j b → Fit i c → Fit g d → Fit e x → P (a ∷ b ∷ c ∷ d ∷ x ∷ [])) → P as'
-with5 P k j i g e as' h f = with_more P k (j ∷ i ∷ g ∷ e ∷ []) as' h (λ a more ha t. with4 (λ m. P (a ∷ m)) j i g e more t (λ b c d x hb hc hd hx. f a b c d x ha hb hc hd hx))
+with5 P k j i g e as' h f = with_more P k (j ∷ i ∷ g ∷ e ∷ []) as' h (λ a more ha t.
+    with4 (λ m. P (a ∷ m)) j i g e more t (λ b c d x hb hc hd hx. f a b c d x ha hb hc hd hx))
 
 -- what is built has the form, and spells the operands
 abbrev Spells : Form → ℕ → List Named → Type 0
@@ -166,35 +172,58 @@ eight_back : (l : ℕ) (a : Named) → Fit (kinds.Number 0 7) a → constant (by
 eight_back l a h = byte_back 7 l (omega arith) a h
 
 pub spells : (form : Form) (l : ℕ) (as' : List Named) → all_of (kinds_of form) (map argument as') ≡ true → Spells form l as'
-spells forms.Alloc l as' h = with3 (Spells forms.Alloc l) kinds.Packet Pool kinds.Label as' h (λ a b c ha hb hc. rw (packet_back l a ha, eight_back l b hb, label_back l c hc) refl)
+spells forms.Alloc l as' h = with3 (Spells forms.Alloc l) kinds.Packet Pool kinds.Label as' h
+    (λ a b c ha hb hc. rw (packet_back l a ha, eight_back l b hb, label_back l c hc) refl)
 spells forms.Free l as' h = with1 (Spells forms.Free l) kinds.Packet as' h (λ a ha. rw (packet_back l a ha) refl)
-spells forms.Clone l as' h = with4 (Spells forms.Clone l) kinds.Packet kinds.Packet Pool kinds.Label as' h (λ a b c d ha hb hc hd. rw (packet_back l a ha, packet_back l b hb, eight_back l c hc, label_back l d hd) refl)
+spells forms.Clone l as' h = with4 (Spells forms.Clone l) kinds.Packet kinds.Packet Pool kinds.Label as' h
+    (λ a b c d ha hb hc hd. rw (packet_back l a ha, packet_back l b hb, eight_back l c hc, label_back l d hd) refl)
 spells forms.Prepend l as' h = with2 (Spells forms.Prepend l) kinds.Packet Count as' h (λ a b ha hb. rw (packet_back l a ha, count_back l b hb) refl)
 spells forms.Adj l as' h = with2 (Spells forms.Adj l) kinds.Packet Count as' h (λ a b ha hb. rw (packet_back l a ha, count_back l b hb) refl)
 spells forms.Append l as' h = with2 (Spells forms.Append l) kinds.Packet Count as' h (λ a b ha hb. rw (packet_back l a ha, count_back l b hb) refl)
 spells forms.Trim l as' h = with2 (Spells forms.Trim l) kinds.Packet Count as' h (λ a b ha hb. rw (packet_back l a ha, count_back l b hb) refl)
 spells forms.Chain l as' h = with2 (Spells forms.Chain l) kinds.Packet kinds.Packet as' h (λ a b ha hb. rw (packet_back l a ha, packet_back l b hb) refl)
-spells forms.IfHead l as' h = with3 (Spells forms.IfHead l) kinds.Packet Count kinds.Label as' h (λ a b c ha hb hc. rw (packet_back l a ha, count_back l b hb, label_back l c hc) refl)
-spells forms.IfTail l as' h = with3 (Spells forms.IfTail l) kinds.Packet Count kinds.Label as' h (λ a b c ha hb hc. rw (packet_back l a ha, count_back l b hb, label_back l c hc) refl)
-spells forms.IfLen l as' h = with3 (Spells forms.IfLen l) kinds.Packet Count kinds.Label as' h (λ a b c ha hb hc. rw (packet_back l a ha, count_back l b hb, label_back l c hc) refl)
-spells forms.IfLast l as' h = with3 (Spells forms.IfLast l) kinds.Packet Count kinds.Label as' h (λ a b c ha hb hc. rw (packet_back l a ha, count_back l b hb, label_back l c hc) refl)
-spells forms.Load l as' h = with4 (Spells forms.Load l) kinds.Register kinds.Packet Count kinds.Width as' h (λ a b c d ha hb hc hd. rw (register_back l a ha, packet_back l b hb, count_back l c hc, width_back l d hd) refl)
-spells forms.Store l as' h = with4 (Spells forms.Store l) kinds.Packet Count kinds.Width kinds.Register as' h (λ a b c d ha hb hc hd. rw (packet_back l a ha, count_back l b hb, width_back l c hc, register_back l d hd) refl)
-spells forms.LoadX l as' h = with5 (Spells forms.LoadX l) kinds.Register kinds.Packet kinds.Register Count kinds.Width as' h (λ a b c d x ha hb hc hd hx. rw (register_back l a ha, packet_back l b hb, register_back l c hc, count_back l d hd, width_back l x hx) refl)
-spells forms.StoreX l as' h = with5 (Spells forms.StoreX l) kinds.Packet kinds.Register Count kinds.Width kinds.Register as' h (λ a b c d x ha hb hc hd hx. rw (packet_back l a ha, register_back l b hb, count_back l c hc, width_back l d hd, register_back l x hx) refl)
-spells forms.Set l as' h = with2 (Spells forms.Set l) kinds.Register spec.Constant as' h (λ a b ha hb. rw (register_back l a ha, number_back 0 18446744073709551615 l b hb) refl)
+spells forms.IfHead l as' h = with3 (Spells forms.IfHead l) kinds.Packet Count kinds.Label as' h
+    (λ a b c ha hb hc. rw (packet_back l a ha, count_back l b hb, label_back l c hc) refl)
+spells forms.IfTail l as' h = with3 (Spells forms.IfTail l) kinds.Packet Count kinds.Label as' h
+    (λ a b c ha hb hc. rw (packet_back l a ha, count_back l b hb, label_back l c hc) refl)
+spells forms.IfLen l as' h = with3 (Spells forms.IfLen l) kinds.Packet Count kinds.Label as' h
+    (λ a b c ha hb hc. rw (packet_back l a ha, count_back l b hb, label_back l c hc) refl)
+spells forms.IfLast l as' h = with3 (Spells forms.IfLast l) kinds.Packet Count kinds.Label as' h
+    (λ a b c ha hb hc. rw (packet_back l a ha, count_back l b hb, label_back l c hc) refl)
+spells forms.Load l as' h = with4 (Spells forms.Load l) kinds.Register kinds.Packet Count kinds.Width as' h
+    (λ a b c d ha hb hc hd. rw (register_back l a ha, packet_back l b hb, count_back l c hc, width_back l d hd) refl)
+spells forms.Store l as' h = with4 (Spells forms.Store l) kinds.Packet Count kinds.Width kinds.Register as' h
+    (λ a b c d ha hb hc hd. rw (packet_back l a ha, count_back l b hb, width_back l c hc, register_back l d hd) refl)
+spells forms.LoadX l as' h = with5 (Spells forms.LoadX l) kinds.Register kinds.Packet kinds.Register Count kinds.Width as' h
+    (λ a b c d x ha hb hc hd hx. rw (register_back l a ha, packet_back l b hb, register_back l c hc, count_back l d hd, width_back l x hx) refl)
+spells forms.StoreX l as' h = with5 (Spells forms.StoreX l) kinds.Packet kinds.Register Count kinds.Width kinds.Register as' h
+    (λ a b c d x ha hb hc hd hx. rw (packet_back l a ha, register_back l b hb, count_back l c hc, width_back l d hd, register_back l x hx) refl)
+spells forms.Set l as' h = with2 (Spells forms.Set l) kinds.Register spec.Constant as' h
+    (λ a b ha hb. rw (register_back l a ha, number_back 0 18446744073709551615 l b hb) refl)
 spells forms.Mov l as' h = with2 (Spells forms.Mov l) kinds.Register kinds.Register as' h (λ a b ha hb. rw (register_back l a ha, register_back l b hb) refl)
-spells forms.Add l as' h = with2 (Spells forms.Add l) kinds.Register kinds.RegisterOrConstant as' h (λ a b ha hb. rw (register_back l a ha, operand_back l b hb) refl)
-spells forms.Sub l as' h = with2 (Spells forms.Sub l) kinds.Register kinds.RegisterOrConstant as' h (λ a b ha hb. rw (register_back l a ha, operand_back l b hb) refl)
-spells forms.And l as' h = with2 (Spells forms.And l) kinds.Register kinds.RegisterOrConstant as' h (λ a b ha hb. rw (register_back l a ha, operand_back l b hb) refl)
-spells forms.Or l as' h = with2 (Spells forms.Or l) kinds.Register kinds.RegisterOrConstant as' h (λ a b ha hb. rw (register_back l a ha, operand_back l b hb) refl)
-spells forms.Xor l as' h = with2 (Spells forms.Xor l) kinds.Register kinds.RegisterOrConstant as' h (λ a b ha hb. rw (register_back l a ha, operand_back l b hb) refl)
-spells forms.Shl l as' h = with2 (Spells forms.Shl l) kinds.Register Shift as' h (λ a b ha hb. rw (register_back l a ha, byte_back 63 l (omega arith) b hb) refl)
-spells forms.Shr l as' h = with2 (Spells forms.Shr l) kinds.Register Shift as' h (λ a b ha hb. rw (register_back l a ha, byte_back 63 l (omega arith) b hb) refl)
+spells forms.Add l as' h = with2 (Spells forms.Add l) kinds.Register kinds.RegisterOrConstant as' h
+    (λ a b ha hb. rw (register_back l a ha, operand_back l b hb) refl)
+spells forms.Sub l as' h = with2 (Spells forms.Sub l) kinds.Register kinds.RegisterOrConstant as' h
+    (λ a b ha hb. rw (register_back l a ha, operand_back l b hb) refl)
+spells forms.And l as' h = with2 (Spells forms.And l) kinds.Register kinds.RegisterOrConstant as' h
+    (λ a b ha hb. rw (register_back l a ha, operand_back l b hb) refl)
+spells forms.Or l as' h = with2 (Spells forms.Or l) kinds.Register kinds.RegisterOrConstant as' h
+    (λ a b ha hb. rw (register_back l a ha, operand_back l b hb) refl)
+spells forms.Xor l as' h = with2 (Spells forms.Xor l) kinds.Register kinds.RegisterOrConstant as' h
+    (λ a b ha hb. rw (register_back l a ha, operand_back l b hb) refl)
+spells forms.Shl l as' h = with2 (Spells forms.Shl l) kinds.Register Shift as' h
+    (λ a b ha hb. rw (register_back l a ha, byte_back 63 l (omega arith) b hb) refl)
+spells forms.Shr l as' h = with2 (Spells forms.Shr l) kinds.Register Shift as' h
+    (λ a b ha hb. rw (register_back l a ha, byte_back 63 l (omega arith) b hb) refl)
 spells forms.Jmp l as' h = with1 (Spells forms.Jmp l) kinds.Label as' h (λ a ha. rw (label_back l a ha) refl)
-spells forms.Jeq l as' h = with3 (Spells forms.Jeq l) kinds.Register kinds.RegisterOrConstant kinds.Label as' h (λ a b c ha hb hc. rw (register_back l a ha, operand_back l b hb, label_back l c hc) refl)
-spells forms.Jlt l as' h = with3 (Spells forms.Jlt l) kinds.Register Positive kinds.Label as' h (λ a b c ha hb hc. rw (register_back l a ha, number_back 1 18446744073709551615 l b hb, label_back l c hc) refl)
-spells forms.Lookup l as' h = with4 (Spells forms.Lookup l) kinds.Register Table kinds.Register kinds.Label as' h (λ a b c d ha hb hc hd. rw (register_back l a ha, byte_back 3 l (omega arith) b hb, register_back l c hc, label_back l d hd) refl)
-spells forms.Tx l as' h = with3 (Spells forms.Tx l) kinds.Packet kinds.Register kinds.Label as' h (λ a b c ha hb hc. rw (packet_back l a ha, register_back l b hb, label_back l c hc) refl)
-spells forms.Enq l as' h = with3 (Spells forms.Enq l) kinds.Packet Ring kinds.Label as' h (λ a b c ha hb hc. rw (packet_back l a ha, eight_back l b hb, label_back l c hc) refl)
+spells forms.Jeq l as' h = with3 (Spells forms.Jeq l) kinds.Register kinds.RegisterOrConstant kinds.Label as' h
+    (λ a b c ha hb hc. rw (register_back l a ha, operand_back l b hb, label_back l c hc) refl)
+spells forms.Jlt l as' h = with3 (Spells forms.Jlt l) kinds.Register Positive kinds.Label as' h
+    (λ a b c ha hb hc. rw (register_back l a ha, number_back 1 18446744073709551615 l b hb, label_back l c hc) refl)
+spells forms.Lookup l as' h = with4 (Spells forms.Lookup l) kinds.Register Table kinds.Register kinds.Label as' h
+    (λ a b c d ha hb hc hd. rw (register_back l a ha, byte_back 3 l (omega arith) b hb, register_back l c hc, label_back l d hd) refl)
+spells forms.Tx l as' h = with3 (Spells forms.Tx l) kinds.Packet kinds.Register kinds.Label as' h
+    (λ a b c ha hb hc. rw (packet_back l a ha, register_back l b hb, label_back l c hc) refl)
+spells forms.Enq l as' h = with3 (Spells forms.Enq l) kinds.Packet Ring kinds.Label as' h
+    (λ a b c ha hb hc. rw (packet_back l a ha, eight_back l b hb, label_back l c hc) refl)
 spells forms.Exit l as' h = with0 (Spells forms.Exit l) as' h refl

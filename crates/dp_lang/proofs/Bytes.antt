@@ -21,7 +21,8 @@ and_right false b h = absurd cc
 
 pub all_implies : (p q : ℕ → Bool) → ((b : ℕ) → p b ≡ true → q b ≡ true) → (s : List ℕ) → list_all p s ≡ true → list_all q s ≡ true
 all_implies p q imp [] h = refl
-all_implies p q imp (b ∷ s) h = and_true (q b) (list_all q s) (imp b (and_left (p b) (list_all p s) h)) (all_implies p q imp s (and_right (p b) (list_all p s) h))
+all_implies p q imp (b ∷ s) h = and_true (q b) (list_all q s) (imp b (and_left (p b) (list_all p s) h))
+    (all_implies p q imp s (and_right (p b) (list_all p s) h))
 
 pub all_append : (p : ℕ → Bool) (s t : List ℕ) → list_all p s ≡ true → list_all p t ≡ true → list_all p (s ++ t) ≡ true
 all_append p [] t h k = k

@@ -94,7 +94,8 @@ last_no (b ∷ c ∷ s) (suc n) e h = last_no (c ∷ s) n (omega arith) h
 
 pub trim_end_none : (s : List ℕ) → ends s ≡ true → trim_end s ≡ s
 trim_end_none s h =
-    let none : suffix_len is_blank s ≡ length s - length s = suffix_len_is is_blank s (length s) 0 (omega arith) (λ k l r. absurd (omega arith)) (λ _. last_no s (length s - 1) (omega (arith, ends_length s h)) h) in
+    let none : suffix_len is_blank s ≡ length s - length s = suffix_len_is is_blank s (length s) 0 (omega arith) (λ k l r. absurd (omega arith))
+    (λ _. last_no s (length s - 1) (omega (arith, ends_length s h)) h) in
     let whole : length s - suffix_len is_blank s ≡ length s = omega arith in
     ap (λ n. take n s) whole ∙ take_whole s
 

@@ -49,7 +49,8 @@ no_letter letter c l h = grind (arith, nat_tests)
 no_hex : (ds : List ℕ) → list_all is_digit ds ≡ true → starts_with nat_eq ds (48 ∷ 120 ∷ []) ≡ false
 no_hex [] h = refl
 no_hex (c ∷ []) h = and_false (nat_eq 48 c)
-no_hex (c ∷ d ∷ ds) h = rw (no_x d (and_left (is_digit d) (list_all is_digit ds) (and_right (is_digit c) (list_all is_digit (d ∷ ds)) h))) (and_false (nat_eq 48 c))
+no_hex (c ∷ d ∷ ds) h = rw (no_x d (and_left (is_digit d) (list_all is_digit ds) (and_right (is_digit c) (list_all is_digit (d ∷ ds)) h)))
+    (and_false (nat_eq 48 c))
 
 pub number_decimal : (n : ℕ) → n < 2 ^ 64 → number_in (decimal n) ≡ Some n
 unfolding number_in

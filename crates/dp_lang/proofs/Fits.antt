@@ -8,7 +8,8 @@ use Rattle.dp_lang.specs.declared.form.Kind.{Kind}
 use Rattle.dp_lang.specs.declared.form.Kind.TheVariants as kinds
 use Rattle.dp_lang.specs.Lines.{trim}
 use Rattle.dp_lang.specs.Arguments.{packet, register, constant, label}
-use Rattle.dp_lang.specs.Forms.{register_or, number_where, is_within, is_width, register_or_constant, register_in, number_in, argument_of, is_name, is_of, all_of}
+use Rattle.dp_lang.specs.Forms.{register_or, number_where, is_within, is_width, register_or_constant, register_in, number_in, argument_of, is_name, is_of}
+use Rattle.dp_lang.specs.Forms.{all_of}
 use Rattle.dp_lang.specs.Reading.{Named, both, ◌>>=◌, onto, each_argument}
 use Rattle.dp_lang.specs.Views.{Shows}
 
@@ -19,7 +20,8 @@ cond_passes : (kind : Kind) (b : Bool) (o : Named) (c : Cause) → (b ≡ true �
 cond_passes kind true o c h = h refl
 cond_passes kind false o c h = tt
 
-number_passes : (kind : Kind) (test : ℕ → Bool) (n : Option ℕ) → ((m : ℕ) → test m ≡ true → is_of {L = List ℕ} kind (constant m) ≡ true) → Passes kind (number_where test n)
+number_passes : (kind : Kind) (test : ℕ → Bool) (n : Option ℕ) → ((m : ℕ) → test m ≡ true → is_of {L = List ℕ} kind (constant m) ≡ true) →
+    Passes kind (number_where test n)
 number_passes kind test None h = tt
 number_passes kind test (Some m) h = cond_passes kind (test m) (constant m) BadNumber (h m)
 
@@ -74,4 +76,5 @@ pub read_fits : {X E : Type 0} (ks : List Kind) (ps : List (List ℕ)) (view : X
     → IfOk r (λ read. Shows view read (each_argument ks ps)) → IfOk r (λ read. IfOk read (λ v. all_of ks (view v) ≡ true))
 read_fits ks ps view (Err e) len h = tt
 read_fits ks ps view (Ok (Err c)) len h = tt
-read_fits ks ps view (Ok (Ok v)) len h = let P : Result (List Named) Cause → Type 0 = λ x. IfOk x (λ os. all_of ks os ≡ true) in subst P h (each_passes ks ps len)
+read_fits ks ps view (Ok (Ok v)) len h = let P : Result (List Named) Cause → Type 0 = λ x. IfOk x (λ os. all_of ks os ≡ true) in
+    subst P h (each_passes ks ps len)

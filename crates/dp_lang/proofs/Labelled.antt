@@ -11,7 +11,8 @@ pub record AreNamed (program : List Instr) (i : ℕ) (named : List Bool) : Type 
   pub so_far : (n : ℕ) → n < length program → get_or named n false ≡ is_named (take i program) n
 
 -- one instruction more is printed
-pub printed_step : (program instrs : List Instr) (i : ℕ) (x : Instr) (out mid out' total : List ℕ) (b : Bool) → i < length instrs → x ≡ get_or instrs i x → b ≡ is_named program i
+pub printed_step : (program instrs : List Instr) (i : ℕ) (x : Instr) (out mid out' total : List ℕ) (b : Bool) → i < length instrs → x ≡ get_or instrs i x →
+    b ≡ is_named program i
     → mid ≡ out ++ cond b (line (label_name i ++ 58 ∷ [])) [] → out' ≡ mid ++ line (statement_text (spelled x))
     → out ++ printed_from program i (drop i instrs) ≡ total → out' ++ printed_from program (i + 1) (drop (i + 1) instrs) ≡ total
 printed_step program instrs i x out mid out' total b lt at is_b is_mid is_out so_far =
@@ -20,4 +21,5 @@ printed_step program instrs i x out mid out' total b lt at is_b is_mid is_out so
     let rest = printed_from program (i + 1) (drop (i + 1) instrs) in
     let cut : drop i instrs ≡ x ∷ drop (i + 1) instrs = rw add-one (drop-cons instrs i x lt ∙ ap (λ y. y ∷ drop (suc i) instrs) (sym at)) in
     let whole : out' ≡ (out ++ label) ++ text = is_out ∙ ap (λ m. m ++ text) (is_mid ∙ ap (λ c. out ++ cond c (line (label_name i ++ 58 ∷ [])) []) is_b) in
-    ap (λ t. t ++ rest) whole ∙ append_assoc (out ++ label) text rest ∙ append_assoc out label (text ++ rest) ∙ ap (λ is. out ++ printed_from program i is) (sym cut) ∙ so_far
+    ap (λ t. t ++ rest) whole ∙ append_assoc (out ++ label) text rest ∙ append_assoc out label (text ++ rest)
+    ∙ ap (λ is. out ++ printed_from program i is) (sym cut) ∙ so_far

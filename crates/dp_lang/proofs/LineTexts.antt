@@ -9,7 +9,8 @@ use Rattle.dp_lang.specs.Forms.{word_of, kinds_of, all_of}
 use Rattle.dp_lang.specs.Lines.{is_text, is_hash, is_colon, trim, pieces}
 use Rattle.dp_lang.specs.Printing.{argument_text, arguments_text, label_name}
 use Rattle.dp_lang.specs.Reading.{Source, statement_of, line_of}
-use Rattle.dp_lang.proofs.Bytes.{Free, is_plain, is_ink, plain_ink, plain_colon, plain_hash, plain_text, ink_hash, ink_colon, ink_text, all_implies, all_append, and_left, and_right}
+use Rattle.dp_lang.proofs.Bytes.{Free, is_plain, is_ink, plain_ink, plain_colon, plain_hash, plain_text, ink_hash, ink_colon, ink_text, all_implies}
+use Rattle.dp_lang.proofs.Bytes.{all_append, and_left, and_right}
 use Rattle.dp_lang.proofs.Cutting.{split_at, split_none, before_none, begins, ends, free_begins, free_ends, ends_append, trim_none, trim_start_none}
 use Rattle.dp_lang.proofs.Joins.{behind, arguments_text-behind}
 use Rattle.dp_lang.proofs.Operands.{named, is_small, argument_plain, name_label, plain_digits}
@@ -24,18 +25,22 @@ begins_append (b ∷ s) t h = h
 ink : (s : List ℕ) → list_all is_plain s ≡ true → list_all is_ink s ≡ true
 ink s h = all_implies is_plain is_ink plain_ink s h
 
-behind_ink : (before : List ℕ) (as' : List (Argument ℕ)) → list_all is_ink before ≡ true → list_all is_small as' ≡ true → list_all is_ink (behind before as') ≡ true
+behind_ink : (before : List ℕ) (as' : List (Argument ℕ)) → list_all is_ink before ≡ true → list_all is_small as' ≡ true → list_all is_ink (behind before as')
+    ≡ true
 behind_ink before [] h s = refl
 behind_ink before (a ∷ as') h s =
     all_append is_ink before (argument_text a ++ behind (44 ∷ []) as') h
-    (all_append is_ink (argument_text a) (behind (44 ∷ []) as') (ink (argument_text a) (argument_plain a (and_left (is_small a) (list_all is_small as') s))) (behind_ink (44 ∷ []) as' refl (and_right (is_small a) (list_all is_small as') s)))
+    (all_append is_ink (argument_text a) (behind (44 ∷ []) as') (ink (argument_text a) (argument_plain a (and_left (is_small a) (list_all is_small as') s)))
+    (behind_ink (44 ∷ []) as' refl (and_right (is_small a) (list_all is_small as') s)))
 
 behind_ends : (before : List ℕ) (a : Argument ℕ) (as' : List (Argument ℕ)) → list_all is_small (a ∷ as') ≡ true → ends (behind before (a ∷ as')) ≡ true
 behind_ends before a [] s =
     let small : is_small a ≡ true = and_left (is_small a) true s in
-    ends_append before (argument_text a ++ []) (ap ends (append-nil (argument_text a)) ∙ free_ends (argument_text a) (argument_some a small) (free_blank a small))
+    ends_append before (argument_text a ++ []) (ap ends (append-nil (argument_text a))
+    ∙ free_ends (argument_text a) (argument_some a small) (free_blank a small))
 behind_ends before a (b ∷ bs) s =
-    ends_append before (argument_text a ++ behind (44 ∷ []) (b ∷ bs)) (ends_append (argument_text a) (behind (44 ∷ []) (b ∷ bs)) (behind_ends (44 ∷ []) b bs (and_right (is_small a) (list_all is_small (b ∷ bs)) s)))
+    ends_append before (argument_text a ++ behind (44 ∷ []) (b ∷ bs)) (ends_append (argument_text a) (behind (44 ∷ []) (b ∷ bs))
+    (behind_ends (44 ∷ []) b bs (and_right (is_small a) (list_all is_small (b ∷ bs)) s)))
 
 arguments_ink : (as' : List (Argument ℕ)) → list_all is_small as' ≡ true → list_all is_ink (arguments_text as') ≡ true
 arguments_ink as' s = ap (list_all is_ink) (arguments_text-behind as') ∙ behind_ink (32 ∷ []) as' refl s
@@ -48,7 +53,8 @@ text_begins f t = begins_append (word_of f) t (free_begins (word_of f) (word_som
 
 text_ends : (f : Form) (as' : List (Argument ℕ)) → list_all is_small as' ≡ true → ends (word_of f ++ arguments_text as') ≡ true
 text_ends f [] s = ap ends (append-nil (word_of f)) ∙ free_ends (word_of f) (word_some f) (free_word f)
-text_ends f (a ∷ as') s = ap (λ r. ends (word_of f ++ r)) (arguments_text-behind (a ∷ as')) ∙ ends_append (word_of f) (behind (32 ∷ []) (a ∷ as')) (behind_ends (32 ∷ []) a as' s)
+text_ends f (a ∷ as') s = ap (λ r. ends (word_of f ++ r)) (arguments_text-behind (a ∷ as'))
+    ∙ ends_append (word_of f) (behind (32 ∷ []) (a ∷ as')) (behind_ends (32 ∷ []) a as' s)
 
 -- a text without comments and blanks round it is cut at its colons alone
 one_piece : (t : List ℕ) → Free is_hash t → begins t ≡ true → ends t ≡ true → pieces t ≡ slice_split is_colon t
@@ -56,8 +62,13 @@ one_piece t h b e = ap (λ r. slice_split is_colon (trim r)) (before_none is_has
 
 -- ---- an instruction's line
 
-pub line_statement : (line : ℕ) (source : Source) (f : Form) (as' : List (Argument ℕ)) → all_of (kinds_of f) as' ≡ true → list_all is_small as' ≡ true → length source.statements < 1024
-    → line_of line source (word_of f ++ arguments_text as') ≡ Ok (record { labels = source.labels; statements = source.statements ++ (line, record { form = f; arguments = map named as' }) ∷ [] })
+pub line_statement : (line : ℕ) (source : Source) (f : Form) (as' : List (Argument ℕ)) → all_of (kinds_of f) as' ≡ true → list_all is_small as' ≡ true →
+    length source.statements < 1024
+    → line_of line source (word_of f ++ arguments_text as') ≡ Ok (record {
+      labels = source.labels;
+      statements = source.statements
+          ++ (line, record { form = f; arguments = map named as' }) ∷ [];
+    })
 unfolding line_of
 line_statement line source f as' h s few =
     let t = word_of f ++ arguments_text as' in
@@ -71,14 +82,18 @@ line_statement line source f as' h s few =
 -- ---- a label's line
 
 pub line_label : (line : ℕ) (source : Source) (n : ℕ) → n < 2 ^ 64 → contains_key source.labels (label_name n) ≡ false
-    → line_of line source (label_name n ++ 58 ∷ []) ≡ Ok (record { labels = insert source.labels (label_name n) (length source.statements); statements = source.statements })
+    → line_of line source (label_name n ++ 58 ∷ []) ≡ Ok (record {
+      labels = insert source.labels (label_name n) (length source.statements);
+      statements = source.statements;
+    })
 unfolding line_of statement_of
 line_label line source n small new =
     let name = label_name n in
     let t = name ++ 58 ∷ [] in
     let plain : list_all is_plain name ≡ true = plain_digits n small in
     let cut : pieces t ≡ name ∷ [] ∷ [] =
-    one_piece t (all_append (λ b. not (is_hash b)) name (58 ∷ []) (all_implies is_plain (λ b. not (is_hash b)) plain_hash name plain) refl) refl (ends_append name (58 ∷ []) refl)
+    one_piece t (all_append (λ b. not (is_hash b)) name (58 ∷ []) (all_implies is_plain (λ b. not (is_hash b)) plain_hash name plain) refl) refl
+    (ends_append name (58 ∷ []) refl)
     ∙ split_at is_colon name 58 [] (all_implies is_plain (λ b. not (is_colon b)) plain_colon name plain) refl in
     rw (all_append is_text name (58 ∷ []) (all_implies is_plain is_text plain_text name plain) refl, cut, name_label n small, new) refl
 

@@ -1,6 +1,7 @@
 -- One more operand, label, line or statement.
 use Rattle.std.proofs.Math.Seq.{drop-cons}
-use Rattle.std.proofs.Common.{Bor, add-one, ◌≡◌, ℕ, ◌+◌, ◌<◌, ◌≤◌, true, List, [], ◌∷◌, ◌++◌, length, map, get_or, drop, take, ◌-◌, Option, Some, None, Result, Ok, Err, refl, sym, ap, ◌∙◌, append_assoc, arith, inl, inr}
+use Rattle.std.proofs.Common.{Bor, add-one, ◌≡◌, ℕ, ◌+◌, ◌<◌, ◌≤◌, true, List, [], ◌∷◌, ◌++◌, length, map, get_or, drop, take, ◌-◌, Option, Some, None}
+use Rattle.std.proofs.Common.{Result, Ok, Err, refl, sym, ap, ◌∙◌, append_assoc, arith, inl, inr}
 use Rattle.std.proofs.lemmas.Bool.{cases_lt, le-leb, lt-leb}
 use Rattle.std.specs.List.{list_all}
 use Rattle.std.proofs.lemmas.List.{length-map, get_or-map, take-map}
@@ -11,7 +12,8 @@ use Rattle.dp_lang.specs.Lines.{trim, trim_start, is_text, pieces, labels_in, in
 use Rattle.dp_lang.specs.Forms.{argument_of}
 use Rattle.dp_lang.specs.Spelling.{Statement}
 use Rattle.std.specs.FinMap.{insert}
-use Rattle.dp_lang.specs.Reading.{Named, both, ◌>>=◌, onto, second, each_argument, Labels, label_test, labels_after, Source, statement_of, with_statement, line_of}
+use Rattle.dp_lang.specs.Reading.{Named, both, ◌>>=◌, onto, second, each_argument, Labels, label_test, labels_after, Source, statement_of, with_statement}
+use Rattle.dp_lang.specs.Reading.{line_of}
 
 -- ---- the least of causes
 
@@ -69,7 +71,8 @@ prepend_none (Err e) = refl
 abbrev pub then_labels : Result (Unit {0}) Cause → Result Labels Cause → Result Labels Cause
 then_labels test rest = both test rest >>= second
 
-pub label_more : (fault : Option Cause) (u : Unit {0}) (rest total : Result Labels Cause) → noting fault (then_labels (Ok u) rest) ≡ total → noting fault rest ≡ total
+pub label_more : (fault : Option Cause) (u : Unit {0}) (rest total : Result Labels Cause) → noting fault (then_labels (Ok u) rest) ≡ total →
+    noting fault rest ≡ total
 label_more None u (Ok ls) total h = h
 label_more None u (Err c) total h = h
 label_more (Some d) u (Ok ls) total h = h
@@ -85,13 +88,15 @@ label_fault_more (Some d) c (Err e) total h = sym (ap (λ (x : Cause). Err x) (l
 -- the step at index i of a loop over kinds and parts
 each_step : (ks : List Kind) (ps : List (Bor (List ℕ))) (i : ℕ) (k : Kind) (p : Bor (List ℕ)) (r : Result Named Cause) → i < length ks → i < length ps
     → argument_of (get_or ks i k) (trim (get_or ps i p).now) ≡ r
-    → each_argument (drop i ks) (map (λ part. part.now) (drop i ps)) ≡ both r (each_argument (drop (i + 1) ks) (map (λ part. part.now) (drop (i + 1) ps))) >>= onto
+    → each_argument (drop i ks) (map (λ part. part.now) (drop i ps)) ≡ both r (each_argument (drop (i + 1) ks) (map (λ part. part.now) (drop (i + 1) ps))) >>=
+    onto
 each_step ks ps i k p r lt lt2 g =
     let a : drop i ks ≡ get_or ks i k ∷ drop (i + 1) ks = rw add-one (drop-cons ks i k lt) in
     let b : drop i ps ≡ get_or ps i p ∷ drop (i + 1) ps = rw add-one (drop-cons ps i p lt2) in
     rw (a, b, g) refl
 
-pub ok_goes_on : (ks : List Kind) (ps : List (Bor (List ℕ))) (i : ℕ) (k : Kind) (p : Bor (List ℕ)) (fault : Option Cause) (front : List Named) (o : Named) (total : Result (List Named) Cause)
+pub ok_goes_on : (ks : List Kind) (ps : List (Bor (List ℕ))) (i : ℕ) (k : Kind) (p : Bor (List ℕ)) (fault : Option Cause) (front : List Named) (o : Named)
+    (total : Result (List Named) Cause)
     → i < length ks → i < length ps → argument_of (get_or ks i k) (trim (get_or ps i p).now) ≡ Ok o
     → noting fault (prepend front (each_argument (drop i ks) (map (λ part. part.now) (drop i ps)))) ≡ total
     → noting fault (prepend (front ++ o ∷ []) (each_argument (drop (i + 1) ks) (map (λ part. part.now) (drop (i + 1) ps)))) ≡ total
@@ -99,7 +104,8 @@ ok_goes_on ks ps i k p fault front o total lt lt2 g so_far =
     argument_more fault front o (each_argument (drop (i + 1) ks) (map (λ part. part.now) (drop (i + 1) ps))) total
     (ap (λ (r : Result (List Named) Cause). noting fault (prepend front r)) (sym (each_step ks ps i k p (Ok o) lt lt2 g)) ∙ so_far)
 
-pub err_goes_on : (ks : List Kind) (ps : List (Bor (List ℕ))) (i : ℕ) (k : Kind) (p : Bor (List ℕ)) (fault : Option Cause) (front : List Named) (c : Cause) (total : Result (List Named) Cause)
+pub err_goes_on : (ks : List Kind) (ps : List (Bor (List ℕ))) (i : ℕ) (k : Kind) (p : Bor (List ℕ)) (fault : Option Cause) (front : List Named) (c : Cause)
+    (total : Result (List Named) Cause)
     → i < length ks → i < length ps → argument_of (get_or ks i k) (trim (get_or ps i p).now) ≡ Err c
     → noting fault (prepend front (each_argument (drop i ks) (map (λ part. part.now) (drop i ps)))) ≡ total
     → noting (Some (or_less fault c)) (prepend front (each_argument (drop (i + 1) ks) (map (λ part. part.now) (drop (i + 1) ps)))) ≡ total
@@ -111,13 +117,15 @@ err_goes_on ks ps i k p fault front c total lt lt2 g so_far =
 abbrev trimmed : List (Bor (List ℕ)) → List (List ℕ)
 trimmed ps = map (λ piece. trim_start piece.now) ps
 
-labels_step : (n : ℕ) (ls : Labels) (ps : List (Bor (List ℕ))) (i : ℕ) (p : Bor (List ℕ)) (t : List ℕ) (r : Result (Unit {0}) Cause) → i < length ps → t ≡ trim_start (get_or ps i p).now
+labels_step : (n : ℕ) (ls : Labels) (ps : List (Bor (List ℕ))) (i : ℕ) (p : Bor (List ℕ)) (t : List ℕ) (r : Result (Unit {0}) Cause) → i < length ps →
+    t ≡ trim_start (get_or ps i p).now
     → label_test ls t ≡ r → labels_after n ls (trimmed (drop i ps)) ≡ then_labels r (labels_after n (insert ls t n) (trimmed (drop (i + 1) ps)))
 labels_step n ls ps i p t r lt e g =
     let a : drop i ps ≡ get_or ps i p ∷ drop (i + 1) ps = rw add-one (drop-cons ps i p lt) in
     rw (a, ← e, g) refl
 
-pub label_goes_on : (n : ℕ) (ls : Labels) (ps : List (Bor (List ℕ))) (i : ℕ) (p : Bor (List ℕ)) (t : List ℕ) (fault : Option Cause) (u : Unit {0}) (total : Result Labels Cause)
+pub label_goes_on : (n : ℕ) (ls : Labels) (ps : List (Bor (List ℕ))) (i : ℕ) (p : Bor (List ℕ)) (t : List ℕ) (fault : Option Cause) (u : Unit {0})
+    (total : Result Labels Cause)
     → i < length ps → t ≡ trim_start (get_or ps i p).now → label_test ls t ≡ Ok u
     → noting fault (labels_after n ls (map (λ piece. trim_start piece.now) (drop i ps))) ≡ total
     → noting fault (labels_after n (insert ls t n) (map (λ piece. trim_start piece.now) (drop (i + 1) ps))) ≡ total
@@ -125,7 +133,8 @@ label_goes_on n ls ps i p t fault u total lt e g so_far =
     label_more fault u (labels_after n (insert ls t n) (trimmed (drop (i + 1) ps))) total
     (ap (λ (r : Result Labels Cause). noting fault r) (sym (labels_step n ls ps i p t (Ok u) lt e g)) ∙ so_far)
 
-pub label_fault_goes_on : (n : ℕ) (ls : Labels) (ps : List (Bor (List ℕ))) (i : ℕ) (p : Bor (List ℕ)) (t : List ℕ) (fault : Option Cause) (c : Cause) (total : Result Labels Cause)
+pub label_fault_goes_on : (n : ℕ) (ls : Labels) (ps : List (Bor (List ℕ))) (i : ℕ) (p : Bor (List ℕ)) (t : List ℕ) (fault : Option Cause) (c : Cause)
+    (total : Result Labels Cause)
     → i < length ps → t ≡ trim_start (get_or ps i p).now → label_test ls t ≡ Err c
     → noting fault (labels_after n ls (map (λ piece. trim_start piece.now) (drop i ps))) ≡ total
     → noting (Some (or_less fault c)) (labels_after n (insert ls t n) (map (λ piece. trim_start piece.now) (drop (i + 1) ps))) ≡ total
@@ -135,20 +144,23 @@ label_fault_goes_on n ls ps i p t fault c total lt e g so_far =
 
 -- ---- lines
 
-pub instruction_is : (ps : List (Bor (List ℕ))) (d : Bor (List ℕ)) → 0 < length ps → instruction_in (map (λ part. part.now) ps) ≡ trim_start (get_or ps (length ps - 1) d).now
+pub instruction_is : (ps : List (Bor (List ℕ))) (d : Bor (List ℕ)) → 0 < length ps → instruction_in (map (λ part. part.now) ps)
+    ≡ trim_start (get_or ps (length ps - 1) d).now
 instruction_is ps d some =
     let lt : length ps - 1 < length ps = omega arith in
     rw (length-map ps (λ (part : Bor (List ℕ)). part.now), get_or-map (λ (part : Bor (List ℕ)). part.now) ps (length ps - 1) d [] lt) refl
 
 pub labels_are : (ps : List (Bor (List ℕ))) → labels_in (map (λ part. part.now) ps) ≡ map (λ piece. trim_start piece.now) (take (length ps - 1) ps)
-labels_are ps = rw (length-map ps (λ (part : Bor (List ℕ)). part.now), take-map (λ (part : Bor (List ℕ)). part.now) (length ps - 1) ps) (map_map (take (length ps - 1) ps))
+labels_are ps = rw (length-map ps (λ (part : Bor (List ℕ)). part.now), take-map (λ (part : Bor (List ℕ)). part.now) (length ps - 1) ps)
+    (map_map (take (length ps - 1) ps))
   where
     map_map : (qs : List (Bor (List ℕ))) → map trim_start (map (λ part. part.now) qs) ≡ map (λ piece. trim_start piece.now) qs
     map_map [] = refl
     map_map (q ∷ qs) = rw (map_map qs) refl
 
 -- what a line gives, by the pieces of its text
-pub line_is : (line : ℕ) (source : Source) (text : List ℕ) (ps : List (Bor (List ℕ))) (d : Bor (List ℕ)) (s : Result (Option (Statement (List ℕ))) Cause) (ls : Result Labels Cause)
+pub line_is : (line : ℕ) (source : Source) (text : List ℕ) (ps : List (Bor (List ℕ))) (d : Bor (List ℕ)) (s : Result (Option (Statement (List ℕ))) Cause)
+    (ls : Result Labels Cause)
     → list_all is_text text ≡ true → map (λ part. part.now) ps ≡ pieces text → 0 < length ps
     → statement_of (trim_start (get_or ps (length ps - 1) d).now) ≡ s
     → labels_after (length source.statements) source.labels (map (λ piece. trim_start piece.now) (take (length ps - 1) ps)) ≡ ls

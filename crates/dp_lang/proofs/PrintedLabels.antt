@@ -27,7 +27,8 @@ apart true P h differ = absurd (differ (h refl))
 apart false P h differ = refl
 
 get_other : (labels : Labels) (k q : List ℕ) (v : ℕ) → (q ≡ k → ⊥) → get (insert labels k v) q ≡ get labels q
-get_other labels k q v differ = get_insert labels k q v ∙ ap (λ b. cond b (Some v) (get labels q)) (apart (bytes_eq q k) (q ≡ k) (bytes_eq-Decides q k).0 differ)
+get_other labels k q v differ = get_insert labels k q v ∙ ap (λ b. cond b (Some v) (get labels q))
+    (apart (bytes_eq q k) (q ≡ k) (bytes_eq-Decides q k).0 differ)
 
 tail_same : (c : ℕ) (s t : List ℕ) → c ∷ s ≡ c ∷ t → s ≡ t
 tail_same c s t h = cc
@@ -61,7 +62,8 @@ placed_skip program n labels none p = record {
     true_false true h k = cc
     true_false false h k = cc
 
-pub placed_insert : (program : List Instr) (n : ℕ) (labels : Labels) → n < 2 ^ 64 → ArePlaced program n labels → ArePlaced program (suc n) (insert labels (label_name n) n)
+pub placed_insert : (program : List Instr) (n : ℕ) (labels : Labels) → n < 2 ^ 64 → ArePlaced program n labels →
+    ArePlaced program (suc n) (insert labels (label_name n) n)
 placed_insert program n labels small p = record {
   earlier = λ m lt h. elim (cases_lt m n) [
     | inl below ↦ get_other labels (label_name n) (label_name m) n (other_name m n (omega arith) small (λ e. omega arith)) ∙ p.earlier m below h

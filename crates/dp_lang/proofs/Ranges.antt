@@ -49,14 +49,17 @@ argument_small count few kinds.RegisterOrConstant (constant n) h s b = and_right
 argument_small count few kinds.Label (label l) h s b = label_short l count few b
 argument_small count few _ _ h s b = absurd cc
 
-all_small : (count : ℕ) → count ≤ 1024 → (ks : List Kind) (as' : List (Argument ℕ)) → all_of ks as' ≡ true → list_all is_short ks ≡ true → list_all (is_below count) as' ≡ true → list_all is_small as' ≡ true
+all_small : (count : ℕ) → count ≤ 1024 → (ks : List Kind) (as' : List (Argument ℕ)) → all_of ks as' ≡ true → list_all is_short ks ≡ true →
+    list_all (is_below count) as' ≡ true → list_all is_small as' ≡ true
 all_small count few [] [] h s b = refl
 all_small count few [] (a ∷ as') h s b = absurd cc
 all_small count few (k ∷ ks) [] h s b = absurd cc
 all_small count few (k ∷ ks) (a ∷ as') h s b =
     and_true (is_small a) (list_all is_small as')
-    (argument_small count few k a (and_left (is_of k a) (all_of ks as') h) (and_left (is_short k) (list_all is_short ks) s) (and_left (is_below count a) (list_all (is_below count) as') b))
-    (all_small count few ks as' (and_right (is_of k a) (all_of ks as') h) (and_right (is_short k) (list_all is_short ks) s) (and_right (is_below count a) (list_all (is_below count) as') b))
+    (argument_small count few k a (and_left (is_of k a) (all_of ks as') h) (and_left (is_short k) (list_all is_short ks) s)
+    (and_left (is_below count a) (list_all (is_below count) as') b))
+    (all_small count few ks as' (and_right (is_of k a) (all_of ks as') h) (and_right (is_short k) (list_all is_short ks) s)
+    (and_right (is_below count a) (list_all (is_below count) as') b))
 
 -- ---- the label of an instruction
 
@@ -84,5 +87,6 @@ below count (instr.Tx p r l) h = rw h refl
 below count (instr.Enq p ring l) h = rw h refl
 below count _ h = refl
 
-pub operands_small : (count : ℕ) → count ≤ 1024 → (i : Instr) → is_in_range i ≡ true → leads_below count i ≡ true → list_all is_small (spelled i).arguments ≡ true
+pub operands_small : (count : ℕ) → count ≤ 1024 → (i : Instr) → is_in_range i ≡ true → leads_below count i ≡ true → list_all is_small (spelled i).arguments
+    ≡ true
 operands_small count few i h b = all_small count few (kinds_of (spelled i).form) (spelled i).arguments h (kinds_short (spelled i).form) (below count i b)

@@ -53,7 +53,8 @@ abbrev pub AllFind : (List ℕ → Option ℕ) → List Instr → Type 0
 AllFind target [] = Unit {0}
 AllFind target (i ∷ is) = Finds target i × AllFind target is
 
-pub statements_resolve : (target : List ℕ → Option ℕ) (ss : List (ℕ × Statement (List ℕ))) (is : List Instr) → map (λ s. s.1) ss ≡ map with_names is → AllFind target is → all_statements target ss ≡ Ok (map spelled is)
+pub statements_resolve : (target : List ℕ → Option ℕ) (ss : List (ℕ × Statement (List ℕ))) (is : List Instr) → map (λ s. s.1) ss ≡ map with_names is →
+    AllFind target is → all_statements target ss ≡ Ok (map spelled is)
 statements_resolve target [] [] e h = refl
 statements_resolve target [] (i ∷ is) e h = absurd cc
 statements_resolve target (s ∷ ss) [] e h = absurd cc
@@ -70,12 +71,14 @@ or_more true b h = refl
 or_more false b h = h
 
 -- each label is found that some instruction names
-pub all_find : (target : List ℕ → Option ℕ) (program : List Instr) (count : ℕ) → ((l : ℕ) → is_named program l ≡ true → nat_lt l count ≡ true → target (label_name l) ≡ Some l)
+pub all_find : (target : List ℕ → Option ℕ) (program : List Instr) (count : ℕ) →
+    ((l : ℕ) → is_named program l ≡ true → nat_lt l count ≡ true → target (label_name l) ≡ Some l)
     → (is : List Instr) → ((l : ℕ) → list_any (names l) is ≡ true → is_named program l ≡ true) → list_all (leads_below count) is ≡ true → AllFind target is
 all_find target program count found [] within b = tt
 all_find target program count found (i ∷ is) within b = (
   (λ l e. found l
       (within l (or_true (names l i) (list_any (names l) is) (ap (λ o. option_map_or (λ k. k == l) o false) e ∙ eq-eqb l l refl)))
       (sym (ap (λ o. option_map_or (λ to. nat_lt to count) o true) e) ∙ and_left (leads_below count i) (list_all (leads_below count) is) b)),
-  all_find target program count found is (λ l h. within l (or_more (names l i) (list_any (names l) is) h)) (and_right (leads_below count i) (list_all (leads_below count) is) b),
+  all_find target program count found is (λ l h. within l (or_more (names l i) (list_any (names l) is) h))
+      (and_right (leads_below count i) (list_all (leads_below count) is) b),
 )

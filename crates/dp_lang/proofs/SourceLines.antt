@@ -18,6 +18,7 @@ firsts (s ∷ statements) = ap (λ lines. s.line ∷ lines) (firsts statements)
 pub lines_are : (text : List ℕ) (parts : List (List ℕ)) (source : Source) (lines : List ℕ) → parts ≡ slice_split is_newline text
     → lines_of 1 nothing parts ≡ Ok (view.source source) → lines ≡ map (λ s. s.line) source.statements.items → source_lines text ≡ Ok lines
 lines_are text parts source lines e f g =
-    let read : lines_of 1 nothing (slice_split is_newline text) ≡ Ok (view.source source) = subst (λ (p : List (List ℕ)). lines_of 1 nothing p ≡ Ok (view.source source)) e f in
+    let read : lines_of 1 nothing (slice_split is_newline text) ≡ Ok (view.source source) =
+    subst (λ (p : List (List ℕ)). lines_of 1 nothing p ≡ Ok (view.source source)) e f in
     let then_lines : Result reading.Source Fault → Result (List ℕ) Fault = λ r. r >>= (λ source. Ok (map (λ s. s.0) source.statements)) in
     ap then_lines read ∙ ap Ok (firsts source.statements.items ∙ sym g)

@@ -1,5 +1,6 @@
 -- An instruction that is printed, read again.
-use Rattle.std.proofs.Common.{◌≡◌, ℕ, suc, ◌<◌, Bool, true, false, not, List, [], ◌∷◌, ◌++◌, length, map, Some, Ok, refl, sym, ap, ◌∙◌, eq-eqb, append-nil, length-append, arith}
+use Rattle.std.proofs.Common.{◌≡◌, ℕ, suc, ◌<◌, Bool, true, false, not, List, [], ◌∷◌, ◌++◌, length, map, Some, Ok, refl, sym, ap, ◌∙◌, eq-eqb, append-nil}
+use Rattle.std.proofs.Common.{length-append, arith}
 use Rattle.std.specs.Prelude.{◌&&◌}
 use Rattle.std.specs.List.{list_all, slice_split, after_first}
 use Rattle.std.proofs.lemmas.List.{length-map}
@@ -48,7 +49,8 @@ free_comma : (a : Argument ℕ) → is_small a ≡ true → Free is_comma (argum
 free_comma a h = all_implies is_plain (λ b. not (is_comma b)) plain_comma (argument_text a) (argument_plain a h)
 
 trimmed : (a : Argument ℕ) → is_small a ≡ true → trim (argument_text a) ≡ argument_text a
-trimmed a h = trim_none (argument_text a) (free_begins (argument_text a) (argument_some a h) (free_blank a h)) (free_ends (argument_text a) (argument_some a h) (free_blank a h))
+trimmed a h = trim_none (argument_text a) (free_begins (argument_text a) (argument_some a h) (free_blank a h))
+    (free_ends (argument_text a) (argument_some a h) (free_blank a h))
 
 as_many : (ks : List Kind) (as' : List (Argument ℕ)) → all_of ks as' ≡ true → length ks ≡ length as'
 as_many [] [] h = refl
@@ -56,19 +58,27 @@ as_many [] (a ∷ as') h = absurd cc
 as_many (k ∷ ks) [] h = absurd cc
 as_many (k ∷ ks) (a ∷ as') h = ap suc (as_many ks as' (and_right (is_of k a) (all_of ks as') h))
 
-each_read : (ks : List Kind) (as' : List (Argument ℕ)) → all_of ks as' ≡ true → list_all is_small as' ≡ true → each_argument ks (map argument_text as') ≡ Ok (map named as')
+each_read : (ks : List Kind) (as' : List (Argument ℕ)) → all_of ks as' ≡ true → list_all is_small as' ≡ true → each_argument ks (map argument_text as')
+    ≡ Ok (map named as')
 each_read [] [] h s = refl
 each_read [] (a ∷ as') h s = absurd cc
 each_read (k ∷ ks) [] h s = absurd cc
 each_read (k ∷ ks) (a ∷ as') h s =
     let small : is_small a ≡ true = and_left (is_small a) (list_all is_small as') s in
-    rw (trimmed a small, argument_read k a (and_left (is_of k a) (all_of ks as') h) small, each_read ks as' (and_right (is_of k a) (all_of ks as') h) (and_right (is_small a) (list_all is_small as') s)) refl
+    rw (
+      trimmed a small,
+      argument_read k a (and_left (is_of k a) (all_of ks as') h) small,
+      each_read ks as' (and_right (is_of k a) (all_of ks as') h) (and_right (is_small a) (list_all is_small as') s),
+    ) refl
 
-arguments_read : (ks : List Kind) (as' : List (Argument ℕ)) → all_of ks as' ≡ true → list_all is_small as' ≡ true → arguments_of ks (map argument_text as') ≡ Ok (map named as')
-arguments_read ks as' h s = rw (eq-eqb (length ks) (length (map argument_text as')) (as_many ks as' h ∙ sym (length-map as' argument_text))) (each_read ks as' h s)
+arguments_read : (ks : List Kind) (as' : List (Argument ℕ)) → all_of ks as' ≡ true → list_all is_small as' ≡ true → arguments_of ks (map argument_text as')
+    ≡ Ok (map named as')
+arguments_read ks as' h s = rw (eq-eqb (length ks) (length (map argument_text as')) (as_many ks as' h ∙ sym (length-map as' argument_text)))
+    (each_read ks as' h s)
 
 -- operands behind commas are cut at these
-parts : (a : Argument ℕ) (as' : List (Argument ℕ)) → list_all is_small (a ∷ as') ≡ true → slice_split is_comma (argument_text a ++ behind (44 ∷ []) as') ≡ map argument_text (a ∷ as')
+parts : (a : Argument ℕ) (as' : List (Argument ℕ)) → list_all is_small (a ∷ as') ≡ true → slice_split is_comma (argument_text a ++ behind (44 ∷ []) as')
+    ≡ map argument_text (a ∷ as')
 parts a [] s = ap (slice_split is_comma) (append-nil (argument_text a)) ∙ split_none is_comma (argument_text a) (free_comma a (and_left (is_small a) true s))
 parts a (b ∷ bs) s =
     split_at is_comma (argument_text a) 44 (argument_text b ++ behind (44 ∷ []) bs) (free_comma a (and_left (is_small a) (list_all is_small (b ∷ bs)) s)) refl
@@ -82,7 +92,8 @@ not_blank (b ∷ s) t h = blank_first (is_blank b) (list_all is_blank (s ++ t)) 
     blank_first true c h = absurd cc
     blank_first false c h = refl
 
-operands_read : (a : Argument ℕ) (as' : List (Argument ℕ)) → list_all is_small (a ∷ as') ≡ true → operands_in (argument_text a ++ behind (44 ∷ []) as') ≡ map argument_text (a ∷ as')
+operands_read : (a : Argument ℕ) (as' : List (Argument ℕ)) → list_all is_small (a ∷ as') ≡ true → operands_in (argument_text a ++ behind (44 ∷ []) as')
+    ≡ map argument_text (a ∷ as')
 operands_read a as' s =
     let small : is_small a ≡ true = and_left (is_small a) (list_all is_small as') s in
     rw (not_blank (argument_text a) (behind (44 ∷ []) as') (free_begins (argument_text a) (argument_some a small) (free_blank a small))) (parts a as' s)
@@ -97,7 +108,8 @@ unfolding statement_of
 statement_cons [] l = absurd (omega arith)
 statement_cons (b ∷ t) l = refl
 
-form_read : (f : Form) (as' : List (Argument ℕ)) (ps : List (List ℕ)) (w : List ℕ) → all_of (kinds_of f) as' ≡ true → list_all is_small as' ≡ true → ps ≡ map argument_text as' → w ≡ word_of f
+form_read : (f : Form) (as' : List (Argument ℕ)) (ps : List (List ℕ)) (w : List ℕ) → all_of (kinds_of f) as' ≡ true → list_all is_small as' ≡ true →
+    ps ≡ map argument_text as' → w ≡ word_of f
     → with_form ps (form_of w) ≡ Ok (Some (record { form = f; arguments = map named as' }))
 form_read f as' ps w h s e k = rw (e, k, form_of_word f, arguments_read (kinds_of f) as' h s) refl
 
@@ -109,7 +121,8 @@ pub statement_read : (f : Form) (as' : List (Argument ℕ)) → all_of (kinds_of
 statement_read f [] h s =
     ap statement_of (append-nil (word_of f))
     ∙ statement_cons (word_of f) (word_some f)
-    ∙ form_read f [] (operands_in (after_first is_blank (word_of f))) (word_in (word_of f)) h s (ap operands_in (after_none is_blank (word_of f) (free_word f))) (before_none is_blank (word_of f) (free_word f))
+    ∙ form_read f [] (operands_in (after_first is_blank (word_of f))) (word_in (word_of f)) h s
+    (ap operands_in (after_none is_blank (word_of f) (free_word f))) (before_none is_blank (word_of f) (free_word f))
 statement_read f (a ∷ as') h s =
     let rest = argument_text a ++ behind (44 ∷ []) as' in
     let t = word_of f ++ 32 ∷ rest in

@@ -11,7 +11,8 @@ use Rattle.dp_lang.specs.declared.argument.Named.{Named}
 use Rattle.dp_lang.specs.declared.argument.Named.TheVariants.{Packet, Register, Constant, Name}
 use Rattle.dp_lang.specs.declared.building.Given.{Given}
 use Rattle.dp_lang.specs.declared.form.Form.{Form}
-use Rattle.dp_lang.specs.declared.form.Form.TheVariants.{Alloc, Free, Clone, Prepend, Adj, Append, Trim, Chain, IfHead, IfTail, IfLen, IfLast, Load, Store, LoadX, StoreX, Set, Mov, Add, Sub, And, Or, Xor, Shl, Shr, Jmp, Jeq, Jlt, Lookup, Tx, Enq, Exit}
+use Rattle.dp_lang.specs.declared.form.Form.TheVariants.{Alloc, Free, Clone, Prepend, Adj, Append, Trim, Chain, IfHead, IfTail, IfLen, IfLast, Load, Store}
+use Rattle.dp_lang.specs.declared.form.Form.TheVariants.{LoadX, StoreX, Set, Mov, Add, Sub, And, Or, Xor, Shl, Shr, Jmp, Jeq, Jlt, Lookup, Tx, Enq, Exit}
 
 -- ---- an operand as what a field has
 

@@ -86,7 +86,8 @@ pub record Source : Type 0 where
 -- at most 1,024 instructions
 abbrev pub with_statement : ℕ → Source → Option (Statement (List ℕ)) → Labels → Result Source Cause
 with_statement line source None labels = Ok (record { labels = labels; statements = source.statements })
-with_statement line source (Some s) labels = if nat_lt (length source.statements) 1024 then Ok (record { labels = labels; statements = source.statements ++ (line, s) ∷ [] }) else Err Size
+with_statement line source (Some s) labels = if nat_lt (length source.statements) 1024
+    then Ok (record { labels = labels; statements = source.statements ++ (line, s) ∷ [] }) else Err Size
 
 -- what one more line gives, or its least cause
 unfoldable pub line_of : ℕ → Source → List ℕ → Result Source Cause

@@ -14,7 +14,8 @@ use Rattle.dp_lpm.proofs.Answering.{settled_keeps}
 abbrev pub rule_of : ℕ → ℕ → ℕ → Rule
 rule_of prefix depth hop = record { prefix = prefix; depth = depth; hop = hop }
 
-pub rule_is : (ip depth hop prefix : ℕ) → prefix ≡ prefix_of ip depth → ip < 4294967296 → 1 ≤ depth → depth ≤ 32 → hop ≤ 16777215 → IsRoute (route_of (rule_of prefix depth hop))
+pub rule_is : (ip depth hop prefix : ℕ) → prefix ≡ prefix_of ip depth → ip < 4294967296 → 1 ≤ depth → depth ≤ 32 → hop ≤ 16777215 →
+    IsRoute (route_of (rule_of prefix depth hop))
 rule_is ip depth hop prefix is small some most low = record {
   some = some;
   most = most;
@@ -22,12 +23,15 @@ rule_is ip depth hop prefix is small some most low = record {
   hop = low;
 }
 
-pub added_group : (old new : Store) (ip depth hop prefix : ℕ) → prefix ≡ prefix_of ip depth → depth ≤ 32 → TakesIn old new (route_of (rule_of prefix depth hop)) → 24 < depth → (g : ℕ) × (group_at new.table (ip / 256) ≡ Some g)
+pub added_group : (old new : Store) (ip depth hop prefix : ℕ) → prefix ≡ prefix_of ip depth → depth ≤ 32 →
+    TakesIn old new (route_of (rule_of prefix depth hop)) → 24 < depth → (g : ℕ) × (group_at new.table (ip / 256) ≡ Some g)
 added_group old new ip depth hop prefix is most takes deep =
     let first : first_of (route_of (rule_of prefix depth hop)) ≡ ip / 256 = ap (λ p. p / 2 ^ (depth - 24)) is ∙ deep_first ip depth deep most in
     subst (λ i. (g : ℕ) × (group_at new.table i ≡ Some g)) first (takes.group deep)
 
-pub added_keeps : (old mid new : Store) (ip depth hop prefix : ℕ) → prefix ≡ prefix_of ip depth → 1 ≤ depth → depth ≤ 32 → TakesIn old mid (route_of (rule_of prefix depth hop)) → Settled (start_of ip depth) (2 ^ (32 - depth)) depth (Hop hop depth) mid.table new.table → new.rules ≡ mid.rules → new.max_rules ≡ mid.max_rules → IsKept new
+pub added_keeps : (old mid new : Store) (ip depth hop prefix : ℕ) → prefix ≡ prefix_of ip depth → 1 ≤ depth → depth ≤ 32 →
+    TakesIn old mid (route_of (rule_of prefix depth hop)) → Settled (start_of ip depth) (2 ^ (32 - depth)) depth (Hop hop depth) mid.table new.table →
+    new.rules ≡ mid.rules → new.max_rules ≡ mid.max_rules → IsKept new
 added_keeps old mid new ip depth hop prefix is some most takes settled rules max =
     subst (λ v. Keeps (routes_in new) (routes_of v.items) new) (sym rules)
     (settled_keeps (routes_in old) (routes_in mid) mid new ip depth (Some (route_of (rule_of prefix depth hop))) takes.kept

@@ -17,7 +17,10 @@ group_there (x ∷ cells) zero g named = omega arith
 group_there (x ∷ cells) (suc i) g named = omega (arith, group_there cells i g named)
 
 -- first bits whose group has one rule less give it up: all its entries are the same
-pub closed_last : (old new : Table) (first g : ℕ) (cell : Cell) → IsTable old → group_at old first ≡ Some g → slice_index old.counts.items g ≡ 1 → ((j : ℕ) → j < 256 → at old.cells.items (g * 256 + j) ≡ at old.cells.items (g * 256)) → entry_in cell ≡ at old.cells.items (g * 256) → new.first.items ≡ slice_set old.first.items first cell → new.cells.items ≡ old.cells.items → new.counts.items ≡ slice_set old.counts.items g 0 → Closed first old new
+pub closed_last : (old new : Table) (first g : ℕ) (cell : Cell) → IsTable old → group_at old first ≡ Some g → slice_index old.counts.items g ≡ 1 →
+    ((j : ℕ) → j < 256 → at old.cells.items (g * 256 + j) ≡ at old.cells.items (g * 256)) → entry_in cell ≡ at old.cells.items (g * 256) →
+    new.first.items ≡ slice_set old.first.items first cell → new.cells.items ≡ old.cells.items → new.counts.items ≡ slice_set old.counts.items g 0 →
+    Closed first old new
 closed_last old new first g cell table named one even is firsts cells counts = record {
   table = record {
     first = ap length firsts ∙ (length-set old.first.items first cell ∙ table.first);
@@ -25,12 +28,14 @@ closed_last old new first g cell table named one even is firsts cells counts = r
     few = omega (arith, len, table.few);
     named = λ i h is. omega (arith, len, table.named i h (was i h is));
     used = λ i h is.
-        let now : slice_index new.counts.items h ≡ slice_index old.counts.items h = ap (λ xs. slice_index xs h) counts ∙ index_set_other old.counts.items g h 0 (λ e. not_first i h is (table.apart i first g (was i h is ∙ ap Some e) named)) in
+        let now : slice_index new.counts.items h ≡ slice_index old.counts.items h = ap (λ xs. slice_index xs h) counts
+        ∙ index_set_other old.counts.items g h 0 (λ e. not_first i h is (table.apart i first g (was i h is ∙ ap Some e) named)) in
         omega (arith, now, table.used i h (was i h is));
     apart = λ i j h is other. table.apart i j h (was i h is) (was j h other);
     leaves = λ k. ap (λ xs. group_in (at xs k)) cells ∙ table.leaves k;
   };
-  same = λ ip. ⊎_elim (here ip) (λ (e : ip / 256 ≢ first). entry_same old new ip (elsewhere (ip / 256) e) (λ h _. ap (λ xs. at xs (h * 256 + ip % 256)) cells)) (cases_eq (ip / 256) first);
+  same = λ ip. ⊎_elim (here ip) (λ (e : ip / 256 ≢ first). entry_same old new ip (elsewhere (ip / 256) e)
+      (λ h _. ap (λ xs. at xs (h * 256 + ip % 256)) cells)) (cases_eq (ip / 256) first);
   group = g;
   before = named;
   last = λ _. none;

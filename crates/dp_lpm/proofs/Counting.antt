@@ -1,5 +1,6 @@
 -- How many deep routes begin with 24 bits, and how many groups they need.
-use Rattle.std.proofs.Common.{◌≡◌, ◌≢◌, ℕ, zero, suc, ◌+◌, ◌-◌, ◌/◌, ◌^◌, ◌<◌, ◌≤◌, Bool, true, false, cond, ◌&&◌, ◌||◌, List, [], ◌∷◌, ◌++◌, length, Some, None, refl, sym, ◌∙◌, ap, arith, ⊎_elim}
+use Rattle.std.proofs.Common.{◌≡◌, ◌≢◌, ℕ, zero, suc, ◌+◌, ◌-◌, ◌/◌, ◌^◌, ◌<◌, ◌≤◌, Bool, true, false, cond, ◌&&◌, ◌||◌, List, [], ◌∷◌, ◌++◌, length, Some}
+use Rattle.std.proofs.Common.{None, refl, sym, ◌∙◌, ap, arith, ⊎_elim}
 use Rattle.std.specs.Prelude.{◌==◌, nat_lt, position, slice_index, slice_set}
 use Rattle.std.specs.List.{list_any, position_from}
 use Rattle.std.proofs.lemmas.Bool.{eqb-true, eq-eqb, lt-ltb, le-ltb, and_parts, cases_eq, cases_lt}
@@ -18,24 +19,29 @@ pub deep_count-append : (xs ys : List Route) (i : ℕ) → deep_count (xs ++ ys)
 deep_count-append [] ys i = omega arith
 deep_count-append (x ∷ xs) ys i = omega (arith, deep_count-append xs ys i)
 
-pub spliced_count : (old new : List Rule) (prefix depth i : ℕ) (s : Splice old new prefix depth) → deep_count (routes_of new) i + deep_count (routes_of s.out) i ≡ deep_count (routes_of old) i + deep_count (routes_of s.into) i
+pub spliced_count : (old new : List Rule) (prefix depth i : ℕ) (s : Splice old new prefix depth) →
+    deep_count (routes_of new) i + deep_count (routes_of s.out) i ≡ deep_count (routes_of old) i + deep_count (routes_of s.into) i
 spliced_count old new prefix depth i s =
     let before = ap (λ rs. deep_count (routes_of rs) i) s.old_is ∙ three s.first s.out s.last in
     let after = ap (λ rs. deep_count (routes_of rs) i) s.new_is ∙ three s.first s.into s.last in
     omega (arith, before, after)
   where
-    three : (xs ys zs : List Rule) → deep_count (routes_of (xs ++ (ys ++ zs))) i ≡ deep_count (routes_of xs) i + (deep_count (routes_of ys) i + deep_count (routes_of zs) i)
+    three : (xs ys zs : List Rule) → deep_count (routes_of (xs ++ (ys ++ zs))) i
+        ≡ deep_count (routes_of xs) i + (deep_count (routes_of ys) i + deep_count (routes_of zs) i)
     three xs ys zs =
         ap (λ rs. deep_count rs i) (map-append route_of xs (ys ++ zs) ∙ ap (λ rs. routes_of xs ++ rs) (map-append route_of ys zs))
         ∙ (deep_count-append (routes_of xs) (routes_of ys ++ routes_of zs) i
         ∙ ap (λ n. deep_count (routes_of xs) i + n) (deep_count-append (routes_of ys) (routes_of zs) i))
 
 -- a route that is found counts for its first 24 bits
-pub found_counts : (routes : List Route) (prefix depth i : ℕ) (q : Route) → route_at routes prefix depth ≡ Some q → 24 < depth → prefix / 2 ^ (depth - 24) ≡ i → 1 ≤ deep_count routes i
+pub found_counts : (routes : List Route) (prefix depth i : ℕ) (q : Route) → route_at routes prefix depth ≡ Some q → 24 < depth → prefix / 2 ^ (depth - 24)
+    ≡ i → 1 ≤ deep_count routes i
 found_counts [] prefix depth i q e deep is = absurd cc
 found_counts (r ∷ routes) prefix depth i q e deep is = go (is_at prefix depth r) refl e (found_counts routes prefix depth i q)
   where
-    go : (b : Bool) → is_at prefix depth r ≡ b → cond b (Some r) (route_at routes prefix depth) ≡ Some q → (route_at routes prefix depth ≡ Some q → 24 < depth → prefix / 2 ^ (depth - 24) ≡ i → 1 ≤ deep_count routes i) → 1 ≤ one_if (is_deep_in i r) + deep_count routes i
+    go : (b : Bool) → is_at prefix depth r ≡ b → cond b (Some r) (route_at routes prefix depth) ≡ Some q →
+        (route_at routes prefix depth ≡ Some q → 24 < depth → prefix / 2 ^ (depth - 24) ≡ i → 1 ≤ deep_count routes i) →
+        1 ≤ one_if (is_deep_in i r) + deep_count routes i
     go true here e rest =
         let (same_depth, same_prefix) = and_parts (r.depth == depth) (r.prefix == prefix) here in
         let d = eqb-true r.depth depth same_depth in
@@ -51,7 +57,8 @@ any_counts : (routes : List Route) (i : ℕ) → list_any (is_deep_in i) routes 
 any_counts [] i = refl
 any_counts (r ∷ routes) i = go (is_deep_in i r) (any_counts routes i)
   where
-    go : (b : Bool) → list_any (is_deep_in i) routes ≡ nat_lt 0 (deep_count routes i) → (b || list_any (is_deep_in i) routes) ≡ nat_lt 0 (one_if b + deep_count routes i)
+    go : (b : Bool) → list_any (is_deep_in i) routes ≡ nat_lt 0 (deep_count routes i) →
+        (b || list_any (is_deep_in i) routes) ≡ nat_lt 0 (one_if b + deep_count routes i)
     go true rest = sym (lt-ltb 0 (1 + deep_count routes i) (omega arith))
     go false rest = rest ∙ ap (nat_lt 0) (omega arith)
 
@@ -64,21 +71,25 @@ unfolding groups_below
 groups_zero routes = refl
 
 -- the same deep routes, up to how many, need the same groups
-pub groups_same : (n : ℕ) (old new : List Route) → ((i : ℕ) → nat_lt 0 (deep_count new i) ≡ nat_lt 0 (deep_count old i)) → groups_below n new ≡ groups_below n old
+pub groups_same : (n : ℕ) (old new : List Route) → ((i : ℕ) → nat_lt 0 (deep_count new i) ≡ nat_lt 0 (deep_count old i)) →
+    groups_below n new ≡ groups_below n old
 groups_same zero old new same = groups_zero new ∙ sym (groups_zero old)
 groups_same (suc n) old new same =
     let e = ap one_if (same n) in
     omega (arith, groups_suc n new, groups_suc n old, groups_same n old new same, e)
 
 -- the first deep route of 24 bits needs one more
-pub groups_more : (n first : ℕ) (old new : List Route) → first < n → ((i : ℕ) → i ≢ first → deep_count new i ≡ deep_count old i) → deep_count old first ≡ 0 → 1 ≤ deep_count new first → groups_below n new ≡ groups_below n old + 1
+pub groups_more : (n first : ℕ) (old new : List Route) → first < n → ((i : ℕ) → i ≢ first → deep_count new i ≡ deep_count old i) → deep_count old first ≡ 0 →
+    1 ≤ deep_count new first → groups_below n new ≡ groups_below n old + 1
 groups_more zero first old new lt same none some = absurd (omega (arith, lt))
-groups_more (suc n) first old new lt same none some = ⊎_elim here (λ other. there other (groups_more n first old new (omega (arith, lt, other)) same none some)) (cases_eq n first)
+groups_more (suc n) first old new lt same none some = ⊎_elim here (λ other.
+    there other (groups_more n first old new (omega (arith, lt, other)) same none some)) (cases_eq n first)
   where
     below : (m : ℕ) → m ≤ first → groups_below m new ≡ groups_below m old
     below zero le = groups_zero new ∙ sym (groups_zero old)
     below (suc m) le =
-        let e : one_if (nat_lt 0 (deep_count new m)) ≡ one_if (nat_lt 0 (deep_count old m)) = ap (λ k. one_if (nat_lt 0 k)) (same m (λ f. absurd (omega (arith, f, le)))) in
+        let e : one_if (nat_lt 0 (deep_count new m)) ≡ one_if (nat_lt 0 (deep_count old m)) =
+        ap (λ k. one_if (nat_lt 0 k)) (same m (λ f. absurd (omega (arith, f, le)))) in
         omega (arith, groups_suc m new, groups_suc m old, below m (omega (arith, le)), e)
 
     here : n ≡ first → groups_below (suc n) new ≡ groups_below (suc n) old + 1
@@ -94,7 +105,8 @@ groups_more (suc n) first old new lt same none some = ⊎_elim here (λ other. t
 
 -- ---- groups that are used
 
-pub used_set : (counts : List ℕ) (g n : ℕ) → g < length counts → used_count (slice_set counts g n) + one_if (nat_lt 0 (slice_index counts g)) ≡ used_count counts + one_if (nat_lt 0 n)
+pub used_set : (counts : List ℕ) (g n : ℕ) → g < length counts → used_count (slice_set counts g n) + one_if (nat_lt 0 (slice_index counts g))
+    ≡ used_count counts + one_if (nat_lt 0 n)
 used_set [] g n there = absurd (omega (arith, there))
 used_set (c ∷ counts) zero n there = omega arith
 used_set (c ∷ counts) (suc g) n there = omega (arith, used_set counts g n (omega (arith, there)))
@@ -112,10 +124,13 @@ used_from : (counts : List ℕ) (i : ℕ) → position_from (λ n. n == 0) i cou
 used_from [] i none = refl
 used_from (c ∷ counts) i none = go (c == 0) refl none (used_from counts (i + 1))
   where
-    go : (b : Bool) → (c == 0) ≡ b → cond b (Some i) (position_from (λ n. n == 0) (i + 1) counts) ≡ None → (position_from (λ n. n == 0) (i + 1) counts ≡ None → used_count counts ≡ length counts) → one_if (nat_lt 0 c) + used_count counts ≡ suc (length counts)
+    go : (b : Bool) → (c == 0) ≡ b → cond b (Some i) (position_from (λ n. n == 0) (i + 1) counts) ≡ None →
+        (position_from (λ n. n == 0) (i + 1) counts ≡ None → used_count counts ≡ length counts) → one_if (nat_lt 0 c) + used_count counts
+        ≡ suc (length counts)
     go true is none rest = cc
     go false is none rest =
-        let some : one_if (nat_lt 0 c) ≡ 1 = ap one_if (lt-ltb 0 c (⊎_elim (λ (lt : 0 < c). lt) (λ (le : c ≤ 0). let e : (c == 0) ≡ true = eq-eqb c 0 (omega (arith, le)) in cc) (cases_lt 0 c))) in
+        let some : one_if (nat_lt 0 c) ≡ 1 = ap one_if (lt-ltb 0 c (⊎_elim (λ (lt : 0 < c). lt) (λ (le : c ≤ 0). let e : (c == 0) ≡ true =
+        eq-eqb c 0 (omega (arith, le)) in cc) (cases_lt 0 c))) in
         omega (arith, some, rest none)
 
 pub used_all : (counts : List ℕ) → position (λ n. n == 0) counts ≡ None → used_count counts ≡ length counts

@@ -1,5 +1,6 @@
 -- How the deepest routes change with the routes of one prefix and depth.
-use Rattle.std.proofs.Common.{◌≡◌, ◌≢◌, ℕ, zero, suc, ◌-◌, ◌<◌, ◌≤◌, Bool, true, false, cond, ◌&&◌, List, [], ◌∷◌, Option, Some, None, refl, sym, ◌∙◌, ap, arith, ⊎_elim}
+use Rattle.std.proofs.Common.{◌≡◌, ◌≢◌, ℕ, zero, suc, ◌-◌, ◌<◌, ◌≤◌, Bool, true, false, cond, ◌&&◌, List, [], ◌∷◌, Option, Some, None, refl, sym, ◌∙◌, ap}
+use Rattle.std.proofs.Common.{arith, ⊎_elim}
 use Rattle.std.specs.Prelude.{◌==◌, nat_le}
 use Rattle.std.specs.Option.{option_or}
 use Rattle.std.proofs.lemmas.Bool.{eqb-true, ne_eqb, le-leb, lt-leb, and_parts, cases_eq}
@@ -15,7 +16,8 @@ pub route_is : (routes : List Route) (prefix depth : ℕ) (q : Route) → route_
 route_is [] prefix depth q e = absurd cc
 route_is (r ∷ routes) prefix depth q e = go (is_at prefix depth r) refl e (route_is routes prefix depth q)
   where
-    go : (b : Bool) → is_at prefix depth r ≡ b → cond b (Some r) (route_at routes prefix depth) ≡ Some q → (route_at routes prefix depth ≡ Some q → (q.depth ≡ depth) × (q.prefix ≡ prefix)) → (q.depth ≡ depth) × (q.prefix ≡ prefix)
+    go : (b : Bool) → is_at prefix depth r ≡ b → cond b (Some r) (route_at routes prefix depth) ≡ Some q →
+        (route_at routes prefix depth ≡ Some q → (q.depth ≡ depth) × (q.prefix ≡ prefix)) → (q.depth ≡ depth) × (q.prefix ≡ prefix)
     go true is e rest =
         let same = same_Some r q e in
         let (same_depth, same_prefix) = and_parts (r.depth == depth) (r.prefix == prefix) is in
@@ -28,7 +30,8 @@ depth_within zero routes ip = let e = ap (λ o. depth_of (entry_of o)) (within_z
 depth_within (suc depth) routes ip =
     go (route_at routes (prefix_of ip (suc depth)) (suc depth)) refl (depth_within depth routes ip)
   where
-    go : (o : Option Route) → route_at routes (prefix_of ip (suc depth)) (suc depth) ≡ o → depth_of (entry_of (deepest_within depth routes ip)) ≤ depth → depth_of (entry_of (deepest_within (suc depth) routes ip)) ≤ suc depth
+    go : (o : Option Route) → route_at routes (prefix_of ip (suc depth)) (suc depth) ≡ o → depth_of (entry_of (deepest_within depth routes ip)) ≤ depth →
+        depth_of (entry_of (deepest_within (suc depth) routes ip)) ≤ suc depth
     go None is before =
         let e = ap (λ o. depth_of (entry_of o)) (within_suc depth routes ip ∙ ap (λ o. option_or o (deepest_within depth routes ip)) is) in
         omega (arith, e, before)
@@ -44,7 +47,9 @@ and_false' true b e = e
 and_false' false b e = refl
 
 -- the routes that are as deep as those searched stay: so does the answer
-step_same : (old new : List Route) (ip depth : ℕ) → route_at new (prefix_of ip (suc depth)) (suc depth) ≡ route_at old (prefix_of ip (suc depth)) (suc depth) → deepest_within depth new ip ≡ deepest_within depth old ip → deepest_within (suc depth) new ip ≡ deepest_within (suc depth) old ip
+step_same : (old new : List Route) (ip depth : ℕ) → route_at new (prefix_of ip (suc depth)) (suc depth)
+    ≡ route_at old (prefix_of ip (suc depth)) (suc depth) → deepest_within depth new ip ≡ deepest_within depth old ip → deepest_within (suc depth) new ip
+    ≡ deepest_within (suc depth) old ip
 step_same old new ip depth here below =
     within_suc depth new ip ∙ (ap (λ o. option_or o (deepest_within depth new ip)) here
     ∙ (ap (option_or (route_at old (prefix_of ip (suc depth)) (suc depth))) below ∙ sym (within_suc depth old ip)))
@@ -55,7 +60,8 @@ module _ (old new : List Route) (prefix depth : ℕ) (route : Option Route) (cha
   shallow_same ip zero lt = within_zero new ip ∙ sym (within_zero old ip)
   shallow_same ip (suc n) lt =
       step_same old new ip n
-      (changes.others (prefix_of ip (suc n)) (suc n) (and_false (suc n == depth) (prefix_of ip (suc n) == prefix) (ne_eqb (suc n) depth (λ e. absurd (omega (arith, e, lt))))))
+      (changes.others (prefix_of ip (suc n)) (suc n) (and_false (suc n == depth) (prefix_of ip (suc n) == prefix)
+      (ne_eqb (suc n) depth (λ e. absurd (omega (arith, e, lt))))))
       (shallow_same ip n (omega (arith, lt)))
 
   -- so is that for an address of another prefix
@@ -64,7 +70,8 @@ module _ (old new : List Route) (prefix depth : ℕ) (route : Option Route) (cha
   outside_same ip (suc n) other =
       step_same old new ip n
       (changes.others (prefix_of ip (suc n)) (suc n) (⊎_elim
-      (λ (e : suc n ≡ depth). and_false' (suc n == depth) (prefix_of ip (suc n) == prefix) (ne_eqb (prefix_of ip (suc n)) prefix (λ f. other (ap (prefix_of ip) (sym e) ∙ f))))
+      (λ (e : suc n ≡ depth). and_false' (suc n == depth) (prefix_of ip (suc n) == prefix)
+      (ne_eqb (prefix_of ip (suc n)) prefix (λ f. other (ap (prefix_of ip) (sym e) ∙ f))))
       (λ (e : suc n ≢ depth). and_false (suc n == depth) (prefix_of ip (suc n) == prefix) (ne_eqb (suc n) depth e))
       (cases_eq (suc n) depth)))
       (outside_same ip n other)
@@ -74,28 +81,43 @@ module _ (old new : List Route) (prefix depth : ℕ) (route : Option Route) (cha
   becomes ip = option_or route (deepest_within (depth - 1) old ip)
 
   -- within the prefix, answers that are at most so deep become that
-  pub inside_becomes : (ip n : ℕ) → prefix_of ip depth ≡ prefix → 1 ≤ depth → depth ≤ n → deepest_within n new ip ≡ cond (nat_le (depth_of (entry_of (deepest_within n old ip))) depth) (becomes ip) (deepest_within n old ip)
+  pub inside_becomes : (ip n : ℕ) → prefix_of ip depth ≡ prefix → 1 ≤ depth → depth ≤ n →
+      deepest_within n new ip ≡ cond (nat_le (depth_of (entry_of (deepest_within n old ip))) depth) (becomes ip) (deepest_within n old ip)
   inside_becomes ip zero is some le = absurd (omega (arith, some, le))
-  inside_becomes ip (suc n) is some le = ⊎_elim here (λ other. above other (route_at old (prefix_of ip (suc n)) (suc n)) refl (inside_becomes ip n is some (omega (arith, le, other)))) (cases_eq (suc n) depth)
+  inside_becomes ip (suc n) is some le = ⊎_elim here (λ other. above other (route_at old (prefix_of ip (suc n)) (suc n)) refl
+      (inside_becomes ip n is some (omega (arith, le, other)))) (cases_eq (suc n) depth)
     where
-      here : suc n ≡ depth → deepest_within (suc n) new ip ≡ cond (nat_le (depth_of (entry_of (deepest_within (suc n) old ip))) depth) (becomes ip) (deepest_within (suc n) old ip)
+      here : suc n ≡ depth → deepest_within (suc n) new ip ≡ cond (nat_le (depth_of (entry_of (deepest_within (suc n) old ip))) depth) (becomes ip)
+          (deepest_within (suc n) old ip)
       here e =
           let less : depth - 1 ≡ n = omega (arith, e) in
-          let found : route_at new (prefix_of ip (suc n)) (suc n) ≡ route = ap (λ d. route_at new (prefix_of ip d) d) e ∙ (ap (λ p. route_at new p depth) is ∙ changes.here) in
-          let same : deepest_within n new ip ≡ deepest_within (depth - 1) old ip = shallow_same ip n (omega (arith, e)) ∙ ap (λ d. deepest_within d old ip) (sym less) in
+          let found : route_at new (prefix_of ip (suc n)) (suc n) ≡ route = ap (λ d. route_at new (prefix_of ip d) d) e
+          ∙ (ap (λ p. route_at new p depth) is ∙ changes.here) in
+          let same : deepest_within n new ip ≡ deepest_within (depth - 1) old ip = shallow_same ip n (omega (arith, e))
+          ∙ ap (λ d. deepest_within d old ip) (sym less) in
           within_suc n new ip ∙ (ap (λ o. option_or o (deepest_within n new ip)) found ∙ (ap (option_or route) same
-          ∙ sym (ap (λ b. cond b (becomes ip) (deepest_within (suc n) old ip)) (le-leb (depth_of (entry_of (deepest_within (suc n) old ip))) depth (omega (arith, depth_within (suc n) old ip, e))))))
+          ∙ sym (ap (λ b. cond b (becomes ip) (deepest_within (suc n) old ip))
+          (le-leb (depth_of (entry_of (deepest_within (suc n) old ip))) depth (omega (arith, depth_within (suc n) old ip, e))))))
 
-      above : suc n ≢ depth → (o : Option Route) → route_at old (prefix_of ip (suc n)) (suc n) ≡ o → deepest_within n new ip ≡ cond (nat_le (depth_of (entry_of (deepest_within n old ip))) depth) (becomes ip) (deepest_within n old ip) → deepest_within (suc n) new ip ≡ cond (nat_le (depth_of (entry_of (deepest_within (suc n) old ip))) depth) (becomes ip) (deepest_within (suc n) old ip)
+      above : suc n ≢ depth → (o : Option Route) → route_at old (prefix_of ip (suc n)) (suc n) ≡ o →
+          deepest_within n new ip ≡ cond (nat_le (depth_of (entry_of (deepest_within n old ip))) depth) (becomes ip) (deepest_within n old ip) →
+          deepest_within (suc n) new ip ≡ cond (nat_le (depth_of (entry_of (deepest_within (suc n) old ip))) depth) (becomes ip)
+          (deepest_within (suc n) old ip)
       above other o was before =
           let same = changes.others (prefix_of ip (suc n)) (suc n) (and_false (suc n == depth) (prefix_of ip (suc n) == prefix) (ne_eqb (suc n) depth other)) in
-          let now : deepest_within (suc n) new ip ≡ option_or o (deepest_within n new ip) = within_suc n new ip ∙ ap (λ o. option_or o (deepest_within n new ip)) (same ∙ was) in
-          let then : deepest_within (suc n) old ip ≡ option_or o (deepest_within n old ip) = within_suc n old ip ∙ ap (λ o. option_or o (deepest_within n old ip)) was in
+          let now : deepest_within (suc n) new ip ≡ option_or o (deepest_within n new ip) = within_suc n new ip
+          ∙ ap (λ o. option_or o (deepest_within n new ip)) (same ∙ was) in
+          let then : deepest_within (suc n) old ip ≡ option_or o (deepest_within n old ip) = within_suc n old ip
+          ∙ ap (λ o. option_or o (deepest_within n old ip)) was in
           now ∙ (either o was before ∙ sym (ap (λ x. cond (nat_le (depth_of (entry_of x)) depth) (becomes ip) x) then))
         where
-          either : (o : Option Route) → route_at old (prefix_of ip (suc n)) (suc n) ≡ o → deepest_within n new ip ≡ cond (nat_le (depth_of (entry_of (deepest_within n old ip))) depth) (becomes ip) (deepest_within n old ip) → option_or o (deepest_within n new ip) ≡ cond (nat_le (depth_of (entry_of (option_or o (deepest_within n old ip)))) depth) (becomes ip) (option_or o (deepest_within n old ip))
+          either : (o : Option Route) → route_at old (prefix_of ip (suc n)) (suc n) ≡ o →
+              deepest_within n new ip ≡ cond (nat_le (depth_of (entry_of (deepest_within n old ip))) depth) (becomes ip) (deepest_within n old ip) →
+              option_or o (deepest_within n new ip) ≡ cond (nat_le (depth_of (entry_of (option_or o (deepest_within n old ip)))) depth) (becomes ip)
+              (option_or o (deepest_within n old ip))
           either None was before = before
-          either (Some q) was before = sym (ap (λ b. cond b (becomes ip) (Some q)) (lt-leb q.depth depth (omega (arith, le, other, (route_is old (prefix_of ip (suc n)) (suc n) q was).0))))
+          either (Some q) was before = sym (ap (λ b. cond b (becomes ip) (Some q))
+              (lt-leb q.depth depth (omega (arith, le, other, (route_is old (prefix_of ip (suc n)) (suc n) q was).0))))
 
 -- entries of a choice
 pub entry_cond : (b : Bool) (x y : Option Route) → entry_of (cond b x y) ≡ cond b (entry_of x) (entry_of y)

@@ -1,5 +1,6 @@
 -- A rule is taken out, the entries settle, and its group is closed.
-use Rattle.std.proofs.Common.{◌≡◌, ◌≢◌, ℕ, suc, ◌+◌, ◌-◌, ◌/◌, ◌^◌, ◌<◌, ◌≤◌, zero, Bool, true, false, cond, ◌||◌, List, [], ◌∷◌, ◌++◌, length, take, drop, Option, Some, None, refl, sym, ◌∙◌, ap, subst, arith, length-set}
+use Rattle.std.proofs.Common.{◌≡◌, ◌≢◌, ℕ, suc, ◌+◌, ◌-◌, ◌/◌, ◌^◌, ◌<◌, ◌≤◌, zero, Bool, true, false, cond, ◌||◌, List, [], ◌∷◌, ◌++◌, length, take, drop}
+use Rattle.std.proofs.Common.{Option, Some, None, refl, sym, ◌∙◌, ap, subst, arith, length-set}
 use Rattle.std.specs.Prelude.{nat_lt, is_some, slice_index, vec_capacity, if◌then◌else◌}
 use Rattle.std.specs.List.{AllByRecursion}
 use Rattle.std.specs.Option.{option_or}
@@ -37,7 +38,8 @@ entry_fits routes zero ip all = subst (λ o. IsStorable (entry_of o)) (sym (with
 entry_fits routes (suc n) ip all =
     subst (λ o. IsStorable (entry_of o)) (sym (within_suc n routes ip)) (go (route_at routes (prefix_of ip (suc n)) (suc n)) refl (entry_fits routes n ip all))
   where
-    go : (o : Option Route) → route_at routes (prefix_of ip (suc n)) (suc n) ≡ o → IsStorable (entry_of (deepest_within n routes ip)) → IsStorable (entry_of (option_or o (deepest_within n routes ip)))
+    go : (o : Option Route) → route_at routes (prefix_of ip (suc n)) (suc n) ≡ o → IsStorable (entry_of (deepest_within n routes ip)) →
+        IsStorable (entry_of (option_or o (deepest_within n routes ip)))
     go None e rest = rest
     go (Some q) e rest = let is = found_route routes (prefix_of ip (suc n)) (suc n) q all e in (omega (arith, is.hop), is.some, is.most)
 
@@ -46,26 +48,41 @@ entry_fits routes (suc n) ip all =
 fault_depth : (depth : ℕ) → 1 ≤ depth → depth ≤ 32 → (nat_lt depth 1 || nat_lt 32 depth) ≡ false
 fault_depth depth some most = ap (λ b. b || nat_lt 32 depth) (le-ltb depth 1 some) ∙ le-ltb 32 depth most
 
-pub delete_told : (s : Store) (ip depth : ℕ) → 1 ≤ depth → depth ≤ 32 → delete_fault (shown s) ip depth ≡ (if is_some (route_at (routes_in s) (prefix_of ip depth) depth) then None else Some NoRule)
-delete_told s ip depth some most = ap (λ b. if b then Some BadDepth else if is_some (route_at (routes_in s) (prefix_of ip depth) depth) then None else Some NoRule) (fault_depth depth some most)
+pub delete_told : (s : Store) (ip depth : ℕ) → 1 ≤ depth → depth ≤ 32 → delete_fault (shown s) ip depth
+    ≡ (if is_some (route_at (routes_in s) (prefix_of ip depth) depth) then None else Some NoRule)
+delete_told s ip depth some most = ap (λ b. if b then Some BadDepth else if is_some (route_at (routes_in s) (prefix_of ip depth) depth) then None
+    else Some NoRule) (fault_depth depth some most)
 
-pub delete_none : (s : Store) (ip depth place : ℕ) → 1 ≤ depth → depth ≤ 32 → IsMissing s.rules.items depth (prefix_of ip depth) place → delete_fault (shown s) ip depth ≡ Some NoRule
+pub delete_none : (s : Store) (ip depth place : ℕ) → 1 ≤ depth → depth ≤ 32 → IsMissing s.rules.items depth (prefix_of ip depth) place →
+    delete_fault (shown s) ip depth ≡ Some NoRule
 delete_none s ip depth place some most missing =
     delete_told s ip depth some most ∙ ap (λ o. if is_some o then None else Some NoRule) (missing_at s.rules.items depth (prefix_of ip depth) place missing)
 
-pub delete_found : (s : Store) (ip depth place : ℕ) → 1 ≤ depth → depth ≤ 32 → IsFound s.rules.items depth (prefix_of ip depth) place → delete_fault (shown s) ip depth ≡ None
+pub delete_found : (s : Store) (ip depth place : ℕ) → 1 ≤ depth → depth ≤ 32 → IsFound s.rules.items depth (prefix_of ip depth) place →
+    delete_fault (shown s) ip depth ≡ None
 delete_found s ip depth place some most found =
     delete_told s ip depth some most ∙ ap (λ o. if is_some o then None else Some NoRule) (found_at s.rules.items depth (prefix_of ip depth) place found)
 
 -- a deep rule has a group
-pub deep_group : (s : Store) (ip depth place : ℕ) → IsKept s → depth ≤ 32 → IsFound s.rules.items depth (prefix_of ip depth) place → 24 < depth → (g : ℕ) × (group_at s.table (ip / 256) ≡ Some g)
+pub deep_group : (s : Store) (ip depth place : ℕ) → IsKept s → depth ≤ 32 → IsFound s.rules.items depth (prefix_of ip depth) place → 24 < depth →
+    (g : ℕ) × (group_at s.table (ip / 256) ≡ Some g)
 deep_group s ip depth place kept most found deep = either_group (group_at s.table (ip / 256))
-    (λ none. absurd (omega (arith, kept.plain (ip / 256) none, found_counts (routes_in s) (prefix_of ip depth) depth (ip / 256) _ (found_at s.rules.items depth (prefix_of ip depth) place found) deep (deep_first ip depth deep most))))
+    (λ none. absurd (omega (
+      arith,
+      kept.plain (ip / 256) none,
+      found_counts (routes_in s) (prefix_of ip depth) depth (ip / 256) _
+          (found_at s.rules.items depth (prefix_of ip depth) place found) deep (deep_first ip depth deep most),
+    )))
     (λ g named. (g, named))
 
 -- ---- what is left
 
-module _ (old mid new : Store) (place ip depth : ℕ) (to : Entry) (kept : IsKept old) (found : IsFound old.rules.items depth (prefix_of ip depth) place) (some : 1 ≤ depth) (most : depth ≤ 32) (rules : mid.rules.items ≡ take place old.rules.items ++ drop (suc place) old.rules.items) (room : vec_capacity mid.rules ≡ vec_capacity old.rules) (max : mid.max_rules ≡ old.max_rules) (table : mid.table ≡ old.table) (next : to ≡ entry_of (deepest_within (depth - 1) (routes_in old) ip)) (settled : Settled (start_of ip depth) (2 ^ (32 - depth)) depth to mid.table new.table) (same_rules : new.rules ≡ mid.rules) (same_max : new.max_rules ≡ mid.max_rules) where
+module _ (old mid new : Store) (place ip depth : ℕ) (to : Entry) (kept : IsKept old) (found : IsFound old.rules.items depth (prefix_of ip depth) place)
+    (some : 1 ≤ depth) (most : depth ≤ 32) (rules : mid.rules.items ≡ take place old.rules.items
+    ++ drop (suc place) old.rules.items) (room : vec_capacity mid.rules ≡ vec_capacity old.rules) (max : mid.max_rules ≡ old.max_rules) (table : mid.table
+    ≡ old.table) (next : to ≡ entry_of (deepest_within (depth - 1) (routes_in old) ip))
+    (settled : Settled (start_of ip depth) (2 ^ (32 - depth)) depth to mid.table new.table) (same_rules : new.rules ≡ mid.rules) (same_max : new.max_rules
+    ≡ mid.max_rules) where
   pub now_left : new.rules.items ≡ take place old.rules.items ++ drop (suc place) old.rules.items
   now_left = ap (λ v. v.items) same_rules ∙ rules
 
@@ -73,7 +90,8 @@ module _ (old mid new : Store) (place ip depth : ℕ) (to : Entry) (kept : IsKep
   deleted =
       settled_keeps (routes_in old) (routes_in old) mid new ip depth None
       (removed old place (prefix_of ip depth) depth found mid kept rules room max table)
-      (subst (λ rs. ChangesAt (routes_in old) (routes_of rs) (prefix_of ip depth) depth None) (sym rules) (removed_changes old place (prefix_of ip depth) depth found))
+      (subst (λ rs. ChangesAt (routes_in old) (routes_of rs) (prefix_of ip depth) depth None) (sym rules)
+      (removed_changes old place (prefix_of ip depth) depth found))
       some most (subst (λ e. Settled (start_of ip depth) (2 ^ (32 - depth)) depth e mid.table new.table) next settled) same_rules same_max
 
   pub count_shallow : (i : ℕ) → depth ≤ 24 → deep_count (routes_in new) i ≡ deep_count (routes_in old) i
@@ -100,7 +118,8 @@ module _ (old mid new : Store) (place ip depth : ℕ) (to : Entry) (kept : IsKep
   }
 
 -- what the table is seen as does not change as a group is closed
-pub closed_drops : (old s new : Store) (ip depth : ℕ) → Drops (shown old) (shown s) (prefix_of ip depth) depth → new.rules ≡ s.rules → new.max_rules ≡ s.max_rules → Closed (ip / 256) s.table new.table → Drops (shown old) (shown new) (prefix_of ip depth) depth
+pub closed_drops : (old s new : Store) (ip depth : ℕ) → Drops (shown old) (shown s) (prefix_of ip depth) depth → new.rules ≡ s.rules →
+    new.max_rules ≡ s.max_rules → Closed (ip / 256) s.table new.table → Drops (shown old) (shown new) (prefix_of ip depth) depth
 closed_drops old s new ip depth drops rules max closed = record {
   changes = subst (λ v. ChangesAt (routes_in old) (routes_of v.items) (prefix_of ip depth) depth None) (sym rules) drops.changes;
   count = ap (λ v. length (routes_of v.items) + 1) rules ∙ drops.count;

@@ -14,7 +14,8 @@ at-replicate zero k c is = refl
 at-replicate (suc n) zero c is = is
 at-replicate (suc n) (suc k) c is = at-replicate n k c is
 
-pub emptied : (t : Table) (groups : ℕ) (c : Cell) → groups ≤ 256 → entry_in c ≡ Empty → t.first.items ≡ replicate 16777216 c → t.cells.items ≡ replicate (256 * groups) c → t.counts.items ≡ replicate groups 0 → IsEmptyTable groups t
+pub emptied : (t : Table) (groups : ℕ) (c : Cell) → groups ≤ 256 → entry_in c ≡ Empty → t.first.items ≡ replicate 16777216 c →
+    t.cells.items ≡ replicate (256 * groups) c → t.counts.items ≡ replicate groups 0 → IsEmptyTable groups t
 emptied t groups c few is firsts cells counts = record {
   table = record {
     first = ap length firsts ∙ length-replicate 16777216 c;

@@ -1,5 +1,6 @@
 -- The entries for addresses, by the groups of their first bits.
-use Rattle.std.proofs.Common.{◌≡◌, ℕ, ◌+◌, ◌*◌, ◌/◌, ◌%◌, ◌<◌, zero, suc, Bool, true, false, cond, List, [], ◌∷◌, length, Option, Some, None, refl, sym, ◌∙◌, ap, arith}
+use Rattle.std.proofs.Common.{◌≡◌, ℕ, ◌+◌, ◌*◌, ◌/◌, ◌%◌, ◌<◌, zero, suc, Bool, true, false, cond, List, [], ◌∷◌, length, Option, Some, None, refl, sym, ◌∙◌}
+use Rattle.std.proofs.Common.{ap, arith}
 use Rattle.std.specs.Prelude.{nat_le, slice_index, slice_index_or}
 use Rattle.std.specs.Option.{option_map_or}
 use Rattle.dp_lpm.specs.declared.cell.Cell.{Cell}
@@ -21,7 +22,9 @@ either_group None none some = none refl
 either_group (Some g) none some = some g refl
 
 -- an address whose first entry and group entry stay has its entry
-pub entry_same : (old new : Table) (ip : ℕ) → first_at new (ip / 256) ≡ first_at old (ip / 256) → ((g : ℕ) → group_at old (ip / 256) ≡ Some g → at new.cells.items (g * 256 + ip % 256) ≡ at old.cells.items (g * 256 + ip % 256)) → entry_for new ip ≡ entry_for old ip
+pub entry_same : (old new : Table) (ip : ℕ) → first_at new (ip / 256) ≡ first_at old (ip / 256) →
+    ((g : ℕ) → group_at old (ip / 256) ≡ Some g → at new.cells.items (g * 256 + ip % 256) ≡ at old.cells.items (g * 256 + ip % 256)) →
+    entry_for new ip ≡ entry_for old ip
 entry_same old new ip first cells = either_group (group_at old (ip / 256))
     (λ none. entry_plain new ip (ap group_in first ∙ none) ∙ (first ∙ sym (entry_plain old ip none)))
     (λ g named. entry_grouped new ip g (ap group_in first ∙ named) ∙ (cells g named ∙ sym (entry_grouped old ip g named)))
@@ -62,8 +65,10 @@ number_at (x ∷ xs) zero n there is = sym is
 number_at (x ∷ xs) (suc k) n there is = number_at xs k n (omega (arith, there)) is
 
 -- a first entry that was read, and names a group or none
-pub grouped_by : (t : Table) (i g : ℕ) (c : Cell) → i < length t.first.items → c ≡ slice_index_or t.first.items i c → Group g ≡ entry_in c → group_at t i ≡ Some g
+pub grouped_by : (t : Table) (i g : ℕ) (c : Cell) → i < length t.first.items → c ≡ slice_index_or t.first.items i c → Group g ≡ entry_in c →
+    group_at t i ≡ Some g
 grouped_by t i g c there is e = named_group (first_at t i) g (e ∙ sym (entry_at t.first.items i c there is))
 
-pub plain_by : (t : Table) (i : ℕ) (c : Cell) → i < length t.first.items → c ≡ slice_index_or t.first.items i c → ((g : ℕ) → entry_in c ≡ Group g → ⊥) → group_at t i ≡ None
+pub plain_by : (t : Table) (i : ℕ) (c : Cell) → i < length t.first.items → c ≡ slice_index_or t.first.items i c → ((g : ℕ) → entry_in c ≡ Group g → ⊥) →
+    group_at t i ≡ None
 plain_by t i c there is other = unnamed_group (first_at t i) (λ g e. other g (sym (entry_at t.first.items i c there is) ∙ e))

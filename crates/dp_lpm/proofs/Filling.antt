@@ -14,7 +14,8 @@ pub record FilledUpTo (from k : ℕ) (to : Entry) (old new : List Cell) : Type 0
   pub above : (i : ℕ) → k ≤ i → at new i ≡ at old i
 
 -- one more
-pub fill_set : (from k : ℕ) (to : Cell) (old cells : List Cell) → FilledUpTo from k (entry_in to) old cells → from ≤ k → k < length cells → FilledUpTo from (k + 1) (entry_in to) old (slice_set cells k to)
+pub fill_set : (from k : ℕ) (to : Cell) (old cells : List Cell) → FilledUpTo from k (entry_in to) old cells → from ≤ k → k < length cells →
+    FilledUpTo from (k + 1) (entry_in to) old (slice_set cells k to)
 fill_set from k to old cells so after there = record {
   inside = λ i le lt. ⊎_elim
       (λ (e : i ≡ k). ap (at (slice_set cells k to)) e ∙ at-set_same cells k to there)
@@ -25,6 +26,7 @@ fill_set from k to old cells so after there = record {
 }
 
 -- the same of lists that are those
-pub filled_between : (from k : ℕ) (to : Entry) (old old' new new' : List Cell) → old ≡ old' → new ≡ new' → FilledUpTo from k to old new → FilledUpTo from k to old' new'
+pub filled_between : (from k : ℕ) (to : Entry) (old old' new new' : List Cell) → old ≡ old' → new ≡ new' → FilledUpTo from k to old new →
+    FilledUpTo from k to old' new'
 filled_between from k to old old' new new' e f so =
     subst (λ xs. FilledUpTo from k to old' xs) f (subst (λ xs. FilledUpTo from k to xs new) e so)

@@ -25,7 +25,8 @@ grouped_same t old new is same = record {
 }
 
 -- the same groups and counts
-pub grouped_table : (t t' : Table) (routes : List Route) → Grouped t routes → ((i : ℕ) → group_at t' i ≡ group_at t i) → t'.counts.items ≡ t.counts.items → Grouped t' routes
+pub grouped_table : (t t' : Table) (routes : List Route) → Grouped t routes → ((i : ℕ) → group_at t' i ≡ group_at t i) → t'.counts.items ≡ t.counts.items →
+    Grouped t' routes
 grouped_table t t' routes is groups counts = record {
   grouped = λ i g named. ap (λ xs. slice_index xs g) counts ∙ is.grouped i g (sym (groups i) ∙ named);
   plain = λ i none. is.plain i (sym (groups i) ∙ none);
@@ -36,7 +37,8 @@ both_some : (m n : ℕ) → 1 ≤ m → 1 ≤ n → nat_lt 0 m ≡ nat_lt 0 n
 both_some m n one other = lt-ltb 0 m (omega (arith, one)) ∙ sym (lt-ltb 0 n (omega (arith, other)))
 
 -- one deep route more, whose first bits have been opened
-pub grouped_opened : (t t' : Table) (old new : List Route) (first : ℕ) → IsTable t → Grouped t old → Opened first t t' → first < 16777216 → deep_count new first ≡ deep_count old first + 1 → ((i : ℕ) → i ≢ first → deep_count new i ≡ deep_count old i) → Grouped t' new
+pub grouped_opened : (t t' : Table) (old new : List Route) (first : ℕ) → IsTable t → Grouped t old → Opened first t t' → first < 16777216 →
+    deep_count new first ≡ deep_count old first + 1 → ((i : ℕ) → i ≢ first → deep_count new i ≡ deep_count old i) → Grouped t' new
 grouped_opened t t' old new first table is opened small here others = record {
   grouped = λ i g named. ⊎_elim (λ (e : i ≡ first). mine i g e named) (λ (e : i ≢ first). other i g e named) (cases_eq i first);
   plain = λ i none. ⊎_elim
@@ -52,7 +54,8 @@ grouped_opened t t' old new first table is opened small here others = record {
     there : opened.group < length t.counts.items
     there = let h = opened.table.named first opened.group opened.named in omega (arith, h, len)
 
-    was : (group_at t first ≡ Some opened.group) ⊎ ((group_at t first ≡ None) × (slice_index t.counts.items opened.group ≡ 0)) → slice_index t.counts.items opened.group ≡ deep_count old first
+    was : (group_at t first ≡ Some opened.group) ⊎ ((group_at t first ≡ None) × (slice_index t.counts.items opened.group ≡ 0)) →
+        slice_index t.counts.items opened.group ≡ deep_count old first
     was (inl named) = is.grouped first opened.group named
     was (inr (none, zero)) = zero ∙ sym (is.plain first none)
 
@@ -73,14 +76,17 @@ grouped_opened t t' old new first table is opened small here others = record {
 
     used : used_count t'.counts.items + one_if (nat_lt 0 (slice_index t.counts.items opened.group)) ≡ used_count t.counts.items + 1
     used =
-        let one : one_if (nat_lt 0 (slice_index t.counts.items opened.group + 1)) ≡ 1 = ap one_if (lt-ltb 0 (slice_index t.counts.items opened.group + 1) (omega arith)) in
+        let one : one_if (nat_lt 0 (slice_index t.counts.items opened.group + 1)) ≡ 1 =
+        ap one_if (lt-ltb 0 (slice_index t.counts.items opened.group + 1) (omega arith)) in
         ap (λ xs. used_count xs + one_if (nat_lt 0 (slice_index t.counts.items opened.group))) opened.counts
         ∙ (used_set t.counts.items opened.group (slice_index t.counts.items opened.group + 1) there ∙ ap (λ n. used_count t.counts.items + n) one)
 
-    needed : (group_at t first ≡ Some opened.group) ⊎ ((group_at t first ≡ None) × (slice_index t.counts.items opened.group ≡ 0)) → used_count t'.counts.items ≡ groups_needed new
+    needed : (group_at t first ≡ Some opened.group) ⊎ ((group_at t first ≡ None) × (slice_index t.counts.items opened.group ≡ 0)) → used_count t'.counts.items
+        ≡ groups_needed new
     needed (inl named) =
         let some = table.used first opened.group named in
-        let one : one_if (nat_lt 0 (slice_index t.counts.items opened.group)) ≡ 1 = ap one_if (lt-ltb 0 (slice_index t.counts.items opened.group) (omega (arith, some))) in
+        let one : one_if (nat_lt 0 (slice_index t.counts.items opened.group)) ≡ 1 =
+        ap one_if (lt-ltb 0 (slice_index t.counts.items opened.group) (omega (arith, some))) in
         let same = groups_same 16777216 old new (λ i. ⊎_elim
         (λ (e : i ≡ first). both_some (deep_count new i) (deep_count old i)
         (omega (arith, here, ap (deep_count new) e)) (omega (arith, some, is.grouped first opened.group named, ap (deep_count old) e)))
@@ -88,12 +94,14 @@ grouped_opened t t' old new first table is opened small here others = record {
         (cases_eq i first)) in
         omega (arith, used, one, same, is.needed)
     needed (inr (none, zero)) =
-        let no : one_if (nat_lt 0 (slice_index t.counts.items opened.group)) ≡ 0 = ap one_if (le-ltb 0 (slice_index t.counts.items opened.group) (omega (arith, zero))) in
+        let no : one_if (nat_lt 0 (slice_index t.counts.items opened.group)) ≡ 0 =
+        ap one_if (le-ltb 0 (slice_index t.counts.items opened.group) (omega (arith, zero))) in
         let more = groups_more 16777216 first old new small others (is.plain first none) (omega (arith, here)) in
         omega (arith, used, no, more, is.needed)
 
 -- one deep route fewer, whose first bits have been closed
-pub grouped_closed : (t t' : Table) (old new : List Route) (first : ℕ) → IsTable t → Grouped t old → Closed first t t' → first < 16777216 → deep_count old first ≡ deep_count new first + 1 → ((i : ℕ) → i ≢ first → deep_count new i ≡ deep_count old i) → Grouped t' new
+pub grouped_closed : (t t' : Table) (old new : List Route) (first : ℕ) → IsTable t → Grouped t old → Closed first t t' → first < 16777216 →
+    deep_count old first ≡ deep_count new first + 1 → ((i : ℕ) → i ≢ first → deep_count new i ≡ deep_count old i) → Grouped t' new
 grouped_closed t t' old new first table is closed small here others = record {
   grouped = λ i g named. ⊎_elim (λ (e : i ≡ first). mine i g e named) (λ (e : i ≢ first). other i g e named) (cases_eq i first);
   plain = λ i none. ⊎_elim
@@ -140,21 +148,26 @@ grouped_closed t t' old new first table is closed small here others = record {
 
     used : used_count t'.counts.items + 1 ≡ used_count t.counts.items + one_if (nat_lt 0 (slice_index t.counts.items closed.group - 1))
     used =
-        let one : one_if (nat_lt 0 (slice_index t.counts.items closed.group)) ≡ 1 = ap one_if (lt-ltb 0 (slice_index t.counts.items closed.group) (omega (arith, count, here))) in
+        let one : one_if (nat_lt 0 (slice_index t.counts.items closed.group)) ≡ 1 =
+        ap one_if (lt-ltb 0 (slice_index t.counts.items closed.group) (omega (arith, count, here))) in
         let set = used_set t.counts.items closed.group (slice_index t.counts.items closed.group - 1) there in
-        let now : used_count t'.counts.items ≡ used_count (slice_set t.counts.items closed.group (slice_index t.counts.items closed.group - 1)) = ap used_count closed.counts in
+        let now : used_count t'.counts.items ≡ used_count (slice_set t.counts.items closed.group (slice_index t.counts.items closed.group - 1)) =
+        ap used_count closed.counts in
         omega (arith, one, set, now)
 
     needed : used_count t'.counts.items ≡ groups_needed new
     needed = ⊎_elim
         (λ (one : slice_index t.counts.items closed.group ≡ 1).
-        let no : one_if (nat_lt 0 (slice_index t.counts.items closed.group - 1)) ≡ 0 = ap one_if (le-ltb 0 (slice_index t.counts.items closed.group - 1) (omega (arith, one))) in
+        let no : one_if (nat_lt 0 (slice_index t.counts.items closed.group - 1)) ≡ 0 =
+        ap one_if (le-ltb 0 (slice_index t.counts.items closed.group - 1) (omega (arith, one))) in
         let more = groups_more 16777216 first new old small (λ i e. sym (others i e)) (omega (arith, one, count, here)) (omega (arith, here)) in
         omega (arith, used, no, more, is.needed))
         (λ (more : slice_index t.counts.items closed.group ≢ 1).
-        let one : one_if (nat_lt 0 (slice_index t.counts.items closed.group - 1)) ≡ 1 = ap one_if (lt-ltb 0 (slice_index t.counts.items closed.group - 1) (omega (arith, more, count, here))) in
+        let one : one_if (nat_lt 0 (slice_index t.counts.items closed.group - 1)) ≡ 1 =
+        ap one_if (lt-ltb 0 (slice_index t.counts.items closed.group - 1) (omega (arith, more, count, here))) in
         let same = groups_same 16777216 old new (λ i. ⊎_elim
-        (λ (e : i ≡ first). both_some (deep_count new i) (deep_count old i) (omega (arith, more, count, here, ap (deep_count new) e)) (omega (arith, here, ap (deep_count old) e)))
+        (λ (e : i ≡ first). both_some (deep_count new i) (deep_count old i) (omega (arith, more, count, here, ap (deep_count new) e))
+        (omega (arith, here, ap (deep_count old) e)))
         (λ (e : i ≢ first). ap (nat_lt 0) (others i e))
         (cases_eq i first)) in
         omega (arith, used, one, same, is.needed))

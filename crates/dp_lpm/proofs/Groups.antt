@@ -15,15 +15,19 @@ pub index_set_other : (xs : List ℕ) (k i n : ℕ) → i ≢ k → slice_index 
 index_set_other xs k i n other = get_or-set_other xs k i n 0 other
 
 -- only counts change, and those of named groups stay at least 1
-counted : (old new : Table) (g n : ℕ) → IsTable old → new.first.items ≡ old.first.items → new.cells.items ≡ old.cells.items → new.counts.items ≡ slice_set old.counts.items g n → 1 ≤ n → IsTable new
+counted : (old new : Table) (g n : ℕ) → IsTable old → new.first.items ≡ old.first.items → new.cells.items ≡ old.cells.items →
+    new.counts.items ≡ slice_set old.counts.items g n → 1 ≤ n → IsTable new
 counted old new g n table firsts cells counts some = record {
   first = ap length firsts ∙ table.first;
   cells = ap length cells ∙ (table.cells ∙ ap (λ m. m * 256) (sym len));
   few = omega (arith, len, table.few);
   named = λ i h is. omega (arith, len, table.named i h (was i h is));
   used = λ i h is. ⊎_elim
-      (λ (e : h ≡ g). let here : slice_index new.counts.items h ≡ n = ap (λ xs. slice_index xs h) counts ∙ (ap (λ k. slice_index (slice_set old.counts.items g n) k) e ∙ index_set_same old.counts.items g n (omega (arith, e, table.named i h (was i h is)))) in omega (arith, here, some))
-      (λ (e : h ≢ g). let there : slice_index new.counts.items h ≡ slice_index old.counts.items h = ap (λ xs. slice_index xs h) counts ∙ index_set_other old.counts.items g h n e in omega (arith, there, table.used i h (was i h is)))
+      (λ (e : h ≡ g). let here : slice_index new.counts.items h ≡ n = ap (λ xs. slice_index xs h) counts
+      ∙ (ap (λ k. slice_index (slice_set old.counts.items g n) k) e
+      ∙ index_set_same old.counts.items g n (omega (arith, e, table.named i h (was i h is)))) in omega (arith, here, some))
+      (λ (e : h ≢ g). let there : slice_index new.counts.items h ≡ slice_index old.counts.items h = ap (λ xs. slice_index xs h) counts
+      ∙ index_set_other old.counts.items g h n e in omega (arith, there, table.used i h (was i h is)))
       (cases_eq h g);
   apart = λ i j h one other. table.apart i j h (was i h one) (was j h other);
   leaves = λ k. ap (λ xs. group_in (at xs k)) cells ∙ table.leaves k;
@@ -40,7 +44,8 @@ same_entries : (old new : Table) → new.first.items ≡ old.first.items → new
 same_entries old new firsts cells ip = entry_same old new ip (ap (λ xs. at xs (ip / 256)) firsts) (λ h is. ap (λ xs. at xs (h * 256 + ip % 256)) cells)
 
 -- one rule more in a group that there is
-pub opened_more : (old new : Table) (first g n : ℕ) → IsTable old → group_at old first ≡ Some g → new.first.items ≡ old.first.items → new.cells.items ≡ old.cells.items → slice_index old.counts.items g ≡ n → new.counts.items ≡ slice_set old.counts.items g (n + 1) → Opened first old new
+pub opened_more : (old new : Table) (first g n : ℕ) → IsTable old → group_at old first ≡ Some g → new.first.items ≡ old.first.items →
+    new.cells.items ≡ old.cells.items → slice_index old.counts.items g ≡ n → new.counts.items ≡ slice_set old.counts.items g (n + 1) → Opened first old new
 opened_more old new first g n table named firsts cells was counts = record {
   table = counted old new g (n + 1) table firsts cells counts (omega arith);
   same = same_entries old new firsts cells;
@@ -52,7 +57,9 @@ opened_more old new first g n table named firsts cells was counts = record {
 }
 
 -- one rule fewer in a group that keeps some
-pub closed_more : (old new : Table) (first g n : ℕ) → IsTable old → group_at old first ≡ Some g → new.first.items ≡ old.first.items → new.cells.items ≡ old.cells.items → slice_index old.counts.items g ≡ n → 1 < n → new.counts.items ≡ slice_set old.counts.items g (n - 1) → Closed first old new
+pub closed_more : (old new : Table) (first g n : ℕ) → IsTable old → group_at old first ≡ Some g → new.first.items ≡ old.first.items →
+    new.cells.items ≡ old.cells.items → slice_index old.counts.items g ≡ n → 1 < n → new.counts.items ≡ slice_set old.counts.items g (n - 1) →
+    Closed first old new
 closed_more old new first g n table named firsts cells was some counts = record {
   table = counted old new g (n - 1) table firsts cells counts (omega (arith, some));
   same = same_entries old new firsts cells;

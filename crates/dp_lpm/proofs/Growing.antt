@@ -1,5 +1,6 @@
 -- A rule is taken in: in place of another, or as a new one.
-use Rattle.std.proofs.Common.{◌≡◌, ◌≢◌, ℕ, ◌+◌, ◌-◌, ◌^◌, ◌<◌, ◌≤◌, ◌⊎◌, false, cond, ◌&&◌, List, [], ◌∷◌, ◌++◌, length, take, drop, Some, None, refl, sym, ◌∙◌, ap, subst, arith, inl, inr, length-set}
+use Rattle.std.proofs.Common.{◌≡◌, ◌≢◌, ℕ, ◌+◌, ◌-◌, ◌^◌, ◌<◌, ◌≤◌, ◌⊎◌, false, cond, ◌&&◌, List, [], ◌∷◌, ◌++◌, length, take, drop, Some, None, refl, sym}
+use Rattle.std.proofs.Common.{◌∙◌, ap, subst, arith, inl, inr, length-set}
 use Rattle.std.specs.Prelude.{◌==◌, nat_lt, is_some, slice_index, vec_capacity, if◌then◌else◌}
 use Rattle.std.specs.List.{AllByRecursion}
 use Rattle.std.proofs.lemmas.Bool.{lt-ltb, le-ltb, lt-leb, eq-eqb, ne_eqb}
@@ -54,17 +55,23 @@ found_route r =
 abbrev pub Makes : Rule → Table → Table → Type 0
 Makes r old new = ((r.depth ≤ 24) × (new ≡ old)) ⊎ ((24 < r.depth) × Opened (first_of (route_of r)) old new)
 
-put_count : (rules : List Rule) (place i : ℕ) (r : Rule) → IsMissing rules r.depth r.prefix place → deep_count (routes_of (take place rules ++ r ∷ drop place rules)) i ≡ deep_count (routes_of rules) i + one_if (is_deep_in i (route_of r))
+put_count : (rules : List Rule) (place i : ℕ) (r : Rule) → IsMissing rules r.depth r.prefix place →
+    deep_count (routes_of (take place rules ++ r ∷ drop place rules)) i ≡ deep_count (routes_of rules) i + one_if (is_deep_in i (route_of r))
 put_count rules place i r missing =
     let e = spliced_count rules (take place rules ++ r ∷ drop place rules) r.prefix r.depth i (put_splice rules place r missing) in
     omega (arith, e)
 
-pub grown : (old new : Store) (place : ℕ) (r : Rule) → IsKept old → IsRoute (route_of r) → IsMissing old.rules.items r.depth r.prefix place → length old.rules.items < old.max_rules → new.rules.items ≡ take place old.rules.items ++ r ∷ drop place old.rules.items → vec_capacity old.rules ≤ vec_capacity new.rules → new.max_rules ≡ old.max_rules → Makes r old.table new.table → TakesIn old new (route_of r) × (new_fault (shown old) (route_of r) ≡ None)
+pub grown : (old new : Store) (place : ℕ) (r : Rule) → IsKept old → IsRoute (route_of r) → IsMissing old.rules.items r.depth r.prefix place →
+    length old.rules.items < old.max_rules → new.rules.items ≡ take place old.rules.items ++ r ∷ drop place old.rules.items →
+    vec_capacity old.rules ≤ vec_capacity new.rules → new.max_rules ≡ old.max_rules → Makes r old.table new.table → TakesIn old new (route_of r)
+    × (new_fault (shown old) (route_of r) ≡ None)
 grown old new place r kept is missing few rules room max makes = (
   record {
     kept = record {
       order = subst IsOrdered (sym rules) (ordered_put old.rules.items place r kept.order missing.parts);
-      each = subst (λ rs. AllByRecursion IsRoute (routes_of rs)) (sym rules) (all_routes IsRoute (take place old.rules.items ++ r ∷ drop place old.rules.items) (all_put (λ q. IsRoute (route_of q)) old.rules.items place r (all_rules IsRoute old.rules.items kept.each) is));
+      each = subst (λ rs. AllByRecursion IsRoute (routes_of rs)) (sym rules)
+          (all_routes IsRoute (take place old.rules.items ++ r ∷ drop place old.rules.items)
+          (all_put (λ q. IsRoute (route_of q)) old.rules.items place r (all_rules IsRoute old.rules.items kept.each) is));
       table = table makes;
       answers = λ ip. same makes ip ∙ kept.answers ip;
       grouped = (groups makes).grouped;
@@ -76,7 +83,8 @@ grown old new place r kept is missing few rules room max makes = (
     };
     puts = record {
       changes = subst (λ rs. ChangesAt (routes_in old) (routes_of rs) r.prefix r.depth (Some (route_of r))) (sym rules) changes;
-      count = length-map new.rules.items route_of ∙ (ap length rules ∙ (length_put old.rules.items place r ∙ (ap (λ n. n + 1) (sym (length-map old.rules.items route_of)) ∙ ap (λ o. length (routes_in old) + (if is_some o then 0 else 1)) (sym absent))));
+      count = length-map new.rules.items route_of ∙ (ap length rules ∙ (length_put old.rules.items place r
+          ∙ (ap (λ n. n + 1) (sym (length-map old.rules.items route_of)) ∙ ap (λ o. length (routes_in old) + (if is_some o then 0 else 1)) (sym absent))));
       max_rules = max;
       groups = lengths makes;
     };
@@ -89,7 +97,9 @@ grown old new place r kept is missing few rules room max makes = (
     absent = missing_at old.rules.items r.depth r.prefix place missing
 
     changes : ChangesAt (routes_in old) (routes_of (take place old.rules.items ++ r ∷ drop place old.rules.items)) r.prefix r.depth (Some (route_of r))
-    changes = subst (ChangesAt (routes_in old) (routes_of (take place old.rules.items ++ r ∷ drop place old.rules.items)) r.prefix r.depth) (found_route r) (splice_changes old.rules.items (take place old.rules.items ++ r ∷ drop place old.rules.items) r.prefix r.depth (put_splice old.rules.items place r missing))
+    changes = subst (ChangesAt (routes_in old) (routes_of (take place old.rules.items ++ r ∷ drop place old.rules.items)) r.prefix r.depth) (found_route r)
+        (splice_changes old.rules.items (take place old.rules.items ++ r ∷ drop place old.rules.items) r.prefix r.depth
+        (put_splice old.rules.items place r missing))
 
     counted : (i : ℕ) → deep_count (routes_in new) i ≡ deep_count (routes_in old) i + one_if (is_deep_in i (route_of r))
     counted i = ap (λ rs. deep_count (routes_of rs) i) rules ∙ put_count old.rules.items place i r missing
@@ -103,14 +113,17 @@ grown old new place r kept is missing few rules room max makes = (
     same (inr (deep, opened)) ip = opened.same ip
 
     groups : Makes r old.table new.table → Grouped new.table (routes_in new)
-    groups (inl (shallow, e)) = subst (λ t. Grouped t (routes_in new)) (sym e) (grouped_same old.table (routes_in old) (routes_in new) (groups_of old kept) (λ i. counted i ∙ omega (arith, deep_no (route_of r) i shallow)))
-    groups (inr (deep, opened)) = grouped_opened old.table new.table (routes_in old) (routes_in new) (first_of (route_of r)) kept.table (groups_of old kept) opened (first_small (route_of r) is deep)
+    groups (inl (shallow, e)) = subst (λ t. Grouped t (routes_in new)) (sym e)
+        (grouped_same old.table (routes_in old) (routes_in new) (groups_of old kept) (λ i. counted i ∙ omega (arith, deep_no (route_of r) i shallow)))
+    groups (inr (deep, opened)) = grouped_opened old.table new.table (routes_in old) (routes_in new) (first_of (route_of r)) kept.table
+        (groups_of old kept) opened (first_small (route_of r) is deep)
         (counted (first_of (route_of r)) ∙ omega (arith, deep_yes (route_of r) deep))
         (λ i other. counted i ∙ omega (arith, deep_other (route_of r) i deep other))
 
     lengths : Makes r old.table new.table → length new.table.counts.items ≡ length old.table.counts.items
     lengths (inl (shallow, e)) = ap (λ t. length t.counts.items) e
-    lengths (inr (deep, opened)) = ap length opened.counts ∙ length-set old.table.counts.items opened.group (slice_index old.table.counts.items opened.group + 1)
+    lengths (inr (deep, opened)) = ap length opened.counts ∙ length-set old.table.counts.items opened.group
+        (slice_index old.table.counts.items opened.group + 1)
 
     group : Makes r old.table new.table → 24 < r.depth → (g : ℕ) × (group_at new.table (first_of (route_of r)) ≡ Some g)
     group (inl (shallow, e)) deep = absurd (omega (arith, shallow, deep))
@@ -121,20 +134,26 @@ grown old new place r kept is missing few rules room max makes = (
     fits (inr (deep, opened)) =
         let needs = groups_same 16777216 (routes_in new) (route_of r ∷ routes_in old) (λ i. ap (nat_lt 0) (omega (arith, counted i))) in
         ap (λ b. b && nat_lt (length old.table.counts.items) (groups_needed (route_of r ∷ routes_in old))) (lt-ltb 24 r.depth deep)
-        ∙ le-ltb (length old.table.counts.items) (groups_needed (route_of r ∷ routes_in old)) (omega (arith, needs, (groups (inr (deep, opened))).needed, used_few new.table.counts.items, lengths (inr (deep, opened))))
+        ∙ le-ltb (length old.table.counts.items) (groups_needed (route_of r ∷ routes_in old))
+        (omega (arith, needs, (groups (inr (deep, opened))).needed, used_few new.table.counts.items, lengths (inr (deep, opened))))
 
     fault : new_fault (shown old) (route_of r) ≡ None
     fault =
-        ap (λ b. if b then Some RulesFull else if nat_lt 24 r.depth && nat_lt (length old.table.counts.items) (groups_needed (route_of r ∷ routes_in old)) then Some GroupsFull else None) (lt-leb old.max_rules (length (routes_in old)) (omega (arith, few, length-map old.rules.items route_of)))
+        ap (λ b. if b then Some RulesFull else if nat_lt 24 r.depth && nat_lt (length old.table.counts.items) (groups_needed (route_of r ∷ routes_in old))
+        then Some GroupsFull else None) (lt-leb old.max_rules (length (routes_in old)) (omega (arith, few, length-map old.rules.items route_of)))
         ∙ ap (λ b. if b then Some GroupsFull else None) (fits makes)
 
 -- no group is left for a deep rule
-pub full : (s : Store) (t : Table) (r : Rule) → IsKept s → IsRoute (route_of r) → length s.rules.items < s.max_rules → 24 < r.depth → IsFull (first_of (route_of r)) s.table t → new_fault (shown s) (route_of r) ≡ Some GroupsFull
+pub full : (s : Store) (t : Table) (r : Rule) → IsKept s → IsRoute (route_of r) → length s.rules.items < s.max_rules → 24 < r.depth →
+    IsFull (first_of (route_of r)) s.table t → new_fault (shown s) (route_of r) ≡ Some GroupsFull
 full s t r kept is few deep none =
     let first = first_of (route_of r) in
     let R = routes_in s in
-    let more = groups_more 16777216 first R (route_of r ∷ R) (first_small (route_of r) is deep) (λ i other. omega (arith, deep_other (route_of r) i deep other)) (kept.plain first none.none) (omega (arith, deep_yes (route_of r) deep)) in
+    let more = groups_more 16777216 first R (route_of r ∷ R) (first_small (route_of r) is deep)
+    (λ i other. omega (arith, deep_other (route_of r) i deep other)) (kept.plain first none.none) (omega (arith, deep_yes (route_of r) deep)) in
     let all = used_all s.table.counts.items none.full in
-    ap (λ b. if b then Some RulesFull else if nat_lt 24 r.depth && nat_lt (length s.table.counts.items) (groups_needed (route_of r ∷ R)) then Some GroupsFull else None) (lt-leb s.max_rules (length R) (omega (arith, few, length-map s.rules.items route_of)))
+    ap (λ b. if b then Some RulesFull else if nat_lt 24 r.depth && nat_lt (length s.table.counts.items) (groups_needed (route_of r ∷ R)) then Some GroupsFull
+    else None) (lt-leb s.max_rules (length R) (omega (arith, few, length-map s.rules.items route_of)))
     ∙ (ap (λ b. if b && nat_lt (length s.table.counts.items) (groups_needed (route_of r ∷ R)) then Some GroupsFull else None) (lt-ltb 24 r.depth deep)
-    ∙ ap (λ b. if b then Some GroupsFull else None) (lt-ltb (length s.table.counts.items) (groups_needed (route_of r ∷ R)) (omega (arith, more, all, kept.needed))))
+    ∙ ap (λ b. if b then Some GroupsFull else None) (lt-ltb (length s.table.counts.items) (groups_needed (route_of r ∷ R))
+    (omega (arith, more, all, kept.needed))))

@@ -44,7 +44,8 @@ hop_told routes ip hop depth is = hop_is routes ip 32 ∙ go (deepest_within 32 
     go None e = cc
     go (Some r) e = cc
 
-pub none_told : (routes : List Route) (ip : ℕ) (e : Entry) → ((hop depth : ℕ) → e ≡ Hop hop depth → ⊥) → e ≡ entry_of (deepest_within 32 routes ip) → hop_for routes ip ≡ None
+pub none_told : (routes : List Route) (ip : ℕ) (e : Entry) → ((hop depth : ℕ) → e ≡ Hop hop depth → ⊥) → e ≡ entry_of (deepest_within 32 routes ip) →
+    hop_for routes ip ≡ None
 none_told routes ip e other is = hop_is routes ip 32 ∙ go (deepest_within 32 routes ip) is
   where
     go : (o : Option Route) → e ≡ entry_of o → option_map (λ r. r.hop) o ≡ None

@@ -1,5 +1,6 @@
 -- The deepest route that is at most so deep is the deepest of those that match.
-use Rattle.std.proofs.Common.{◌≡◌, ℕ, zero, suc, ◌-◌, ◌/◌, ◌^◌, ◌≤◌, Bool, true, false, cond, ◌&&◌, ◌||◌, List, [], ◌∷◌, Option, Some, None, refl, sym, ◌∙◌, ap, subst, arith, ⊎_elim}
+use Rattle.std.proofs.Common.{◌≡◌, ℕ, zero, suc, ◌-◌, ◌/◌, ◌^◌, ◌≤◌, Bool, true, false, cond, ◌&&◌, ◌||◌, List, [], ◌∷◌, Option, Some, None, refl, sym, ◌∙◌}
+use Rattle.std.proofs.Common.{ap, subst, arith, ⊎_elim}
 use Rattle.std.specs.Prelude.{◌==◌, Contains, option_map, IfSome}
 use Rattle.std.specs.List.{list_any, AllByRecursion}
 use Rattle.std.specs.Option.{option_or}
@@ -23,14 +24,20 @@ found_contains : (routes : List Route) (prefix depth : ℕ) (q : Route) → rout
 found_contains [] prefix depth q e = absurd cc
 found_contains (r ∷ routes) prefix depth q e = go (is_at prefix depth r) e (found_contains routes prefix depth q)
   where
-    go : (b : Bool) → cond b (Some r) (route_at routes prefix depth) ≡ Some q → (route_at routes prefix depth ≡ Some q → Contains routes q) → Contains (r ∷ routes) q
+    go : (b : Bool) → cond b (Some r) (route_at routes prefix depth) ≡ Some q → (route_at routes prefix depth ≡ Some q → Contains routes q) →
+        Contains (r ∷ routes) q
     go true e rest = (0, omega arith, same_Some r q e)
     go false e rest = let (k, lt, is) = rest e in (suc k, omega (arith, lt), is)
 
 -- where one is there, one is found
-contains_found : (routes : List Route) (prefix depth : ℕ) (o : Route) → Contains routes o → is_at prefix depth o ≡ true → (q : Route) × (route_at routes prefix depth ≡ Some q)
+contains_found : (routes : List Route) (prefix depth : ℕ) (o : Route) → Contains routes o → is_at prefix depth o ≡ true →
+    (q : Route) × (route_at routes prefix depth ≡ Some q)
 contains_found [] prefix depth o (k, lt, is) here = absurd (omega (arith, lt))
-contains_found (r ∷ routes) prefix depth o (zero, lt, is) here = (r, ap (λ b. cond b (Some r) (route_at routes prefix depth)) (ap (is_at prefix depth) is ∙ here))
+contains_found (r ∷ routes) prefix depth o (zero, lt, is) here = (
+  r,
+  ap (λ b. cond b (Some r) (route_at routes prefix depth)) (ap (is_at prefix depth) is
+      ∙ here),
+)
 contains_found (r ∷ routes) prefix depth o (suc k, lt, is) here =
     go (is_at prefix depth r) (contains_found routes prefix depth o (k, omega (arith, lt), is) here)
   where
@@ -43,7 +50,8 @@ any_contains : (test : Route → Bool) (routes : List Route) → list_any test r
 any_contains test [] e = absurd cc
 any_contains test (r ∷ routes) e = go (test r) refl e (any_contains test routes)
   where
-    go : (b : Bool) → test r ≡ b → (b || list_any test routes) ≡ true → (list_any test routes ≡ true → (o : Route) × Contains routes o × (test o ≡ true)) → (o : Route) × Contains (r ∷ routes) o × (test o ≡ true)
+    go : (b : Bool) → test r ≡ b → (b || list_any test routes) ≡ true → (list_any test routes ≡ true → (o : Route) × Contains routes o × (test o ≡ true)) →
+        (o : Route) × Contains (r ∷ routes) o × (test o ≡ true)
     go true is e rest = (r, (0, omega arith, refl), is)
     go false is e rest = let (o, (k, lt, same), passes) = rest e in (o, (suc k, omega (arith, lt), same), passes)
 
@@ -53,7 +61,8 @@ deepest_there zero routes ip q e = let h = sym (within_zero routes ip) ∙ e in 
 deepest_there (suc n) routes ip q e =
     go (route_at routes (prefix_of ip (suc n)) (suc n)) refl (sym (within_suc n routes ip) ∙ e) (deepest_there n routes ip q)
   where
-    go : (o : Option Route) → route_at routes (prefix_of ip (suc n)) (suc n) ≡ o → option_or o (deepest_within n routes ip) ≡ Some q → (deepest_within n routes ip ≡ Some q → Contains routes q × (is_match ip q ≡ true)) → Contains routes q × (is_match ip q ≡ true)
+    go : (o : Option Route) → route_at routes (prefix_of ip (suc n)) (suc n) ≡ o → option_or o (deepest_within n routes ip) ≡ Some q →
+        (deepest_within n routes ip ≡ Some q → Contains routes q × (is_match ip q ≡ true)) → Contains routes q × (is_match ip q ≡ true)
     go None is e rest = rest e
     go (Some r) is e rest =
         let found = is ∙ e in
@@ -63,21 +72,32 @@ deepest_there (suc n) routes ip q e =
         )
 
 -- none that matches is deeper
-deepest_beats : (n : ℕ) (routes : List Route) (ip : ℕ) (o : Route) → Contains routes o → is_match ip o ≡ true → 1 ≤ o.depth → o.depth ≤ n → (q : Route) × (deepest_within n routes ip ≡ Some q) × (o.depth ≤ q.depth)
+deepest_beats : (n : ℕ) (routes : List Route) (ip : ℕ) (o : Route) → Contains routes o → is_match ip o ≡ true → 1 ≤ o.depth → o.depth ≤ n →
+    (q : Route) × (deepest_within n routes ip ≡ Some q) × (o.depth ≤ q.depth)
 deepest_beats zero routes ip o there fits some le = absurd (omega (arith, some, le))
-deepest_beats (suc n) routes ip o there fits some le = ⊎_elim here (λ other. above (route_at routes (prefix_of ip (suc n)) (suc n)) refl (deepest_beats n routes ip o there fits some (omega (arith, le, other)))) (cases_eq o.depth (suc n))
+deepest_beats (suc n) routes ip o there fits some le = ⊎_elim here (λ other.
+    above (route_at routes (prefix_of ip (suc n)) (suc n)) refl (deepest_beats n routes ip o there fits some (omega (arith, le, other))))
+    (cases_eq o.depth (suc n))
   where
     here : o.depth ≡ suc n → (q : Route) × (deepest_within (suc n) routes ip ≡ Some q) × (o.depth ≤ q.depth)
     here e =
         let prefix : o.prefix ≡ prefix_of ip (suc n) = eqb-true o.prefix (ip / 2 ^ (32 - o.depth)) fits ∙ ap (λ d. ip / 2 ^ (32 - d)) e in
-        let test : is_at (prefix_of ip (suc n)) (suc n) o ≡ true = ap (λ b. b && (o.prefix == prefix_of ip (suc n))) (eq-eqb o.depth (suc n) e) ∙ eq-eqb o.prefix (prefix_of ip (suc n)) prefix in
-        let (q, found) = contains_found routes (prefix_of ip (suc n)) (suc n) o there test in
-        (q, within_suc n routes ip ∙ ap (λ x. option_or x (deepest_within n routes ip)) found, omega (arith, e, (route_is routes (prefix_of ip (suc n)) (suc n) q found).0))
+        let test : is_at (prefix_of ip (suc n)) (suc n) o ≡ true = ap (λ b. b && (o.prefix == prefix_of ip (suc n))) (eq-eqb o.depth (suc n) e)
+        ∙ eq-eqb o.prefix (prefix_of ip (suc n)) prefix in
+        let (q, found) = contains_found routes (prefix_of ip (suc n)) (suc n) o there test in (
+          q,
+          within_suc n routes ip ∙ ap (λ x. option_or x (deepest_within n routes ip)) found,
+          omega (arith, e, (route_is routes (prefix_of ip (suc n)) (suc n) q found).0),
+        )
 
-    above : (x : Option Route) → route_at routes (prefix_of ip (suc n)) (suc n) ≡ x → (q : Route) × (deepest_within n routes ip ≡ Some q) × (o.depth ≤ q.depth) → (q : Route) × (deepest_within (suc n) routes ip ≡ Some q) × (o.depth ≤ q.depth)
+    above : (x : Option Route) → route_at routes (prefix_of ip (suc n)) (suc n) ≡ x → (q : Route) × (deepest_within n routes ip ≡ Some q)
+        × (o.depth ≤ q.depth) → (q : Route) × (deepest_within (suc n) routes ip ≡ Some q) × (o.depth ≤ q.depth)
     above None is (q, found, deep) = (q, within_suc n routes ip ∙ (ap (λ x. option_or x (deepest_within n routes ip)) is ∙ found), deep)
-    above (Some r) is (q, found, deep) =
-        (r, within_suc n routes ip ∙ ap (λ x. option_or x (deepest_within n routes ip)) is, omega (arith, le, (route_is routes (prefix_of ip (suc n)) (suc n) r is).0))
+    above (Some r) is (q, found, deep) = (
+      r,
+      within_suc n routes ip ∙ ap (λ x. option_or x (deepest_within n routes ip)) is,
+      omega (arith, le, (route_is routes (prefix_of ip (suc n)) (suc n) r is).0),
+    )
 
 all_contains : (P : Route → Type 0) (routes : List Route) (o : Route) → AllByRecursion P routes → Contains routes o → P o
 all_contains P [] o all (k, lt, is) = absurd (omega (arith, lt))
@@ -93,7 +113,8 @@ looks_up routes ip all = subst (LooksUp routes ip) (sym (hop_is routes ip 32)) (
 
     go : (o : Option Route) → deepest_within 32 routes ip ≡ o → LooksUp routes ip (option_map (λ r. r.hop) o)
     go None none = ⊎_elim
-        (λ some. let (o, there, fits) = any_contains (is_match ip) routes some in let (q, found, deep) = beats o there fits in let h = sym none ∙ found in absurd cc)
+        (λ some. let (o, there, fits) = any_contains (is_match ip) routes some in let (q, found, deep) = beats o there fits in
+        let h = sym none ∙ found in absurd cc)
         (λ no. no)
         (cases_Bool (list_any (is_match ip) routes))
     go (Some r) found = (

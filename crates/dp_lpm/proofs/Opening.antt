@@ -1,5 +1,6 @@
 -- Groups that are made for first bits, and given up.
-use Rattle.std.proofs.Common.{◌≡◌, ◌≢◌, ℕ, suc, ◌+◌, ◌-◌, ◌*◌, ◌/◌, ◌%◌, ◌<◌, ◌≤◌, ◌⊎◌, Bool, true, false, cond, List, [], ◌∷◌, length, Some, None, refl, sym, ◌∙◌, ap, arith, ⊎_elim, inl, inr, length-set}
+use Rattle.std.proofs.Common.{◌≡◌, ◌≢◌, ℕ, suc, ◌+◌, ◌-◌, ◌*◌, ◌/◌, ◌%◌, ◌<◌, ◌≤◌, ◌⊎◌, Bool, true, false, cond, List, [], ◌∷◌, length, Some, None, refl, sym}
+use Rattle.std.proofs.Common.{◌∙◌, ap, arith, ⊎_elim, inl, inr, length-set}
 use Rattle.std.specs.Prelude.{◌==◌, position, slice_index, slice_set}
 use Rattle.std.specs.List.{position_from}
 use Rattle.std.proofs.lemmas.Bool.{cases_eq, cases_lt, eqb-true}
@@ -20,7 +21,9 @@ first_zero : (xs : List ℕ) (i k : ℕ) → position_from (λ n. n == 0) i xs �
 first_zero [] i k e = absurd cc
 first_zero (x ∷ xs) i k e = go (x == 0) refl e (first_zero xs (i + 1) k)
   where
-    go : (b : Bool) → (x == 0) ≡ b → cond b (Some i) (position_from (λ n. n == 0) (i + 1) xs) ≡ Some k → (position_from (λ n. n == 0) (i + 1) xs ≡ Some k → (i + 1 ≤ k) × (k < i + 1 + length xs) × (slice_index xs (k - (i + 1)) ≡ 0)) → (i ≤ k) × (k < i + suc (length xs)) × (slice_index (x ∷ xs) (k - i) ≡ 0)
+    go : (b : Bool) → (x == 0) ≡ b → cond b (Some i) (position_from (λ n. n == 0) (i + 1) xs) ≡ Some k →
+        (position_from (λ n. n == 0) (i + 1) xs ≡ Some k → (i + 1 ≤ k) × (k < i + 1 + length xs) × (slice_index xs (k - (i + 1)) ≡ 0)) →
+        (i ≤ k) × (k < i + suc (length xs)) × (slice_index (x ∷ xs) (k - i) ≡ 0)
     go true is e rest =
         let same : i ≡ k = same_Some i k e in
         let none : k - i ≡ 0 = omega (arith, same) in
@@ -37,24 +40,33 @@ free_place xs k e =
     (omega (arith, before), ap (slice_index xs) (sym same) ∙ none)
 
 -- first bits that had no group get one that was free
-pub opened_new : (old new : Table) (first g : ℕ) (cell : Cell) → IsTable old → first < 16777216 → group_at old first ≡ None → g < length old.counts.items → slice_index old.counts.items g ≡ 0 → entry_in cell ≡ Group g → new.first.items ≡ slice_set old.first.items first cell → length new.cells.items ≡ length old.cells.items → FilledUpTo (g * 256) (g * 256 + 256) (first_at old first) old.cells.items new.cells.items → new.counts.items ≡ slice_set old.counts.items g 1 → Opened first old new
+pub opened_new : (old new : Table) (first g : ℕ) (cell : Cell) → IsTable old → first < 16777216 → group_at old first ≡ None → g < length old.counts.items →
+    slice_index old.counts.items g ≡ 0 → entry_in cell ≡ Group g → new.first.items ≡ slice_set old.first.items first cell →
+    length new.cells.items ≡ length old.cells.items → FilledUpTo (g * 256) (g * 256 + 256) (first_at old first) old.cells.items new.cells.items →
+    new.counts.items ≡ slice_set old.counts.items g 1 → Opened first old new
 opened_new old new first g cell table there none free zero_there is firsts lengths so counts = record {
   table = record {
     first = ap length firsts ∙ (length-set old.first.items first cell ∙ table.first);
     cells = lengths ∙ (table.cells ∙ ap (λ m. m * 256) (sym len));
     few = omega (arith, len, table.few);
-    named = λ i h named. ⊎_elim (λ (e : i ≡ first). omega (arith, len, free, mine i h e named)) (λ (e : i ≢ first). omega (arith, len, table.named i h (was i h e named))) (cases_eq i first);
+    named = λ i h named. ⊎_elim (λ (e : i ≡ first). omega (arith, len, free, mine i h e named))
+        (λ (e : i ≢ first). omega (arith, len, table.named i h (was i h e named))) (cases_eq i first);
     used = λ i h named. ⊎_elim
-        (λ (e : i ≡ first). let same = mine i h e named in let now : slice_index new.counts.items h ≡ 1 = ap (λ xs. slice_index xs h) counts ∙ (ap (λ k. slice_index (slice_set old.counts.items g 1) k) same ∙ index_set_same old.counts.items g 1 free) in omega (arith, now))
-        (λ (e : i ≢ first). let now : slice_index new.counts.items h ≡ slice_index old.counts.items h = ap (λ xs. slice_index xs h) counts ∙ index_set_other old.counts.items g h 1 (not_mine i h (was i h e named)) in omega (arith, now, table.used i h (was i h e named)))
+        (λ (e : i ≡ first). let same = mine i h e named in let now : slice_index new.counts.items h ≡ 1 = ap (λ xs. slice_index xs h) counts
+        ∙ (ap (λ k. slice_index (slice_set old.counts.items g 1) k) same ∙ index_set_same old.counts.items g 1 free) in omega (arith, now))
+        (λ (e : i ≢ first). let now : slice_index new.counts.items h ≡ slice_index old.counts.items h = ap (λ xs. slice_index xs h) counts
+        ∙ index_set_other old.counts.items g h 1 (not_mine i h (was i h e named)) in omega (arith, now, table.used i h (was i h e named)))
         (cases_eq i first);
     apart = λ i j h one other. ⊎_elim
-        (λ (e : i ≡ first). ⊎_elim (λ (f : j ≡ first). e ∙ sym f) (λ (f : j ≢ first). absurd (not_mine j h (was j h f other) (mine i h e one))) (cases_eq j first))
-        (λ (e : i ≢ first). ⊎_elim (λ (f : j ≡ first). absurd (not_mine i h (was i h e one) (mine j h f other))) (λ (f : j ≢ first). table.apart i j h (was i h e one) (was j h f other)) (cases_eq j first))
+        (λ (e : i ≡ first). ⊎_elim (λ (f : j ≡ first). e ∙ sym f) (λ (f : j ≢ first). absurd (not_mine j h (was j h f other) (mine i h e one)))
+        (cases_eq j first))
+        (λ (e : i ≢ first). ⊎_elim (λ (f : j ≡ first). absurd (not_mine i h (was i h e one) (mine j h f other)))
+        (λ (f : j ≢ first). table.apart i j h (was i h e one) (was j h f other)) (cases_eq j first))
         (cases_eq i first);
     leaves = λ k. leaves k (cases_lt k (g * 256)) (cases_lt k (g * 256 + 256));
   };
-  same = λ ip. ⊎_elim (here ip) (λ (e : ip / 256 ≢ first). entry_same old new ip (elsewhere (ip / 256) e) (λ h named. apart h (ip % 256) (not_mine (ip / 256) h named) (omega arith))) (cases_eq (ip / 256) first);
+  same = λ ip. ⊎_elim (here ip) (λ (e : ip / 256 ≢ first). entry_same old new ip (elsewhere (ip / 256) e)
+      (λ h named. apart h (ip % 256) (not_mine (ip / 256) h named) (omega arith))) (cases_eq (ip / 256) first);
   group = g;
   before = inr (none, zero_there);
   named = mine_named;
@@ -78,7 +90,8 @@ opened_new old new first g cell table there none free zero_there is firsts lengt
     mine i h e named = same_Some h g (sym named ∙ (ap (group_at new) e ∙ mine_named))
 
     not_mine : (i h : ℕ) → group_at old i ≡ Some h → h ≢ g
-    not_mine i h named e = let one = table.used i h named in let none : slice_index old.counts.items h ≡ 0 = ap (slice_index old.counts.items) e ∙ zero_there in absurd (omega (arith, one, none))
+    not_mine i h named e = let one = table.used i h named in let none : slice_index old.counts.items h ≡ 0 = ap (slice_index old.counts.items) e
+        ∙ zero_there in absurd (omega (arith, one, none))
 
     leaves : (k : ℕ) → (k < g * 256) ⊎ (g * 256 ≤ k) → (k < g * 256 + 256) ⊎ (g * 256 + 256 ≤ k) → group_in (at new.cells.items k) ≡ None
     leaves k (inl lt) _ = ap group_in (so.below k lt) ∙ table.leaves k

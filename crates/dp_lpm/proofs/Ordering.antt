@@ -8,7 +8,8 @@ use Rattle.dp_lpm.specs.Rules.{rank_of, rule_at, route_of, routes_of, IsOrdered,
 use Rattle.dp_lpm.proofs.Order.{all_at}
 
 -- what all elements have, and one more
-pub all_put : (P : Rule → Type 0) (rules : List Rule) (place : ℕ) (r : Rule) → AllByRecursion P rules → P r → AllByRecursion P (take place rules ++ r ∷ drop place rules)
+pub all_put : (P : Rule → Type 0) (rules : List Rule) (place : ℕ) (r : Rule) → AllByRecursion P rules → P r →
+    AllByRecursion P (take place rules ++ r ∷ drop place rules)
 all_put P rules zero r all one = (one, all)
 all_put P [] (suc place) r all one = (one, tt)
 all_put P (x ∷ rules) (suc place) r all one = (all.0, all_put P rules place r all.1 one)
@@ -24,17 +25,24 @@ all_remove P [] (suc place) all = tt
 all_remove P (x ∷ rules) zero all = all.1
 all_remove P (x ∷ rules) (suc place) all = (all.0, all_remove P rules place all.1)
 
-pub ordered_put : (rules : List Rule) (place : ℕ) (r : Rule) → IsOrdered rules → Parts (take place rules) (drop place rules) (rank_of r) → IsOrdered (take place rules ++ r ∷ drop place rules)
+pub ordered_put : (rules : List Rule) (place : ℕ) (r : Rule) → IsOrdered rules → Parts (take place rules) (drop place rules) (rank_of r) →
+    IsOrdered (take place rules ++ r ∷ drop place rules)
 ordered_put rules zero r ordered parts = (parts.upper, ordered)
 ordered_put [] (suc place) r ordered parts = (tt, tt)
-ordered_put (x ∷ rules) (suc place) r ordered parts =
-    (all_put (λ q. rank_of x < rank_of q) rules place r ordered.0 parts.lower.0, ordered_put rules place r ordered.1 (record { lower = parts.lower.1; upper = parts.upper }))
+ordered_put (x ∷ rules) (suc place) r ordered parts = (
+  all_put (λ q. rank_of x < rank_of q) rules place r ordered.0 parts.lower.0,
+  ordered_put rules place r ordered.1 (record { lower = parts.lower.1; upper = parts.upper }),
+)
 
-pub ordered_set : (rules : List Rule) (place : ℕ) (r : Rule) → IsOrdered rules → place < length rules → rank_of (rule_at rules place) ≡ rank_of r → IsOrdered (slice_set rules place r)
+pub ordered_set : (rules : List Rule) (place : ℕ) (r : Rule) → IsOrdered rules → place < length rules → rank_of (rule_at rules place) ≡ rank_of r →
+    IsOrdered (slice_set rules place r)
 ordered_set [] place r ordered there same = tt
 ordered_set (x ∷ rules) zero r ordered there same = (subst (λ n. AllByRecursion (λ q. n < rank_of q) rules) same ordered.0, ordered.1)
-ordered_set (x ∷ rules) (suc place) r ordered there same =
-    (all_set (λ q. rank_of x < rank_of q) rules place r ordered.0 (subst (λ n. rank_of x < n) same (all_at (λ q. rank_of x < rank_of q) rules place ordered.0 (omega (arith, there)))), ordered_set rules place r ordered.1 (omega (arith, there)) same)
+ordered_set (x ∷ rules) (suc place) r ordered there same = (
+  all_set (λ q. rank_of x < rank_of q) rules place r ordered.0 (subst
+      (λ n. rank_of x < n) same (all_at (λ q. rank_of x < rank_of q) rules place ordered.0 (omega (arith, there)))),
+  ordered_set rules place r ordered.1 (omega (arith, there)) same,
+)
 
 pub ordered_remove : (rules : List Rule) (place : ℕ) → IsOrdered rules → IsOrdered (take place rules ++ drop (suc place) rules)
 ordered_remove [] zero ordered = tt

@@ -1,7 +1,8 @@
 -- The addresses of a prefix.
 use Rattle.std.proofs.Common.{◌≡◌, ℕ, ◌+◌, ◌-◌, ◌*◌, ◌/◌, ◌%◌, ◌^◌, ◌<◌, ◌≤◌, sym, ◌∙◌, ap, arith, ⊎_elim, mul_assoc}
 use Rattle.std.proofs.lemmas.Bool.{cases_lt}
-use Rattle.std.proofs.lemmas.Nat.{pow_pos, pow-add, shl-shr, shr-shr, shr_split, mod-pow-add, mod_below, div-mul-add, row_fits, shr_below, pow_below, mod-mul-add}
+use Rattle.std.proofs.lemmas.Nat.{pow_pos, pow-add, shl-shr, shr-shr, shr_split, mod-pow-add, mod_below, div-mul-add, row_fits, shr_below, pow_below}
+use Rattle.std.proofs.lemmas.Nat.{mod-mul-add}
 use Rattle.dp_lpm.specs.Routes.{prefix_of}
 use Rattle.dp_lpm.specs.Tables.{start_of, IsEven}
 

@@ -10,7 +10,8 @@ use Rattle.dp_lpm.specs.declared.rule.Rule.{Rule}
 from_place : (place : ℕ) (rules : List Rule) → mid_of place (length rules - place) rules ≡ drop place rules
 from_place place rules = between_to_end rules place (length rules) (omega arith)
 
-part_length : (place : ℕ) (rules part : List Rule) → place < length rules → length part ≡ length (mid_of place (length rules - place) rules) → length part ≡ length rules - place
+part_length : (place : ℕ) (rules part : List Rule) → place < length rules → length part ≡ length (mid_of place (length rules - place) rules) →
+    length part ≡ length rules - place
 part_length place rules part there size = size ∙ (ap length (from_place place rules) ∙ length-drop place rules)
 
 -- the rules in front, and what stands from the place on now, but for the last
@@ -46,7 +47,8 @@ down_length old at rules down =
     omega (arith, down.within, ap length down.is, length-append (take at (drop 1 old)) (drop at old), gone_length old at down.within, length-drop at old)
 
 -- the next part
-pub part_down : (old : List Rule) (at n : ℕ) (rules : List Rule) → at + n < length old → GoneDown old at rules → GoneDown old (at + n) (paste rules at (drop (at + 1) rules) n)
+pub part_down : (old : List Rule) (at n : ℕ) (rules : List Rule) → at + n < length old → GoneDown old at rules →
+    GoneDown old (at + n) (paste rules at (drop (at + 1) rules) n)
 part_down old at n rules fits down = record {
   within = fits;
   is = sym (take-append-drop (at + n) (paste rules at (drop (at + 1) rules) n))
@@ -79,7 +81,8 @@ part_down old at n rules fits down = record {
 
 -- a part of which the first is let go, in its list
 pub part_put : (now : List Rule) (at n : ℕ) → at + n < length now
-    → put_mid at (n + 1) now (paste (mid_of at (n + 1) now) 0 (drop 1 (mid_of at (n + 1) now)) (length (mid_of at (n + 1) now) - 1)) ≡ paste now at (drop (at + 1) now) n
+    → put_mid at (n + 1) now (paste (mid_of at (n + 1) now) 0 (drop 1 (mid_of at (n + 1) now)) (length (mid_of at (n + 1) now) - 1))
+    ≡ paste now at (drop (at + 1) now) n
 part_put now at n fits =
     ap (λ l. take at now ++ ((l ++ drop (0 + (length mid - 1)) mid) ++ drop (n + 1) rest)) moved
     ∙ (ap (λ l. take at now ++ ((some ++ l) ++ drop (n + 1) rest)) stays

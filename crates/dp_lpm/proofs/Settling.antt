@@ -18,7 +18,8 @@ pub record SettledUpTo (from k depth : ℕ) (to : Entry) (old new : List Cell) :
 pub shallow_in : (c : Cell) (depth : ℕ) → c.bits / 16777216 ≤ depth → depth ≤ 32 → depth_of (entry_in c) ≤ depth
 shallow_in c depth shallow most = kinds (c.bits == 0) (nat_lt c.bits 2147483648) refl
   where
-    kinds : (none hop : Bool) → nat_lt c.bits 2147483648 ≡ hop → depth_of (if none then Empty else if hop then Hop (c.bits % 16777216) (c.bits / 16777216) else Group (c.bits % 256)) ≤ depth
+    kinds : (none hop : Bool) → nat_lt c.bits 2147483648 ≡ hop → depth_of (if none then Empty else if hop then Hop (c.bits % 16777216) (c.bits / 16777216)
+        else Group (c.bits % 256)) ≤ depth
     kinds true hop _ = omega arith
     kinds false true _ = shallow
     kinds false false is = absurd (let large = ltb-false c.bits 2147483648 is in omega (arith, large, shallow, most))
@@ -26,7 +27,8 @@ shallow_in c depth shallow most = kinds (c.bits == 0) (nat_lt c.bits 2147483648)
 pub deep_in : (c : Cell) (depth : ℕ) → depth < c.bits / 16777216 → depth ≤ 32 → depth < depth_of (entry_in c)
 deep_in c depth deeper most = kinds (c.bits == 0) (nat_lt c.bits 2147483648) refl
   where
-    kinds : (none hop : Bool) → (c.bits == 0) ≡ none → depth < depth_of (if none then Empty else if hop then Hop (c.bits % 16777216) (c.bits / 16777216) else Group (c.bits % 256))
+    kinds : (none hop : Bool) → (c.bits == 0) ≡ none → depth < depth_of (if none then Empty else if hop then Hop (c.bits % 16777216) (c.bits / 16777216)
+        else Group (c.bits % 256))
     kinds true hop is = let zero_bits = eqb-true c.bits 0 is in absurd (omega (arith, zero_bits, deeper))
     kinds false true _ = deeper
     kinds false false _ = omega (arith, most)
@@ -45,7 +47,9 @@ settled_no : (depth : ℕ) (to e : Entry) → depth < depth_of e → settled dep
 settled_no depth to e lt = ap (λ b. if b then to else e) (lt-leb (depth_of e) depth lt)
 
 -- one more: it is shallow enough, and set
-pub settle_set : (from k depth : ℕ) (to : Cell) (old cells : List Cell) → SettledUpTo from k depth (entry_in to) old cells → from ≤ k → k < length cells → (slice_index_or cells k (record { bits = 0 })).bits / 16777216 ≤ depth → depth ≤ 32 → SettledUpTo from (k + 1) depth (entry_in to) old (slice_set cells k to)
+pub settle_set : (from k depth : ℕ) (to : Cell) (old cells : List Cell) → SettledUpTo from k depth (entry_in to) old cells → from ≤ k → k < length cells →
+    (slice_index_or cells k (record { bits = 0 })).bits / 16777216 ≤ depth → depth ≤ 32 →
+    SettledUpTo from (k + 1) depth (entry_in to) old (slice_set cells k to)
 settle_set from k depth to old cells so after there shallow most = record {
   inside = λ i le lt. ⊎_elim (here i) (λ other. at-set_other cells k i to other ∙ so.inside i le (omega (arith, lt, other))) (cases_eq i k);
   below = λ i lt. at-set_other cells k i to (λ e. absurd (omega (arith, e, lt, after))) ∙ so.below i lt;
@@ -60,7 +64,8 @@ settle_set from k depth to old cells so after there shallow most = record {
         ap (at (slice_set cells k to)) is ∙ (at-set_same cells k to there ∙ sym (settled_yes depth (entry_in to) (at old i) (omega (arith, same, few))))
 
 -- one more: it is deeper, and stays
-pub settle_keep : (from k depth : ℕ) (to : Entry) (old cells : List Cell) → SettledUpTo from k depth to old cells → depth < (slice_index_or cells k (record { bits = 0 })).bits / 16777216 → depth ≤ 32 → SettledUpTo from (k + 1) depth to old cells
+pub settle_keep : (from k depth : ℕ) (to : Entry) (old cells : List Cell) → SettledUpTo from k depth to old cells →
+    depth < (slice_index_or cells k (record { bits = 0 })).bits / 16777216 → depth ≤ 32 → SettledUpTo from (k + 1) depth to old cells
 settle_keep from k depth to old cells so deeper most = record {
   inside = λ i le lt. ⊎_elim (here i) (λ other. so.inside i le (omega (arith, lt, other))) (cases_eq i k);
   below = so.below;
@@ -75,6 +80,7 @@ settle_keep from k depth to old cells so deeper most = record {
         was ∙ sym (settled_no depth to (at old i) (omega (arith, same, many)))
 
 -- the same of lists that are those
-pub settled_between : (from k depth : ℕ) (to : Entry) (old old' new new' : List Cell) → old ≡ old' → new ≡ new' → SettledUpTo from k depth to old new → SettledUpTo from k depth to old' new'
+pub settled_between : (from k depth : ℕ) (to : Entry) (old old' new new' : List Cell) → old ≡ old' → new ≡ new' → SettledUpTo from k depth to old new →
+    SettledUpTo from k depth to old' new'
 settled_between from k depth to old old' new new' e f so =
     subst (λ xs. SettledUpTo from k depth to old' xs) f (subst (λ xs. SettledUpTo from k depth to xs new) e so)

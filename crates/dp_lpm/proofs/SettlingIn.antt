@@ -10,7 +10,9 @@ use Rattle.dp_lpm.proofs.Settling.{SettledUpTo}
 use Rattle.dp_lpm.proofs.Entries.{entry_grouped, entry_plain, entry_same, settled_leaf}
 
 -- the prefix has a group: entries of it settle
-pub settled_group : (old new : Table) (first low count depth g : ℕ) (to : Entry) → IsTable old → low + count ≤ 256 → group_in to ≡ None → group_at old first ≡ Some g → new.first.items ≡ old.first.items → new.counts.items ≡ old.counts.items → length new.cells.items ≡ length old.cells.items → SettledUpTo (g * 256 + low) (g * 256 + low + count) depth to old.cells.items new.cells.items → Settled (first * 256 + low) count depth to old new
+pub settled_group : (old new : Table) (first low count depth g : ℕ) (to : Entry) → IsTable old → low + count ≤ 256 → group_in to ≡ None →
+    group_at old first ≡ Some g → new.first.items ≡ old.first.items → new.counts.items ≡ old.counts.items → length new.cells.items ≡ length old.cells.items →
+    SettledUpTo (g * 256 + low) (g * 256 + low + count) depth to old.cells.items new.cells.items → Settled (first * 256 + low) count depth to old new
 settled_group old new first low count depth g to table fits leaf named firsts counts lengths so = record {
   table = record {
     first = ap length firsts ∙ table.first;
@@ -39,13 +41,15 @@ settled_group old new first low count depth g to table fits leaf named firsts co
     groups : (i : ℕ) → group_at new i ≡ group_at old i
     groups i = ap (λ xs. group_in (at xs i)) firsts
 
-    leaves : (k : ℕ) → (k < g * 256 + low) ⊎ (g * 256 + low ≤ k) → (k < g * 256 + low + count) ⊎ (g * 256 + low + count ≤ k) → group_in (at new.cells.items k) ≡ None
+    leaves : (k : ℕ) → (k < g * 256 + low) ⊎ (g * 256 + low ≤ k) → (k < g * 256 + low + count) ⊎ (g * 256 + low + count ≤ k) → group_in (at new.cells.items k)
+        ≡ None
     leaves k (inl lt) _ = ap group_in (so.below k lt) ∙ table.leaves k
     leaves k (inr le) (inl lt) = ap group_in (so.inside k le lt) ∙ settled_leaf depth to (at old.cells.items k) leaf (table.leaves k)
     leaves k (inr le) (inr over) = ap group_in (so.above k over) ∙ table.leaves k
 
     -- entries of other groups, and those of this one that lie outside
-    others : (i h j : ℕ) → group_at old i ≡ Some h → j < 256 → (i ≡ first → (j < low) ⊎ (low + count ≤ j)) → at new.cells.items (h * 256 + j) ≡ at old.cells.items (h * 256 + j)
+    others : (i h j : ℕ) → group_at old i ≡ Some h → j < 256 → (i ≡ first → (j < low) ⊎ (low + count ≤ j)) → at new.cells.items (h * 256 + j)
+        ≡ at old.cells.items (h * 256 + j)
     others i h j is lt outside = ⊎_elim
         (λ (e : h ≡ g). place e (outside (table.apart i first g (is ∙ ap Some e) named)))
         (λ (e : h ≢ g). ⊎_elim
@@ -59,7 +63,9 @@ settled_group old new first low count depth g to table fits leaf named firsts co
         place e (inr over) = so.above (h * 256 + j) (omega (arith, e, over))
 
 -- the prefix has none: its one entry settles
-pub settled_plain : (old new : Table) (first depth : ℕ) (to : Entry) → IsTable old → depth ≤ 32 → group_in to ≡ None → group_at old first ≡ None → new.cells.items ≡ old.cells.items → new.counts.items ≡ old.counts.items → length new.first.items ≡ length old.first.items → SettledUpTo first (first + 1) depth to old.first.items new.first.items → Settled (first * 256) 256 depth to old new
+pub settled_plain : (old new : Table) (first depth : ℕ) (to : Entry) → IsTable old → depth ≤ 32 → group_in to ≡ None → group_at old first ≡ None →
+    new.cells.items ≡ old.cells.items → new.counts.items ≡ old.counts.items → length new.first.items ≡ length old.first.items →
+    SettledUpTo first (first + 1) depth to old.first.items new.first.items → Settled (first * 256) 256 depth to old new
 settled_plain old new first depth to table small leaf none cells counts lengths so = record {
   table = record {
     first = lengths ∙ table.first;
@@ -93,7 +99,8 @@ settled_plain old new first depth to table small leaf none cells counts lengths 
         (cases_eq i first)
 
 -- one range after another
-pub settled_joined : (start size more depth : ℕ) (to : Entry) (old mid new : Table) → Settled start size depth to old mid → Settled (start + size) more depth to mid new → Settled start (size + more) depth to old new
+pub settled_joined : (start size more depth : ℕ) (to : Entry) (old mid new : Table) → Settled start size depth to old mid →
+    Settled (start + size) more depth to mid new → Settled start (size + more) depth to old new
 settled_joined start size more depth to old mid new one other = record {
   table = other.table;
   inside = λ ip le lt. ⊎_elim
@@ -118,7 +125,8 @@ settled_none start depth to t table = record {
 }
 
 -- the same, by the names of a call
-pub settled_whole : (old new : Table) (first low count depth : ℕ) (to : Entry) → (low ≡ 0) × (count ≡ 256) → Settled (first * 256) 256 depth to old new → Settled (first * 256 + low) count depth to old new
+pub settled_whole : (old new : Table) (first low count depth : ℕ) (to : Entry) → (low ≡ 0) × (count ≡ 256) → Settled (first * 256) 256 depth to old new →
+    Settled (first * 256 + low) count depth to old new
 settled_whole old new first low count depth to (none, all) settled =
     let start : first * 256 ≡ first * 256 + low = omega (arith, none) in
     subst (λ n. Settled n count depth to old new) start (subst (λ n. Settled (first * 256) n depth to old new) (sym all) settled)

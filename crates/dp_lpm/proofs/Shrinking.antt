@@ -31,10 +31,12 @@ module _ (old : Store) (place prefix depth : ℕ) (found : IsFound old.rules.ite
   removed_count i = omega (arith, spliced_count old.rules.items left prefix depth i (remove_splice old.rules.items place prefix depth found))
 
   -- the rule is out, and the entries are as before
-  pub removed : (new : Store) → IsKept old → new.rules.items ≡ left → vec_capacity new.rules ≡ vec_capacity old.rules → new.max_rules ≡ old.max_rules → new.table ≡ old.table → Keeps (routes_in old) (routes_in old) new
+  pub removed : (new : Store) → IsKept old → new.rules.items ≡ left → vec_capacity new.rules ≡ vec_capacity old.rules → new.max_rules ≡ old.max_rules →
+      new.table ≡ old.table → Keeps (routes_in old) (routes_in old) new
   removed new kept rules room max table = record {
     order = subst IsOrdered (sym rules) (ordered_remove old.rules.items place kept.order);
-    each = subst (λ rs. AllByRecursion IsRoute (routes_of rs)) (sym rules) (all_routes IsRoute left (all_remove (λ q. IsRoute (route_of q)) old.rules.items place (all_rules IsRoute old.rules.items kept.each)));
+    each = subst (λ rs. AllByRecursion IsRoute (routes_of rs)) (sym rules)
+        (all_routes IsRoute left (all_remove (λ q. IsRoute (route_of q)) old.rules.items place (all_rules IsRoute old.rules.items kept.each)));
     table = subst IsTable (sym table) kept.table;
     answers = λ ip. ap (λ t. entry_for t ip) table ∙ kept.answers ip;
     grouped = subst (λ t. (i g : ℕ) → group_at t i ≡ Some g → slice_index t.counts.items g ≡ deep_count (routes_in old) i) (sym table) kept.grouped;
@@ -45,10 +47,17 @@ module _ (old : Store) (place prefix depth : ℕ) (found : IsFound old.rules.ite
     room = omega (arith, max, kept.room, room);
   }
 
-  pub dropped : (new : Store) → new.rules.items ≡ left → new.max_rules ≡ old.max_rules → length new.table.counts.items ≡ length old.table.counts.items → Drops (shown old) (shown new) prefix depth
+  pub dropped : (new : Store) → new.rules.items ≡ left → new.max_rules ≡ old.max_rules → length new.table.counts.items ≡ length old.table.counts.items →
+      Drops (shown old) (shown new) prefix depth
   dropped new rules max groups = record {
     changes = subst (λ rs. ChangesAt (routes_in old) (routes_of rs) prefix depth None) (sym rules) removed_changes;
-    count = omega (arith, length-map new.rules.items route_of, ap length rules, length_remove old.rules.items place found.there, length-map old.rules.items route_of);
+    count = omega (
+      arith,
+      length-map new.rules.items route_of,
+      ap length rules,
+      length_remove old.rules.items place found.there,
+      length-map old.rules.items route_of,
+    );
     max_rules = max;
     groups = groups;
   }
@@ -65,7 +74,9 @@ module _ (old : Store) (place prefix depth : ℕ) (found : IsFound old.rules.ite
   pub left_here : (first : ℕ) → 24 < depth → prefix / 2 ^ (depth - 24) ≡ first → deep_count (routes_in old) first ≡ deep_count (routes_of left) first + 1
   left_here first deep is =
       let same = first_is deep ∙ is in
-      let one : one_if (is_deep_in first (route_of (rule_at old.rules.items place))) ≡ 1 = ap (λ i. one_if (is_deep_in i (route_of (rule_at old.rules.items place)))) (sym same) ∙ deep_yes (route_of (rule_at old.rules.items place)) (omega (arith, found.depth_is, deep)) in
+      let one : one_if (is_deep_in first (route_of (rule_at old.rules.items place))) ≡ 1 =
+      ap (λ i. one_if (is_deep_in i (route_of (rule_at old.rules.items place)))) (sym same)
+      ∙ deep_yes (route_of (rule_at old.rules.items place)) (omega (arith, found.depth_is, deep)) in
       omega (arith, removed_count first, one)
 
   pub left_others : (first i : ℕ) → 24 < depth → prefix / 2 ^ (depth - 24) ≡ first → i ≢ first → deep_count (routes_of left) i ≡ deep_count (routes_in old) i
@@ -74,7 +85,8 @@ module _ (old : Store) (place prefix depth : ℕ) (found : IsFound old.rules.ite
       omega (arith, removed_count i, no)
 
 -- the groups may be closed: if the last deep route of first bits went, their entries are all the same
-pub can_close : (s : Store) (counted : List Route) (first : ℕ) → Keeps (routes_in s) counted s → deep_count counted first ≡ deep_count (routes_in s) first + 1 → CanClose first s.table
+pub can_close : (s : Store) (counted : List Route) (first : ℕ) → Keeps (routes_in s) counted s → deep_count counted first
+    ≡ deep_count (routes_in s) first + 1 → CanClose first s.table
 can_close s counted first kept more = either_group (group_at s.table first)
     (λ none. absurd (omega (arith, kept.plain first none, more)))
     (λ g named. record {
@@ -91,15 +103,19 @@ can_close s counted first kept more = either_group (group_at s.table first)
           let its = entry_grouped s.table (first * 256) g (ap (group_at s.table) start ∙ named) in
           ap (λ m. at s.table.cells.items (g * 256 + m)) (sym low)
           ∙ (sym mine ∙ (kept.answers (first * 256 + j)
-          ∙ (ap entry_of (same_block (routes_in s) (first * 256 + j) (first * 256) 32 (omega arith) (here ∙ sym start) (ap (deep_count (routes_in s)) here ∙ none))
+          ∙ (ap entry_of (same_block (routes_in s) (first * 256 + j) (first * 256) 32 (omega arith) (here ∙ sym start) (ap (deep_count (routes_in s)) here
+          ∙ none))
           ∙ (sym (kept.answers (first * 256)) ∙ (its
           ∙ ap (at s.table.cells.items) (omega (arith, zero_low)))))));
     })
 
 -- closed, the groups are those of the routes that are left
-pub closed_keeps : (s new : Store) (counted : List Route) (first : ℕ) → Keeps (routes_in s) counted s → deep_count counted first ≡ deep_count (routes_in s) first + 1 → ((i : ℕ) → i ≢ first → deep_count (routes_in s) i ≡ deep_count counted i) → first < 16777216 → Closed first s.table new.table → new.rules ≡ s.rules → new.max_rules ≡ s.max_rules → IsKept new
+pub closed_keeps : (s new : Store) (counted : List Route) (first : ℕ) → Keeps (routes_in s) counted s → deep_count counted first
+    ≡ deep_count (routes_in s) first + 1 → ((i : ℕ) → i ≢ first → deep_count (routes_in s) i ≡ deep_count counted i) → first < 16777216 →
+    Closed first s.table new.table → new.rules ≡ s.rules → new.max_rules ≡ s.max_rules → IsKept new
 closed_keeps s new counted first kept more others small closed rules max =
-    let groups = grouped_closed s.table new.table counted (routes_in s) first kept.table (record { grouped = kept.grouped; plain = kept.plain; needed = kept.needed }) closed small more others in
+    let groups = grouped_closed s.table new.table counted (routes_in s) first kept.table
+    (record { grouped = kept.grouped; plain = kept.plain; needed = kept.needed }) closed small more others in
     let all : Keeps (routes_in s) (routes_in s) (record new { rules = s.rules }) = record {
       order = kept.order;
       each = kept.each;
@@ -115,7 +131,8 @@ closed_keeps s new counted first kept more others small closed rules max =
     subst (λ v. Keeps (routes_of v.items) (routes_of v.items) (record new { rules = v })) (sym rules) all
 
 -- where no deep route went, the groups are as they were
-pub shallow_keeps : (s : Store) (counted : List Route) → Keeps (routes_in s) counted s → ((i : ℕ) → deep_count (routes_in s) i ≡ deep_count counted i) → IsKept s
+pub shallow_keeps : (s : Store) (counted : List Route) → Keeps (routes_in s) counted s → ((i : ℕ) → deep_count (routes_in s) i ≡ deep_count counted i) →
+    IsKept s
 shallow_keeps s counted kept same =
     let groups = grouped_same s.table counted (routes_in s) (record { grouped = kept.grouped; plain = kept.plain; needed = kept.needed }) same in
     record {

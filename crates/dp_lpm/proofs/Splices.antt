@@ -1,5 +1,6 @@
 -- A rule put in, replaced or taken out: a change of the routes at one prefix and depth.
-use Rattle.std.proofs.Common.{◌≡◌, ◌≢◌, ℕ, zero, suc, ◌<◌, true, false, cond, ◌&&◌, List, [], ◌∷◌, ◌++◌, length, take, drop, Option, Some, None, refl, sym, ◌∙◌, ap, arith, ⊎_elim}
+use Rattle.std.proofs.Common.{◌≡◌, ◌≢◌, ℕ, zero, suc, ◌<◌, true, false, cond, ◌&&◌, List, [], ◌∷◌, ◌++◌, length, take, drop, Option, Some, None, refl, sym}
+use Rattle.std.proofs.Common.{◌∙◌, ap, arith, ⊎_elim}
 use Rattle.std.specs.Prelude.{◌==◌, find, slice_set}
 use Rattle.std.specs.List.{AllByRecursion}
 use Rattle.std.specs.Option.{option_or}
@@ -46,21 +47,24 @@ misses_none (r ∷ rules) prefix depth misses =
     ap (λ b. cond b (Some (route_of r)) (route_at (routes_of rules) prefix depth)) (not_at r prefix depth misses.0) ∙ misses_none rules prefix depth misses.1
 
 -- rules of one place are of no other
-others_none : (rules : List Rule) (prefix depth p d : ℕ) → AreAt prefix depth rules → ((d == depth) && (p == prefix)) ≡ false → route_at (routes_of rules) p d ≡ None
+others_none : (rules : List Rule) (prefix depth p d : ℕ) → AreAt prefix depth rules → ((d == depth) && (p == prefix)) ≡ false → route_at (routes_of rules) p d
+    ≡ None
 others_none [] prefix depth p d there other = refl
 others_none (r ∷ rules) prefix depth p d there other =
     let no : is_at p d (route_of r) ≡ false = ⊎_elim
     (λ yes. let (same_depth, same_prefix) = and_parts (r.depth == d) (r.prefix == p) yes in
     let e : d ≡ depth = sym (eqb-true r.depth d same_depth) ∙ there.0.0 in
     let f : p ≡ prefix = sym (eqb-true r.prefix p same_prefix) ∙ there.0.1 in
-    let is : ((d == depth) && (p == prefix)) ≡ true = ap (λ n. (n == depth) && (p == prefix)) e ∙ (ap (λ n. (depth == depth) && (n == prefix)) f ∙ ap (λ b. b && (prefix == prefix)) (eq-eqb depth depth refl) ∙ eq-eqb prefix prefix refl) in
+    let is : ((d == depth) && (p == prefix)) ≡ true = ap (λ n. (n == depth) && (p == prefix)) e
+    ∙ (ap (λ n. (depth == depth) && (n == prefix)) f ∙ ap (λ b. b && (prefix == prefix)) (eq-eqb depth depth refl) ∙ eq-eqb prefix prefix refl) in
     absurd (both_ways ((d == depth) && (p == prefix)) other is))
     (λ no. no)
     (cases_Bool (is_at p d (route_of r))) in
     ap (λ b. cond b (Some (route_of r)) (route_at (routes_of rules) p d)) no ∙ others_none rules prefix depth p d there.1 other
 
 -- the route of three lists in a row
-three : (first middle last : List Rule) (p d : ℕ) → route_at (routes_of (first ++ (middle ++ last))) p d ≡ option_or (route_at (routes_of first) p d) (option_or (route_at (routes_of middle) p d) (route_at (routes_of last) p d))
+three : (first middle last : List Rule) (p d : ℕ) → route_at (routes_of (first ++ (middle ++ last))) p d
+    ≡ option_or (route_at (routes_of first) p d) (option_or (route_at (routes_of middle) p d) (route_at (routes_of last) p d))
 three first middle last p d =
     ap (find (is_at p d)) (map-append route_of first (middle ++ last) ∙ ap (λ rs. routes_of first ++ rs) (map-append route_of middle last))
     ∙ (find-append (is_at p d) (routes_of first) (routes_of middle ++ routes_of last)
@@ -71,20 +75,24 @@ or_none None = refl
 or_none (Some x) = refl
 
 -- where the lists in front and behind have no rule of the place, the one between has it
-pub here_at : (first middle last : List Rule) (prefix depth : ℕ) → Misses (rank depth prefix) first → Misses (rank depth prefix) last → route_at (routes_of (first ++ (middle ++ last))) prefix depth ≡ route_at (routes_of middle) prefix depth
+pub here_at : (first middle last : List Rule) (prefix depth : ℕ) → Misses (rank depth prefix) first → Misses (rank depth prefix) last →
+    route_at (routes_of (first ++ (middle ++ last))) prefix depth ≡ route_at (routes_of middle) prefix depth
 here_at first middle last prefix depth front behind =
     three first middle last prefix depth
-    ∙ (ap (λ o. option_or o (option_or (route_at (routes_of middle) prefix depth) (route_at (routes_of last) prefix depth))) (misses_none first prefix depth front)
+    ∙ (ap (λ o. option_or o (option_or (route_at (routes_of middle) prefix depth) (route_at (routes_of last) prefix depth)))
+    (misses_none first prefix depth front)
     ∙ (ap (option_or (route_at (routes_of middle) prefix depth)) (misses_none last prefix depth behind)
     ∙ or_none (route_at (routes_of middle) prefix depth)))
 
 -- a splice changes the routes at its place
-pub splice_changes : (old new : List Rule) (prefix depth : ℕ) (s : Splice old new prefix depth) → ChangesAt (routes_of old) (routes_of new) prefix depth (route_at (routes_of s.into) prefix depth)
+pub splice_changes : (old new : List Rule) (prefix depth : ℕ) (s : Splice old new prefix depth) →
+    ChangesAt (routes_of old) (routes_of new) prefix depth (route_at (routes_of s.into) prefix depth)
 splice_changes old new prefix depth s = record {
   here = ap (λ rules. route_at (routes_of rules) prefix depth) s.new_is ∙ here_at s.first s.into s.last prefix depth s.first_misses s.last_misses;
   others = λ p d other. ap (λ rules. route_at (routes_of rules) p d) s.new_is
       ∙ (three s.first s.into s.last p d
-      ∙ (ap (λ o. option_or (route_at (routes_of s.first) p d) (option_or o (route_at (routes_of s.last) p d))) (others_none s.into prefix depth p d s.into_there other ∙ sym (others_none s.out prefix depth p d s.out_there other))
+      ∙ (ap (λ o. option_or (route_at (routes_of s.first) p d) (option_or o (route_at (routes_of s.last) p d)))
+      (others_none s.into prefix depth p d s.into_there other ∙ sym (others_none s.out prefix depth p d s.out_there other))
       ∙ (sym (three s.first s.out s.last p d)
       ∙ ap (λ rules. route_at (routes_of rules) p d) (sym s.old_is))));
 }
@@ -110,7 +118,8 @@ set_place [] place r there = absurd (omega (arith, there))
 set_place (q ∷ rules) zero r there = refl
 set_place (q ∷ rules) (suc place) r there = ap (λ rs. q ∷ rs) (set_place rules place r (omega (arith, there)))
 
-abbrev pub put_splice : (rules : List Rule) (place : ℕ) (r : Rule) → IsMissing rules r.depth r.prefix place → Splice rules (take place rules ++ r ∷ drop place rules) r.prefix r.depth
+abbrev pub put_splice : (rules : List Rule) (place : ℕ) (r : Rule) → IsMissing rules r.depth r.prefix place →
+    Splice rules (take place rules ++ r ∷ drop place rules) r.prefix r.depth
 put_splice rules place r missing = record {
   first = take place rules;
   last = drop place rules;
@@ -124,7 +133,8 @@ put_splice rules place r missing = record {
   into_there = ((refl, refl), tt);
 }
 
-abbrev pub replace_splice : (rules : List Rule) (place : ℕ) (r : Rule) → IsFound rules r.depth r.prefix place → Splice rules (slice_set rules place r) r.prefix r.depth
+abbrev pub replace_splice : (rules : List Rule) (place : ℕ) (r : Rule) → IsFound rules r.depth r.prefix place →
+    Splice rules (slice_set rules place r) r.prefix r.depth
 replace_splice rules place r found = record {
   first = take place rules;
   last = drop (suc place) rules;
@@ -138,7 +148,8 @@ replace_splice rules place r found = record {
   into_there = ((refl, refl), tt);
 }
 
-abbrev pub remove_splice : (rules : List Rule) (place prefix depth : ℕ) → IsFound rules depth prefix place → Splice rules (take place rules ++ drop (suc place) rules) prefix depth
+abbrev pub remove_splice : (rules : List Rule) (place prefix depth : ℕ) → IsFound rules depth prefix place →
+    Splice rules (take place rules ++ drop (suc place) rules) prefix depth
 remove_splice rules place prefix depth found = record {
   first = take place rules;
   last = drop (suc place) rules;

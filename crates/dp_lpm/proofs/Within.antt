@@ -15,12 +15,14 @@ pub within_zero : (routes : List Route) (ip : ℕ) → deepest_within 0 routes i
 unfolding deepest_within
 within_zero routes ip = refl
 
-pub within_suc : (depth : ℕ) (routes : List Route) (ip : ℕ) → deepest_within (suc depth) routes ip ≡ option_or (route_at routes (prefix_of ip (suc depth)) (suc depth)) (deepest_within depth routes ip)
+pub within_suc : (depth : ℕ) (routes : List Route) (ip : ℕ) → deepest_within (suc depth) routes ip
+    ≡ option_or (route_at routes (prefix_of ip (suc depth)) (suc depth)) (deepest_within depth routes ip)
 unfolding deepest_within
 within_suc depth routes ip = refl
 
 -- a rule that is found is the route of its place
-pub found_at : (rules : List Rule) (depth prefix place : ℕ) → IsFound rules depth prefix place → route_at (routes_of rules) prefix depth ≡ Some (route_of (rule_at rules place))
+pub found_at : (rules : List Rule) (depth prefix place : ℕ) → IsFound rules depth prefix place → route_at (routes_of rules) prefix depth
+    ≡ Some (route_of (rule_at rules place))
 found_at rules depth prefix place found =
     let r = rule_at rules place in
     let front = all_below (take place rules) (rank depth prefix) found.parts.lower in
@@ -38,13 +40,16 @@ missing_at rules depth prefix place missing =
     (all_above (drop place rules) (rank depth prefix) missing.parts.upper)
 
 -- the entry where a rule of the depth is found, and where it is not
-pub entry_found : (rules : List Rule) (ip depth place : ℕ) → 0 < depth → IsFound rules depth (prefix_of ip depth) place → Hop (rule_at rules place).hop depth ≡ entry_of (deepest_within depth (routes_of rules) ip)
+pub entry_found : (rules : List Rule) (ip depth place : ℕ) → 0 < depth → IsFound rules depth (prefix_of ip depth) place → Hop (rule_at rules place).hop depth
+    ≡ entry_of (deepest_within depth (routes_of rules) ip)
 entry_found rules ip zero place some found = absurd (omega (arith, some))
 entry_found rules ip (suc depth) place some found =
     ap (Hop (rule_at rules place).hop) (sym found.depth_is)
-    ∙ ap entry_of (sym (within_suc depth (routes_of rules) ip ∙ ap (λ o. option_or o (deepest_within depth (routes_of rules) ip)) (found_at rules (suc depth) (prefix_of ip (suc depth)) place found)))
+    ∙ ap entry_of (sym (within_suc depth (routes_of rules) ip ∙ ap (λ o. option_or o (deepest_within depth (routes_of rules) ip))
+    (found_at rules (suc depth) (prefix_of ip (suc depth)) place found)))
 
-pub entry_missing : (rules : List Rule) (ip depth place : ℕ) → 0 < depth → IsMissing rules depth (prefix_of ip depth) place → deepest_within depth (routes_of rules) ip ≡ deepest_within (depth - 1) (routes_of rules) ip
+pub entry_missing : (rules : List Rule) (ip depth place : ℕ) → 0 < depth → IsMissing rules depth (prefix_of ip depth) place →
+    deepest_within depth (routes_of rules) ip ≡ deepest_within (depth - 1) (routes_of rules) ip
 entry_missing rules ip zero place some missing = absurd (omega (arith, some))
 entry_missing rules ip (suc depth) place some missing =
     let e : suc depth - 1 ≡ depth = omega arith in

@@ -91,7 +91,8 @@ impl Store {
         requires kept { IsKept self.old }
         requires rule { IsRoute (route_of rule) }
         requires place { IsMissing self.old.rules.items rule.depth rule.prefix place }
-        ensures { MatchResult result (λ _. TakesIn self.old self.new (route_of rule) × (new_fault (shown self.old) (route_of rule) ≡ None)) (λ e. (new_fault (shown self.old) (route_of rule) ≡ Some e) × (self.new ≡ self.old)) }
+        ensures { MatchResult result (λ _. TakesIn self.old self.new (route_of rule) × (new_fault (shown self.old) (route_of rule) ≡ None))
+            (λ e. (new_fault (shown self.old) (route_of rule) ≡ Some e) × (self.new ≡ self.old)) }
     {
         if self.rules.len() >= self.max_rules as usize {
             return Err(LpmError::RulesFull);
@@ -107,7 +108,8 @@ impl Store {
     fn take_in(&mut self, rule: Rule) -> Result<(), LpmError>
         requires kept { IsKept self.old }
         requires rule { IsRoute (route_of rule) }
-        ensures { MatchResult result (λ _. TakesIn self.old self.new (route_of rule) × (route_fault (shown self.old) (route_of rule) ≡ None)) (λ e. (route_fault (shown self.old) (route_of rule) ≡ Some e) × (self.new ≡ self.old)) }
+        ensures { MatchResult result (λ _. TakesIn self.old self.new (route_of rule) × (route_fault (shown self.old) (route_of rule) ≡ None))
+            (λ e. (route_fault (shown self.old) (route_of rule) ≡ Some e) × (self.new ≡ self.old)) }
     {
         match search(&self.rules, rule.depth, rule.prefix) {
             Ok(place) => {

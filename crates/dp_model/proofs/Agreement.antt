@@ -1,5 +1,6 @@
 -- What stands twice agrees: how a record is received, how rings are served, and the order of records.
-use Rattle.std.proofs.Common.{◌≡◌, ◌⊎◌, ℕ, zero, suc, ◌+◌, ◌<◌, ◌≤◌, Bool, true, cond, List, [], ◌∷◌, ◌++◌, length, drop, Option, Some, None, refl, sym, ◌∙◌, ap, subst, arith, inl, inr}
+use Rattle.std.proofs.Common.{◌≡◌, ◌⊎◌, ℕ, zero, suc, ◌+◌, ◌<◌, ◌≤◌, Bool, true, cond, List, [], ◌∷◌, ◌++◌, length, drop, Option, Some, None, refl, sym, ◌∙◌}
+use Rattle.std.proofs.Common.{ap, subst, arith, inl, inr}
 use Rattle.std.specs.Prelude.{slice_get, MatchOption, option_map, option_to_list, slice_index_or, take}
 use Rattle.std.specs.List.{cons_option}
 use Rattle.std.proofs.lemmas.List.Elements.{filter_map-append}
@@ -13,7 +14,9 @@ use Rattle.dp_model.specs.Safety.{Beginning, IsOfRecord, IsServed}
 
 -- ---- a record is received and its node runs: both in one, or one after the other
 
-pub receives_again : (c : Setting) (nodes : Nodes) (port : ℕ) (bytes : List ℕ) (w w' : World) (b : Beginning) (told : List Bool) → (r : IsOfRecord c nodes port bytes w b) → NodeRun c b.program b.packet b.number b.world told w' → Receives c r.program port r.spec bytes w (true ∷ told) w'
+pub receives_again : (c : Setting) (nodes : Nodes) (port : ℕ) (bytes : List ℕ) (w w' : World) (b : Beginning) (told : List Bool) →
+    (r : IsOfRecord c nodes port bytes w b) → NodeRun c b.program b.packet b.number b.world told w' →
+    Receives c r.program port r.spec bytes w (true ∷ told) w'
 receives_again c nodes port bytes w w' b told r run = record {
   fits = r.fits;
   given = r.given;
@@ -30,12 +33,17 @@ receives_again c nodes port bytes w w' b told r run = record {
 
 -- ---- rings are served until none has a packet, or as often as may be
 
-pub serves_is : (c : Setting) (programs : List (List Instr)) (n : ℕ) (w : World) (told : List Bool) (runs : ℕ) (w' : World) → Serves c programs n w told runs w' → IsServed c programs n w runs w'
+pub serves_is : (c : Setting) (programs : List (List Instr)) (n : ℕ) (w : World) (told : List Bool) (runs : ℕ) (w' : World) →
+    Serves c programs n w told runs w' → IsServed c programs n w runs w'
 serves_is c programs zero w told runs w' (_, none, is) =
     subst (λ r. IsServed c programs zero w r w') (sym none) (record { served = is; few = omega arith; why = inl refl })
 serves_is c programs (suc n) w told runs w' serves = go (first_waiting w.rings) refl serves (λ mid told more. serves_is c programs n mid told more w')
   where
-    go : (o : Option Waiting) → first_waiting w.rings ≡ o → MatchOption o ((told ≡ []) × (runs ≡ 0) × (w' ≡ w)) (λ next. (program : List Instr) × (now later : List Bool) × (mid : World) × (more : ℕ) × (slice_get programs next.ring ≡ Some program) × NodeRun c program next.packet next.ring (record w { rings = next.rings }) now mid × Serves c programs n mid later more w' × (told ≡ now ++ later) × (runs ≡ more + 1)) → ((mid : World) (told : List Bool) (more : ℕ) → Serves c programs n mid told more w' → IsServed c programs n mid more w') → IsServed c programs (suc n) w runs w'
+    go : (o : Option Waiting) → first_waiting w.rings ≡ o → MatchOption o ((told ≡ []) × (runs ≡ 0) × (w' ≡ w)) (λ next. (program : List Instr)
+        × (now later : List Bool) × (mid : World) × (more : ℕ) × (slice_get programs next.ring ≡ Some program)
+        × NodeRun c program next.packet next.ring (record w { rings = next.rings }) now mid × Serves c programs n mid later more w' × (told ≡ now ++ later)
+        × (runs ≡ more + 1)) → ((mid : World) (told : List Bool) (more : ℕ) → Serves c programs n mid told more w' → IsServed c programs n mid more w') →
+        IsServed c programs (suc n) w runs w'
     go None e (_, none, is) on =
         subst (λ r. IsServed c programs (suc n) w r w') (sym none)
         (record { served = is; few = omega arith; why = inr (ap (λ (x : World). first_waiting x.rings) is ∙ e) })
@@ -73,18 +81,21 @@ module _ {T : Type 0} where
       ∙ later_ports k port (from + 1) inputs (omega (arith, less)))
 
   -- a round has the port's record of that place
-  round_port : (k from i : ℕ) (inputs : List (List (T × List ℕ))) → of_port (from + i) (round_of k from inputs) ≡ option_to_list (slice_get (slice_index_or inputs i []) k)
+  round_port : (k from i : ℕ) (inputs : List (List (T × List ℕ))) → of_port (from + i) (round_of k from inputs)
+      ≡ option_to_list (slice_get (slice_index_or inputs i []) k)
   round_port k from i [] = refl
   round_port k from zero (input ∷ inputs) =
       let here : of_port (from + 0) (arrival_of from (slice_get input k)) ≡ option_to_list (slice_get input k) =
       subst (λ p. of_port p (arrival_of from (slice_get input k)) ≡ option_to_list (slice_get input k)) (omega arith) (own_record from (slice_get input k)) in
       filter_map-append (at_port (from + 0)) (arrival_of from (slice_get input k)) (round_of k (from + 1) inputs)
       ∙ (ap (λ xs. xs ++ of_port (from + 0) (round_of k (from + 1) inputs)) here
-      ∙ (ap (λ xs. option_to_list (slice_get input k) ++ xs) (later_ports k (from + 0) (from + 1) inputs (omega arith)) ∙ append-nil (option_to_list (slice_get input k))))
+      ∙ (ap (λ xs. option_to_list (slice_get input k) ++ xs) (later_ports k (from + 0) (from + 1) inputs (omega arith))
+      ∙ append-nil (option_to_list (slice_get input k))))
   round_port k from (suc i) (input ∷ inputs) =
       filter_map-append (at_port (from + suc i)) (arrival_of from (slice_get input k)) (round_of k (from + 1) inputs)
       ∙ (ap (λ xs. xs ++ of_port (from + suc i) (round_of k (from + 1) inputs)) (other_record (from + suc i) from (slice_get input k) (λ e. omega (arith, e)))
-      ∙ subst (λ p. of_port p (round_of k (from + 1) inputs) ≡ option_to_list (slice_get (slice_index_or inputs i []) k)) (omega arith) (round_port k (from + 1) i inputs))
+      ∙ subst (λ p. of_port p (round_of k (from + 1) inputs) ≡ option_to_list (slice_get (slice_index_or inputs i []) k)) (omega arith)
+      (round_port k (from + 1) i inputs))
 
   take_next : (n k : ℕ) (xs : List (T × List ℕ)) → option_to_list (slice_get xs k) ++ take n (drop (suc k) xs) ≡ take (suc n) (drop k xs)
   take_next n k [] = ap (take n) (drop-nil (suc k)) ∙ (take-nil n ∙ sym (ap (take (suc n)) (drop-nil k)))
@@ -96,7 +107,8 @@ module _ {T : Type 0} where
   rounds_port (suc n) k port inputs =
       let next : k + 1 ≡ suc k = omega arith in
       filter_map-append (at_port port) (round_of k 0 inputs) (rounds n (k + 1) inputs)
-      ∙ (ap (λ xs. xs ++ of_port port (rounds n (k + 1) inputs)) (subst (λ p. of_port p (round_of k 0 inputs) ≡ option_to_list (slice_get (slice_index_or inputs port []) k)) (omega arith) (round_port k 0 port inputs))
+      ∙ (ap (λ xs. xs ++ of_port port (rounds n (k + 1) inputs)) (subst (λ p. of_port p (round_of k 0 inputs)
+      ≡ option_to_list (slice_get (slice_index_or inputs port []) k)) (omega arith) (round_port k 0 port inputs))
       ∙ (ap (λ xs. option_to_list (slice_get (slice_index_or inputs port []) k) ++ xs) (rounds_port n (k + 1) port inputs)
       ∙ (ap (λ j. option_to_list (slice_get (slice_index_or inputs port []) k) ++ take n (drop j (slice_index_or inputs port []))) next
       ∙ take_next n k (slice_index_or inputs port []))))

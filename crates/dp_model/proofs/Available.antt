@@ -22,16 +22,20 @@ is_free_same live live' n m b = go (is_free live' n) (is_free live n) refl refl
         let now : is_free live' n ≡ true = free_of_counts live' n (omega (arith, m, free_no_mbuf live n f)) (omega (arith, b, free_zero live n f)) in cc
 
 -- what is free below an index counts the same where each number is as free
-pub free_below_same : (live live' : List Segment) (pool n : ℕ) → ((i : ℕ) → i < n → is_free live' (record { pool = pool; index = i }) ≡ is_free live (record { pool = pool; index = i })) → free_below live' pool n ≡ free_below live pool n
+pub free_below_same : (live live' : List Segment) (pool n : ℕ) → ((i : ℕ) → i < n → is_free live' (record { pool = pool; index = i })
+    ≡ is_free live (record { pool = pool; index = i })) → free_below live' pool n ≡ free_below live pool n
 free_below_same live live' pool zero same = refl
 free_below_same live live' pool (suc n) same =
-    let here : one_if (is_free live' (record { pool = pool; index = n })) ≡ one_if (is_free live (record { pool = pool; index = n })) = ap one_if (same n (omega arith)) in
+    let here : one_if (is_free live' (record { pool = pool; index = n })) ≡ one_if (is_free live (record { pool = pool; index = n })) =
+    ap one_if (same n (omega arith)) in
     omega (arith, here, free_below_same live live' pool n (λ i less. same i (omega (arith, less))))
 
 -- so a change that no mbuf and no buffer sees leaves as many free
-pub available_same : (pools : List PoolSpec) (live live' : List Segment) (pool : ℕ) → ((n : Number) → mbufs live' n ≡ mbufs live n) → ((n : Number) → refs live' n ≡ refs live n) → available pools live' pool ≡ available pools live pool
+pub available_same : (pools : List PoolSpec) (live live' : List Segment) (pool : ℕ) → ((n : Number) → mbufs live' n ≡ mbufs live n) →
+    ((n : Number) → refs live' n ≡ refs live n) → available pools live' pool ≡ available pools live pool
 available_same pools live live' pool m b =
-    free_below_same live live' pool (count_at pools pool) (λ i less. is_free_same live live' (record { pool = pool; index = i }) (m (record { pool = pool; index = i })) (b (record { pool = pool; index = i })))
+    free_below_same live live' pool (count_at pools pool) (λ i less. is_free_same live live' (record { pool = pool; index = i })
+    (m (record { pool = pool; index = i })) (b (record { pool = pool; index = i })))
 
 -- without live segments all are free
 pub all_free : (pool n : ℕ) → free_below [] pool n ≡ n

@@ -1,16 +1,20 @@
 -- The budget of backward jumps is as it reads.
-use Rattle.std.proofs.Common.{◌≡◌, ◌⊎◌, ℕ, zero, suc, ◌+◌, ◌*◌, ◌≤◌, Bool, true, false, cond, List, [], ◌++◌, length, Option, Some, None, refl, sym, ◌∙◌, ap, subst, arith, inl, inr}
+use Rattle.std.proofs.Common.{◌≡◌, ◌⊎◌, ℕ, zero, suc, ◌+◌, ◌*◌, ◌≤◌, Bool, true, false, cond, List, [], ◌++◌, length, Option, Some, None, refl, sym, ◌∙◌, ap}
+use Rattle.std.proofs.Common.{subst, arith, inl, inr}
 use Rattle.std.specs.Prelude.{slice_get, slice_set, nat_lt, MatchOption}
 use Rattle.std.proofs.lemmas.Bool.{ltb-true}
 use Rattle.std.proofs.lemmas.Option.{same_Some, slice_get_within}
 use Rattle.dp_model.specs.declared.env.PortSpec.{PortSpec}
 use Rattle.dp_model.specs.declared.instr.Instr.{Instr}
-use Rattle.dp_model.specs.declared.instr.Instr.TheVariants.{Alloc, Free, Clone, Prepend, Adj, Append, Trim, Chain, IfHead, IfTail, IfLen, IfLast, Load, Store, LoadX, StoreX, Set, Mov, Add, Sub, And, Or, Xor, Shl, Shr, Jmp, Jeq, Jlt, Lookup, Tx, Enq, Exit}
+use Rattle.dp_model.specs.declared.instr.Instr.TheVariants.{Alloc, Free, Clone, Prepend, Adj, Append, Trim, Chain, IfHead, IfTail, IfLen, IfLast, Load, Store}
+use Rattle.dp_model.specs.declared.instr.Instr.TheVariants.{LoadX, StoreX, Set, Mov, Add, Sub, And, Or, Xor, Shl, Shr, Jmp, Jeq, Jlt, Lookup, Tx, Enq, Exit}
 use Rattle.dp_model.specs.Packets.{Packet, headroom, tailroom, first_len, last_len}
 use Rattle.dp_model.specs.Prefixes.{Route, hop_for}
 use Rattle.dp_model.specs.Jumps.{label_of}
-use Rattle.dp_model.specs.Machine.{Setting, World, State, Next, At, Ended, Move, Acts, Step, moves_to, goes_on, branches, is_denied, finds, with_jump, cut_off, budgeted, with_step}
-use Rattle.dp_model.specs.Runs.{Then, Goes, first_state, NodeRun, most_steps, TookAtMost, Outcome, Got, NoBuffer, Oversize, Arrives, Waiting, first_waiting, Serves, Nodes, runs_of, Turn}
+use Rattle.dp_model.specs.Machine.{Setting, World, State, Next, At, Ended, Move, Acts, Step, moves_to, goes_on, branches, is_denied, finds, with_jump}
+use Rattle.dp_model.specs.Machine.{cut_off, budgeted, with_step}
+use Rattle.dp_model.specs.Runs.{Then, Goes, first_state, NodeRun, most_steps, TookAtMost, Outcome, Got, NoBuffer, Oversize, Arrives, Waiting, first_waiting}
+use Rattle.dp_model.specs.Runs.{Serves, Nodes, runs_of, Turn}
 use Rattle.dp_model.specs.Safety.{AreShort}
 use Rattle.dp_model.specs.Laws.Cases.{matched}
 use Rattle.dp_model.proofs.CountSteps.{goes_short}
@@ -52,20 +56,23 @@ module _ (label to : ℕ) (i : Instr) where
   branched b l s m names is e = either b (moves_to l s) (goes_on label s) m to is e (named l names) (λ next. inl (same_at to (label + 1) (sym next)))
 
   -- a calculation that goes on
-  counted : (after : ℕ × List ℕ) (m : Move) (s : State) (numbers : List ℕ) → Some (label + 1, numbers) ≡ Some after → m ≡ moves_to after.0 s → m.next ≡ At to → NextOrNamed label i to
+  counted : (after : ℕ × List ℕ) (m : Move) (s : State) (numbers : List ℕ) → Some (label + 1, numbers) ≡ Some after → m ≡ moves_to after.0 s →
+      m.next ≡ At to → NextOrNamed label i to
   counted after m s numbers is moves e =
       let same : label + 1 ≡ after.0 = ap (λ (x : ℕ × List ℕ). x.0) (same_Some (label + 1, numbers) after is) in
       onward m (ap next_of moves ∙ ap At (sym same)) e
 
   -- a calculation that may jump
-  tested : (b : Bool) (l : ℕ) (after : ℕ × List ℕ) (m : Move) (s : State) (numbers : List ℕ) → label_of i ≡ Some l → Some (cond b l (label + 1), numbers) ≡ Some after → m ≡ moves_to after.0 s → m.next ≡ At to → NextOrNamed label i to
+  tested : (b : Bool) (l : ℕ) (after : ℕ × List ℕ) (m : Move) (s : State) (numbers : List ℕ) → label_of i ≡ Some l → Some (cond b l (label + 1), numbers)
+      ≡ Some after → m ≡ moves_to after.0 s → m.next ≡ At to → NextOrNamed label i to
   tested true l after m s numbers names is moves e =
       let same : l ≡ after.0 = ap (λ (x : ℕ × List ℕ). x.0) (same_Some (l, numbers) after is) in
       named l names (ap At same ∙ (sym (ap next_of moves) ∙ e))
   tested false l after m s numbers names is moves e = counted after m s numbers is moves e
 
   -- a look-up
-  looked : (o : Option (List Route)) (ip r l : ℕ) (after : ℕ × List ℕ) (m : Move) (s : State) (numbers : List ℕ) → label_of i ≡ Some l → finds o ip label r l numbers ≡ Some after → m ≡ moves_to after.0 s → m.next ≡ At to → NextOrNamed label i to
+  looked : (o : Option (List Route)) (ip r l : ℕ) (after : ℕ × List ℕ) (m : Move) (s : State) (numbers : List ℕ) → label_of i ≡ Some l →
+      finds o ip label r l numbers ≡ Some after → m ≡ moves_to after.0 s → m.next ≡ At to → NextOrNamed label i to
   looked None ip r l after m s numbers names is moves e = cc is
   looked (Some routes) ip r l after m s numbers names is moves e = go (hop_for routes ip) refl
     where
@@ -133,74 +140,129 @@ step_jumps c program label s m within st =
     let same : st.effect.state.jumps ≡ s.jumps = (acts_counts c label (with_step s) st.instr st.effect st.acts).jumps in
     subst (λ (m : Move). m.state.jumps ≤ 256) (sym st.is) (jumps_within label st.effect (omega (arith, same, within)))
 
-goes_jumps : (c : Setting) (program : List Instr) (n label : ℕ) (s : State) (told : List Bool) (next : Next) (s' : State) → s.jumps ≤ 256 → Goes c program n label s told next s' → s'.jumps ≤ 256
+goes_jumps : (c : Setting) (program : List Instr) (n label : ℕ) (s : State) (told : List Bool) (next : Next) (s' : State) → s.jumps ≤ 256 →
+    Goes c program n label s told next s' → s'.jumps ≤ 256
 goes_jumps c program zero label s told next s' within (_, _, is) = subst (λ (x : State). x.jumps ≤ 256) (sym is) within
 goes_jumps c program (suc n) label s told next s' within (m, later, st, is_told, rest) =
     go m.next rest (step_jumps c program label s m within st) (λ l. goes_jumps c program n l m.state later next s')
   where
-    go : (x : Next) → Then x (λ l. Goes c program n l m.state later next s') ((next ≡ Ended) × (n ≡ 0) × (later ≡ []) × (s' ≡ m.state)) → m.state.jumps ≤ 256 → ((l : ℕ) → m.state.jumps ≤ 256 → Goes c program n l m.state later next s' → s'.jumps ≤ 256) → s'.jumps ≤ 256
+    go : (x : Next) → Then x (λ l. Goes c program n l m.state later next s') ((next ≡ Ended) × (n ≡ 0) × (later ≡ []) × (s' ≡ m.state)) →
+        m.state.jumps ≤ 256 → ((l : ℕ) → m.state.jumps ≤ 256 → Goes c program n l m.state later next s' → s'.jumps ≤ 256) → s'.jumps ≤ 256
     go (At l) rest here on = on l here rest
     go Ended (_, _, _, is) here on = subst (λ (x : State). x.jumps ≤ 256) (sym is) here
 
-pub jumps_taken : (c : Setting) (program : List Instr) (k : Packet) (number n label : ℕ) (w : World) (told : List Bool) (s : State) → Goes c program n 0 (first_state k number w) told (At label) s → (s.jumps ≤ 256) × (s.world.steps ≡ w.steps + n) × (s.world.cuts ≡ w.cuts)
+pub jumps_taken : (c : Setting) (program : List Instr) (k : Packet) (number n label : ℕ) (w : World) (told : List Bool) (s : State) →
+    Goes c program n 0 (first_state k number w) told (At label) s → (s.jumps ≤ 256) × (s.world.steps ≡ w.steps + n) × (s.world.cuts ≡ w.cuts)
 jumps_taken c program k number n label w told s goes =
     let counts = goes_counts c program n 0 (first_state k number w) told (At label) s goes in
     (goes_jumps c program n 0 (first_state k number w) told (At label) s (omega arith) goes, counts.steps, omega (arith, counts.cuts, counts.at_end))
 
 -- ---- node runs and turns
-pub short_run : (c : Setting) (program : List Instr) (n : ℕ) (k : Packet) (number : ℕ) (w : World) (told : List Bool) (next : Next) (s : State) → Goes c program n 0 (first_state k number w) told next s → n ≤ most_steps program
+pub short_run : (c : Setting) (program : List Instr) (n : ℕ) (k : Packet) (number : ℕ) (w : World) (told : List Bool) (next : Next) (s : State) →
+    Goes c program n 0 (first_state k number w) told next s → n ≤ most_steps program
 short_run c program zero k number w told next s goes = omega arith
 short_run c program (suc n) k number w told next s (m, later, st, is_told, rest) =
-    omega (arith, goes_short c program (suc n) 0 (first_state k number w) told next s (slice_get_within program 0 st.instr st.here) (omega arith) (m, later, st, is_told, rest))
+    omega (
+      arith,
+      goes_short c program (suc n) 0 (first_state k number w) told next s (slice_get_within program 0 st.instr st.here) (omega arith) (
+        m,
+        later,
+        st,
+        is_told,
+        rest,
+      ),
+    )
 
-pub node_took : (c : Setting) (program : List Instr) (k : Packet) (number : ℕ) (w w' : World) (told : List Bool) → NodeRun c program k number w told w' → TookAtMost w w' (most_steps program) 1
+pub node_took : (c : Setting) (program : List Instr) (k : Packet) (number : ℕ) (w w' : World) (told : List Bool) → NodeRun c program k number w told w' →
+    TookAtMost w w' (most_steps program) 1
 node_took c program k number w w' told (n, s, goes, is) =
     let counts = goes_counts c program n 0 (first_state k number w) told Ended s goes in
     let steps : w'.steps ≡ s.world.steps = ap (λ (w : World). w.steps) is in
-    let cuts : w'.cuts ≡ s.world.cuts = ap (λ (w : World). w.cuts) is in
-    (n, counts.more, record { steps_are = omega (arith, steps, counts.steps); cuts_are = omega (arith, cuts, counts.cuts) }, short_run c program n k number w told Ended s goes, counts.at_end)
+    let cuts : w'.cuts ≡ s.world.cuts = ap (λ (w : World). w.cuts) is in (
+      n,
+      counts.more,
+      record { steps_are = omega (arith, steps, counts.steps); cuts_are = omega (arith, cuts, counts.cuts) },
+      short_run c program n k number w told Ended s goes,
+      counts.at_end,
+    )
 
 none_took : (w w' : World) (limit : ℕ) → w'.steps ≡ w.steps → w'.cuts ≡ w.cuts → TookAtMost w w' limit 0
 none_took w w' limit steps cuts = (0, 0, record { steps_are = omega (arith, steps); cuts_are = omega (arith, cuts) }, omega arith, omega arith)
 
 -- one after the other
 took_both : (w v w' : World) (a b x y : ℕ) → TookAtMost w v a b → TookAtMost v w' x y → TookAtMost w w' (a + x) (b + y)
-took_both w v w' a b x y (steps, cuts, took, le, few) (steps', cuts', took', le', few') =
-    (steps + steps', cuts + cuts', record { steps_are = omega (arith, took.steps_are, took'.steps_are); cuts_are = omega (arith, took.cuts_are, took'.cuts_are) }, omega (arith, le, le'), omega (arith, few, few'))
+took_both w v w' a b x y (steps, cuts, took, le, few) (steps', cuts', took', le', few') = (
+  steps + steps',
+  cuts + cuts',
+  record {
+    steps_are = omega (arith, took.steps_are, took'.steps_are);
+    cuts_are = omega (arith, took.cuts_are, took'.cuts_are);
+  },
+  omega (arith, le, le'),
+  omega (arith, few, few'),
+)
 
 took_more : (w w' : World) (a x b : ℕ) → a ≤ x → TookAtMost w w' a b → TookAtMost w w' x b
 took_more w w' a x b more (steps, cuts, took, le, few) = (steps, cuts, took, omega (arith, le, more), few)
 
-arrives_took : (c : Setting) (nodes : Nodes) (most port : ℕ) (program : List Instr) (spec : PortSpec) (bytes : List ℕ) (w w' : World) (outcome : Outcome) (told : List Bool) → AreShort most nodes.ports → slice_get nodes.ports port ≡ Some program → Arrives c program port spec bytes w outcome told w' → TookAtMost w w' (runs_of outcome * (257 * most)) (runs_of outcome)
-arrives_took c nodes most port program spec bytes w w' Oversize told short is_program (_, _, is) = none_took w w' (0 * (257 * most)) (ap (λ (w : World). w.steps) is) (ap (λ (w : World). w.cuts) is)
-arrives_took c nodes most port program spec bytes w w' NoBuffer told short is_program (_, _, _, is) = none_took w w' (0 * (257 * most)) (ap (λ (w : World). w.steps) is) (ap (λ (w : World). w.cuts) is)
+arrives_took : (c : Setting) (nodes : Nodes) (most port : ℕ) (program : List Instr) (spec : PortSpec) (bytes : List ℕ) (w w' : World) (outcome : Outcome)
+    (told : List Bool) → AreShort most nodes.ports → slice_get nodes.ports port ≡ Some program → Arrives c program port spec bytes w outcome told w' →
+    TookAtMost w w' (runs_of outcome * (257 * most)) (runs_of outcome)
+arrives_took c nodes most port program spec bytes w w' Oversize told short is_program (_, _, is) =
+    none_took w w' (0 * (257 * most)) (ap (λ (w : World). w.steps) is) (ap (λ (w : World). w.cuts) is)
+arrives_took c nodes most port program spec bytes w w' NoBuffer told short is_program (_, _, _, is) =
+    none_took w w' (0 * (257 * most)) (ap (λ (w : World). w.steps) is) (ap (λ (w : World). w.cuts) is)
 arrives_took c nodes most port program spec bytes w w' Got told short is_program r =
     let (steps, cuts, took, le, few) = node_took c program r.packet port (record w { buffers = r.buffers; calls = w.calls + 1 }) w' r.later r.run in
     (steps, cuts, record { steps_are = took.steps_are; cuts_are = took.cuts_are }, omega (arith, le, short port program is_program), few)
 
-serves_took : (c : Setting) (nodes : Nodes) (most n : ℕ) (w w' : World) (told : List Bool) (runs : ℕ) → AreShort most nodes.rings → Serves c nodes.rings n w told runs w' → (runs ≤ n) × TookAtMost w w' (runs * (257 * most)) runs
+serves_took : (c : Setting) (nodes : Nodes) (most n : ℕ) (w w' : World) (told : List Bool) (runs : ℕ) → AreShort most nodes.rings →
+    Serves c nodes.rings n w told runs w' → (runs ≤ n) × TookAtMost w w' (runs * (257 * most)) runs
 serves_took c nodes most zero w w' told runs short (_, none, is) =
-    subst (λ r. (r ≤ 0) × TookAtMost w w' (r * (257 * most)) r) (sym none) (omega arith, none_took w w' (0 * (257 * most)) (ap (λ (w : World). w.steps) is) (ap (λ (w : World). w.cuts) is))
-serves_took c nodes most (suc n) w w' told runs short serves = go (first_waiting w.rings) refl serves (λ mid told more. serves_took c nodes most n mid w' told more short)
+    subst (λ r. (r ≤ 0) × TookAtMost w w' (r * (257 * most)) r) (sym none) (
+      omega arith,
+      none_took w w' (0 * (257 * most)) (ap (λ (w : World). w.steps) is) (ap (λ (w : World). w.cuts) is),
+    )
+serves_took c nodes most (suc n) w w' told runs short serves = go (first_waiting w.rings) refl serves
+    (λ mid told more. serves_took c nodes most n mid w' told more short)
   where
-    go : (o : Option Waiting) → first_waiting w.rings ≡ o → MatchOption o ((told ≡ []) × (runs ≡ 0) × (w' ≡ w)) (λ next. (program : List Instr) × (now later : List Bool) × (mid : World) × (more : ℕ) × (slice_get nodes.rings next.ring ≡ Some program) × NodeRun c program next.packet next.ring (record w { rings = next.rings }) now mid × Serves c nodes.rings n mid later more w' × (told ≡ now ++ later) × (runs ≡ more + 1)) → ((mid : World) (told : List Bool) (more : ℕ) → Serves c nodes.rings n mid told more w' → (more ≤ n) × TookAtMost mid w' (more * (257 * most)) more) → (runs ≤ suc n) × TookAtMost w w' (runs * (257 * most)) runs
+    go : (o : Option Waiting) → first_waiting w.rings ≡ o → MatchOption o ((told ≡ []) × (runs ≡ 0) × (w' ≡ w)) (λ next. (program : List Instr)
+        × (now later : List Bool) × (mid : World) × (more : ℕ) × (slice_get nodes.rings next.ring ≡ Some program)
+        × NodeRun c program next.packet next.ring (record w { rings = next.rings }) now mid × Serves c nodes.rings n mid later more w' × (told ≡ now ++ later)
+        × (runs ≡ more + 1)) → ((mid : World) (told : List Bool) (more : ℕ) → Serves c nodes.rings n mid told more w' →
+        (more ≤ n) × TookAtMost mid w' (more * (257 * most)) more) → (runs ≤ suc n) × TookAtMost w w' (runs * (257 * most)) runs
     go None e (_, none, is) on =
-        subst (λ r. (r ≤ suc n) × TookAtMost w w' (r * (257 * most)) r) (sym none) (omega arith, none_took w w' (0 * (257 * most)) (ap (λ (w : World). w.steps) is) (ap (λ (w : World). w.cuts) is))
+        subst (λ r. (r ≤ suc n) × TookAtMost w w' (r * (257 * most)) r) (sym none) (
+          omega arith,
+          none_took w w' (0 * (257 * most)) (ap (λ (w : World). w.steps) is) (ap (λ (w : World). w.cuts) is),
+        )
     go (Some next) e (program, now, later, mid, more, is_program, run, serves, _, count) on =
         let one_more : runs ≡ 1 + more = omega (arith, count) in
         let (within, others) = on mid later more serves in
         let (steps, cuts, took, le, few) = node_took c program next.packet next.ring (record w { rings = next.rings }) mid now run in
-        let first : TookAtMost w mid (257 * most) 1 = (steps, cuts, record { steps_are = took.steps_are; cuts_are = took.cuts_are }, omega (arith, le, short next.ring program is_program), few) in
-        subst (λ r. (r ≤ suc n) × TookAtMost w w' (r * (257 * most)) r) (sym one_more)
-        (omega (arith, within), took_more w w' (257 * most + more * (257 * most)) ((1 + more) * (257 * most)) (1 + more) (omega arith) (took_both w mid w' (257 * most) 1 (more * (257 * most)) more first others))
+        let first : TookAtMost w mid (257 * most) 1 = (
+          steps,
+          cuts,
+          record { steps_are = took.steps_are; cuts_are = took.cuts_are },
+          omega (arith, le, short next.ring program is_program),
+          few,
+        ) in
+        subst (λ r. (r ≤ suc n) × TookAtMost w w' (r * (257 * most)) r) (sym one_more) (
+          omega (arith, within),
+          took_more w w' (257 * most + more * (257 * most)) ((1 + more) * (257 * most)) (1 + more) (omega arith)
+              (took_both w mid w' (257 * most) 1 (more * (257 * most)) more first others),
+        )
 
-pub turn_took : (c : Setting) (nodes : Nodes) (port : ℕ) (bytes : List ℕ) (w w' : World) (outcome : Outcome) (runs : ℕ) (told : List Bool) (most : ℕ) → AreShort most nodes.ports → AreShort most nodes.rings → Turn c nodes port bytes w outcome runs told w' → (runs ≤ 33) × TookAtMost w w' (runs * (257 * most)) runs
+pub turn_took : (c : Setting) (nodes : Nodes) (port : ℕ) (bytes : List ℕ) (w w' : World) (outcome : Outcome) (runs : ℕ) (told : List Bool) (most : ℕ) →
+    AreShort most nodes.ports → AreShort most nodes.rings → Turn c nodes port bytes w outcome runs told w' →
+    (runs ≤ 33) × TookAtMost w w' (runs * (257 * most)) runs
 turn_took c nodes port bytes w w' outcome runs told most ports rings t =
     let first = arrives_took c nodes most port t.program t.spec bytes w t.mid outcome t.now ports t.program_is t.arrives in
     let (within, others) = serves_took c nodes most 32 t.mid w' t.later t.more rings t.serves in
     subst (λ r. (r ≤ 33) × TookAtMost w w' (r * (257 * most)) r) (sym t.runs_is) (
       few_runs outcome t.more within,
-      took_more w w' (runs_of outcome * (257 * most) + t.more * (257 * most)) ((runs_of outcome + t.more) * (257 * most)) (runs_of outcome + t.more) (joins outcome t.more) (took_both w t.mid w' (runs_of outcome * (257 * most)) (runs_of outcome) (t.more * (257 * most)) t.more first others),
+      took_more w w' (runs_of outcome * (257 * most) + t.more * (257 * most)) ((runs_of outcome + t.more) * (257 * most)) (runs_of outcome + t.more)
+          (joins outcome t.more) (took_both w t.mid w' (runs_of outcome * (257 * most)) (runs_of outcome) (t.more * (257 * most)) t.more first others),
     )
   where
     few_runs : (o : Outcome) (more : ℕ) → more ≤ 32 → runs_of o + more ≤ 33

@@ -16,7 +16,8 @@ tally_of test None = 0
 tally_of test (Some k) = tally test k
 
 -- a register set
-pub tally_set : (test : Segment → Bool) (packets : List (Option Packet)) (p : ℕ) (o o' : Option Packet) → slice_get packets p ≡ Some o → tally test (segments_held (slice_set packets p o')) + tally_of test o ≡ tally test (segments_held packets) + tally_of test o'
+pub tally_set : (test : Segment → Bool) (packets : List (Option Packet)) (p : ℕ) (o o' : Option Packet) → slice_get packets p ≡ Some o →
+    tally test (segments_held (slice_set packets p o')) + tally_of test o ≡ tally test (segments_held packets) + tally_of test o'
 tally_set test [] p o o' h = cc
 tally_set test (None ∷ packets) zero None None h = refl
 tally_set test (None ∷ packets) zero None (Some k) h = omega (arith, tally-append test k (segments_held packets))
@@ -33,7 +34,8 @@ tally_set test (Some k ∷ packets) (suc p) o o' h =
     omega (arith, tally_set test packets p o o' h, tally-append test k (segments_held packets), tally-append test k (segments_held (slice_set packets p o')))
 
 -- what a register holds is part of what is held
-pub tally_held : (test : Segment → Bool) (packets : List (Option Packet)) (i : ℕ) (o : Option Packet) → slice_get packets i ≡ Some o → tally_of test o ≤ tally test (segments_held packets)
+pub tally_held : (test : Segment → Bool) (packets : List (Option Packet)) (i : ℕ) (o : Option Packet) → slice_get packets i ≡ Some o →
+    tally_of test o ≤ tally test (segments_held packets)
 tally_held test packets i o h = omega (arith, tally_set test packets i o None h)
 
 -- ---- lists of packets
@@ -41,13 +43,19 @@ abbrev pub tally_list : (Segment → Bool) → List Packet → ℕ
 tally_list test packets = tally test (flat_map (λ k. k) packets)
 
 -- a ring or a transmit list set
-pub tally_listed_set : (test : Segment → Bool) (lists : List (List Packet)) (i : ℕ) (old new : List Packet) → slice_get lists i ≡ Some old → tally test (segments_listed (slice_set lists i new)) + tally_list test old ≡ tally test (segments_listed lists) + tally_list test new
+pub tally_listed_set : (test : Segment → Bool) (lists : List (List Packet)) (i : ℕ) (old new : List Packet) → slice_get lists i ≡ Some old →
+    tally test (segments_listed (slice_set lists i new)) + tally_list test old ≡ tally test (segments_listed lists) + tally_list test new
 tally_listed_set test [] i old new h = cc
 tally_listed_set test (l ∷ lists) zero old new h =
     let e : tally_list test l ≡ tally_list test old = ap (λ ks. tally_list test ks) (same_Some l old h) in
     omega (arith, e, tally-append test (flat_map (λ k. k) l) (segments_listed lists), tally-append test (flat_map (λ k. k) new) (segments_listed lists))
 tally_listed_set test (l ∷ lists) (suc i) old new h =
-    omega (arith, tally_listed_set test lists i old new h, tally-append test (flat_map (λ k. k) l) (segments_listed lists), tally-append test (flat_map (λ k. k) l) (segments_listed (slice_set lists i new)))
+    omega (
+      arith,
+      tally_listed_set test lists i old new h,
+      tally-append test (flat_map (λ k. k) l) (segments_listed lists),
+      tally-append test (flat_map (λ k. k) l) (segments_listed (slice_set lists i new)),
+    )
 
 -- one more packet at the end of a list
 pub tally_push : (test : Segment → Bool) (packets : List Packet) (k : Packet) → tally_list test (packets ++ k ∷ []) ≡ tally_list test packets + tally test k
@@ -57,39 +65,70 @@ tally_push test (j ∷ packets) k =
 
 -- ---- states
 -- the live segments of a state are those of registers, of rings and of transmit lists
-pub tally_live : (test : Segment → Bool) (s : State) → tally test (live s) ≡ tally test (segments_held s.packets) + (tally test (segments_listed s.world.rings) + tally test (segments_listed s.world.outboxes))
+pub tally_live : (test : Segment → Bool) (s : State) → tally test (live s)
+    ≡ tally test (segments_held s.packets) + (tally test (segments_listed s.world.rings) + tally test (segments_listed s.world.outboxes))
 tally_live test s =
-    omega (arith, tally-append test (segments_held s.packets) (segments_listed s.world.rings ++ segments_listed s.world.outboxes), tally-append test (segments_listed s.world.rings) (segments_listed s.world.outboxes))
+    omega (
+      arith,
+      tally-append test (segments_held s.packets) (segments_listed s.world.rings ++ segments_listed s.world.outboxes),
+      tally-append test (segments_listed s.world.rings) (segments_listed s.world.outboxes),
+    )
 
 -- a register of a state set
-pub tally_live_set : (test : Segment → Bool) (s : State) (p : ℕ) (o o' : Option Packet) → slice_get s.packets p ≡ Some o → tally test (live (record s { packets = slice_set s.packets p o' })) + tally_of test o ≡ tally test (live s) + tally_of test o'
+pub tally_live_set : (test : Segment → Bool) (s : State) (p : ℕ) (o o' : Option Packet) → slice_get s.packets p ≡ Some o →
+    tally test (live (record s { packets = slice_set s.packets p o' })) + tally_of test o ≡ tally test (live s) + tally_of test o'
 tally_live_set test s p o o' h =
     omega (arith, tally_set test s.packets p o o' h, tally_live test s, tally_live test (record s { packets = slice_set s.packets p o' }))
 
 -- a packet that leaves a register for a ring
-pub tally_to_ring : (test : Segment → Bool) (s : State) (p ring : ℕ) (k : Packet) (packets : List Packet) → slice_get s.packets p ≡ Some (Some k) → slice_get s.world.rings ring ≡ Some packets → tally test (live (with_ring ring (packets ++ k ∷ []) (without_packet p s))) ≡ tally test (live s)
+pub tally_to_ring : (test : Segment → Bool) (s : State) (p ring : ℕ) (k : Packet) (packets : List Packet) → slice_get s.packets p ≡ Some (Some k) →
+    slice_get s.world.rings ring ≡ Some packets → tally test (live (with_ring ring (packets ++ k ∷ []) (without_packet p s))) ≡ tally test (live s)
 tally_to_ring test s p ring k packets holds there =
-    omega (arith, tally_live test s, tally_live test (with_ring ring (packets ++ k ∷ []) (without_packet p s)), tally_set test s.packets p (Some k) None holds, tally_listed_set test s.world.rings ring packets (packets ++ k ∷ []) there, tally_push test packets k)
+    omega (
+      arith,
+      tally_live test s,
+      tally_live test (with_ring ring (packets ++ k ∷ []) (without_packet p s)),
+      tally_set test s.packets p (Some k) None holds,
+      tally_listed_set test s.world.rings ring packets (packets ++ k ∷ []) there,
+      tally_push test packets k,
+    )
 
 -- a packet that leaves a register for a transmit list
-pub tally_to_outbox : (test : Segment → Bool) (s : State) (p port : ℕ) (k : Packet) (packets : List Packet) → slice_get s.packets p ≡ Some (Some k) → slice_get s.world.outboxes port ≡ Some packets → tally test (live (with_outbox port (packets ++ k ∷ []) (without_packet p s))) ≡ tally test (live s)
+pub tally_to_outbox : (test : Segment → Bool) (s : State) (p port : ℕ) (k : Packet) (packets : List Packet) → slice_get s.packets p ≡ Some (Some k) →
+    slice_get s.world.outboxes port ≡ Some packets → tally test (live (with_outbox port (packets ++ k ∷ []) (without_packet p s))) ≡ tally test (live s)
 tally_to_outbox test s p port k packets holds there =
-    omega (arith, tally_live test s, tally_live test (with_outbox port (packets ++ k ∷ []) (without_packet p s)), tally_set test s.packets p (Some k) None holds, tally_listed_set test s.world.outboxes port packets (packets ++ k ∷ []) there, tally_push test packets k)
+    omega (
+      arith,
+      tally_live test s,
+      tally_live test (with_outbox port (packets ++ k ∷ []) (without_packet p s)),
+      tally_set test s.packets p (Some k) None holds,
+      tally_listed_set test s.world.outboxes port packets (packets ++ k ∷ []) there,
+      tally_push test packets k,
+    )
 
 -- one packet goes behind another
-pub tally_chain : (test : Segment → Bool) (packets : List (Option Packet)) (p q : ℕ) (k t : Packet) → p ≢ q → slice_get packets p ≡ Some (Some k) → slice_get packets q ≡ Some (Some t) → tally test (segments_held (slice_set (slice_set packets p (Some (k ++ t))) q None)) ≡ tally test (segments_held packets)
+pub tally_chain : (test : Segment → Bool) (packets : List (Option Packet)) (p q : ℕ) (k t : Packet) → p ≢ q → slice_get packets p ≡ Some (Some k) →
+    slice_get packets q ≡ Some (Some t) → tally test (segments_held (slice_set (slice_set packets p (Some (k ++ t))) q None))
+    ≡ tally test (segments_held packets)
 tally_chain test packets p q k t apart hp hq =
     let there : slice_get (slice_set packets p (Some (k ++ t))) q ≡ Some (Some t) = get_set_other packets p q (Some (k ++ t)) (λ e. apart (sym e)) ∙ hq in
-    omega (arith, tally_set test packets p (Some k) (Some (k ++ t)) hp, tally_set test (slice_set packets p (Some (k ++ t))) q (Some t) None there, tally-append test k t)
+    omega (
+      arith,
+      tally_set test packets p (Some k) (Some (k ++ t)) hp,
+      tally_set test (slice_set packets p (Some (k ++ t))) q (Some t) None there,
+      tally-append test k t,
+    )
 
 -- a node run begins with one packet more
-pub tally_first : (test : Segment → Bool) (k : Packet) (number : ℕ) (w : World) → tally test (live (first_state k number w)) ≡ tally test k + tally test (live (between w))
+pub tally_first : (test : Segment → Bool) (k : Packet) (number : ℕ) (w : World) → tally test (live (first_state k number w))
+    ≡ tally test k + tally test (live (between w))
 tally_first test k number w =
     omega (arith, tally_live test (first_state k number w), tally_live test (between w), tally-append test k [])
 
 -- ---- the first or the last segment changes
 -- a change that the test does not see, in front
-pub tally_front : (test : Segment → Bool) (f : Segment → Segment) (k : Packet) → ((s : Segment) → test (f s) ≡ test s) → tally test (at_front f k) ≡ tally test k
+pub tally_front : (test : Segment → Bool) (f : Segment → Segment) (k : Packet) → ((s : Segment) → test (f s) ≡ test s) → tally test (at_front f k)
+    ≡ tally test k
 tally_front test f [] same = refl
 tally_front test f (s ∷ rest) same =
     let e : one_if (test (f s)) ≡ one_if (test s) = ap one_if (same s) in

@@ -24,7 +24,8 @@ clone_then_store_question : Question
 clone_then_store_question = record {
   program = Clone 1 0 0 3 ∷ Store 0 0 One 0 ∷ Free 1 ∷ Free 0 ∷ Exit ∷ [];
   version = 1;
-  rows = row_of (Held 2 128 0 0 0 1 ∷ []) 7 ∷ row_of (Held 2 128 0 0 0 1 ∷ Held 0 128 0 0 0 1 ∷ []) 6 ∷ row_of (Held 2 128 0 0 0 1 ∷ Held 0 128 0 0 0 1 ∷ []) 6 ∷ row_of (Held 2 128 0 0 0 1 ∷ []) 7 ∷ row_of [] 8 ∷ [];
+  rows = row_of (Held 2 128 0 0 0 1 ∷ []) 7 ∷ row_of (Held 2 128 0 0 0 1 ∷ Held 0 128 0 0 0 1 ∷ []) 6
+      ∷ row_of (Held 2 128 0 0 0 1 ∷ Held 0 128 0 0 0 1 ∷ []) 6 ∷ row_of (Held 2 128 0 0 0 1 ∷ []) 7 ∷ row_of [] 8 ∷ [];
   env = one_port;
   entry = Port 0;
 }
@@ -38,7 +39,8 @@ strip_loose_question : Question
 strip_loose_question = record {
   program = strip;
   version = 1;
-  rows = record { live = true; facts = Held 2 128 0 0 0 1 ∷ replicate 7 Empty; bounds = replicate 7 0 ++ 1 ∷ [] } ∷ row_of (Held 2 128 0 14 0 1 ∷ []) 7 ∷ row_of (Held 2 142 0 0 0 1 ∷ []) 7 ∷ row_of [] 8 ∷ row_of (Held 2 128 0 0 0 1 ∷ []) 7 ∷ row_of [] 8 ∷ [];
+  rows = record { live = true; facts = Held 2 128 0 0 0 1 ∷ replicate 7 Empty; bounds = replicate 7 0 ++ 1 ∷ [] } ∷ row_of (Held 2 128 0 14 0 1 ∷ []) 7
+      ∷ row_of (Held 2 142 0 0 0 1 ∷ []) 7 ∷ row_of [] 8 ∷ row_of (Held 2 128 0 0 0 1 ∷ []) 7 ∷ row_of [] 8 ∷ [];
   env = one_port;
   entry = Port 0;
 }
@@ -62,7 +64,8 @@ exit_question : Question
 exit_question = record {
   program = Clone 1 0 0 3 ∷ Free 0 ∷ Exit ∷ Free 0 ∷ Exit ∷ [];
   version = 1;
-  rows = row_of (Held 2 128 0 0 0 1 ∷ []) 7 ∷ row_of (Held 0 128 0 0 0 1 ∷ Held 0 128 0 0 0 1 ∷ []) 6 ∷ row_of (Empty ∷ Held 0 128 0 0 0 1 ∷ []) 6 ∷ row_of (Held 2 128 0 0 0 1 ∷ []) 7 ∷ row_of [] 8 ∷ [];
+  rows = row_of (Held 2 128 0 0 0 1 ∷ []) 7 ∷ row_of (Held 0 128 0 0 0 1 ∷ Held 0 128 0 0 0 1 ∷ []) 6 ∷ row_of (Empty ∷ Held 0 128 0 0 0 1 ∷ []) 6
+      ∷ row_of (Held 2 128 0 0 0 1 ∷ []) 7 ∷ row_of [] 8 ∷ [];
   env = one_port;
   entry = Port 0;
 }
@@ -82,7 +85,8 @@ clone_question : Question
 clone_question = record {
   program = Clone 1 0 0 4 ∷ Clone 1 0 0 4 ∷ Free 0 ∷ Exit ∷ Free 0 ∷ Exit ∷ [];
   version = 1;
-  rows = row_of (Held 2 128 0 0 0 1 ∷ []) 7 ∷ row_of (Held 0 128 0 0 0 1 ∷ Held 0 128 0 0 0 1 ∷ []) 6 ∷ dead ∷ dead ∷ row_of (Held 0 128 0 0 0 1 ∷ []) 7 ∷ row_of [] 8 ∷ [];
+  rows = row_of (Held 2 128 0 0 0 1 ∷ []) 7 ∷ row_of (Held 0 128 0 0 0 1 ∷ Held 0 128 0 0 0 1 ∷ []) 6 ∷ dead ∷ dead ∷ row_of (Held 0 128 0 0 0 1 ∷ []) 7
+      ∷ row_of [] 8 ∷ [];
   env = one_port;
   entry = Port 0;
 }
@@ -131,7 +135,8 @@ left_of None = []
 left_of (Some r) = map length r.1.rings
 
 looped_run : Option (List (List (ℕ × List ℕ)) × CopyState)
-looped_run = copy_run looped [] 4 (record { ports = loop ∷ []; rings = loop ∷ [] }) (record { port = 0; time = 5; bytes = 9 ∷ [] } ∷ []) (copy_start looped (true ∷ []))
+looped_run = copy_run looped [] 4 (record { ports = loop ∷ []; rings = loop ∷ [] }) (record { port = 0; time = 5; bytes = 9 ∷ [] } ∷ [])
+    (copy_start looped (true ∷ []))
 
 -- nothing is sent, and after 32 more node runs the packet is left in the ring
 loop_sends_nothing : captures_of looped_run ≡ [] ∷ []
@@ -202,7 +207,8 @@ count_accepted (suc (suc (suc (suc (suc (suc (suc label))))))) = refl
 sent_in : ℕ → List Instr → Option (List (List (ℕ × List ℕ)) × ℕ)
 sent_in steps program =
     option_map (λ r. (r.0, r.1.cuts))
-    (copy_run one_port [] steps (record { ports = program ∷ []; rings = [] }) (record { port = 0; time = 5; bytes = 1 ∷ 2 ∷ [] } ∷ []) (copy_start one_port (true ∷ [])))
+    (copy_run one_port [] steps (record { ports = program ∷ []; rings = [] }) (record { port = 0; time = 5; bytes = 1 ∷ 2 ∷ [] } ∷ [])
+    (copy_start one_port (true ∷ [])))
 
 -- it is cut in its step 257
 spin_is_cut : sent_in 257 spin ≡ Some ([] ∷ [], 1)

@@ -41,7 +41,8 @@ unfolding over_pool
 pool_add f g h pool zero is = refl
 pool_add f g h pool (suc i) is = omega (arith, is (record { pool = pool; index = i }), pool_add f g h pool i is)
 
-pools_add : (f g h : Number → ℕ) (pools : List PoolSpec) (place : ℕ) → ((n : Number) → h n ≡ f n + g n) → over_pools h pools place ≡ over_pools f pools place + over_pools g pools place
+pools_add : (f g h : Number → ℕ) (pools : List PoolSpec) (place : ℕ) → ((n : Number) → h n ≡ f n + g n) → over_pools h pools place
+    ≡ over_pools f pools place + over_pools g pools place
 unfolding over_pools
 pools_add f g h [] place is = refl
 pools_add f g h (spec ∷ pools) place is = omega (arith, pool_add f g h place spec.count is, pools_add f g h pools (suc place) is)
@@ -58,7 +59,8 @@ pool_hit n pool (suc i) is less = ⊎_elim
     omega (arith, one))
     (cases_lt n.index i)
 
-pools_hit : (n : Number) (pools : List PoolSpec) (place k : ℕ) (spec : PoolSpec) → n.pool ≡ place + k → slice_get pools k ≡ Some spec → n.index < spec.count → 1 ≤ over_pools (λ m. one_if (same_number n m)) pools place
+pools_hit : (n : Number) (pools : List PoolSpec) (place k : ℕ) (spec : PoolSpec) → n.pool ≡ place + k → slice_get pools k ≡ Some spec → n.index < spec.count →
+    1 ≤ over_pools (λ m. one_if (same_number n m)) pools place
 unfolding over_pools
 pools_hit n [] place k spec is there less = cc
 pools_hit n (first ∷ pools) place zero spec is there less =
@@ -69,7 +71,8 @@ pools_hit n (first ∷ pools) place (suc k) spec is there less = omega (arith, p
 number_hit : (pools : List PoolSpec) (n : Number) → IsNumber pools n → 1 ≤ over_pools (λ m. one_if (same_number n m)) pools 0
 number_hit pools n is = go (slice_get pools n.pool) refl is
   where
-    go : (o : Option PoolSpec) → slice_get pools n.pool ≡ o → n.index < unwrap_or (option_map (λ p. p.count) o) 0 → 1 ≤ over_pools (λ m. one_if (same_number n m)) pools 0
+    go : (o : Option PoolSpec) → slice_get pools n.pool ≡ o → n.index < unwrap_or (option_map (λ p. p.count) o) 0 →
+        1 ≤ over_pools (λ m. one_if (same_number n m)) pools 0
     go None e less = absurd (omega (arith, less))
     go (Some spec) e less = pools_hit n pools 0 n.pool spec (omega arith) e less
 
@@ -78,7 +81,12 @@ number_hit pools n is = go (slice_get pools n.pool) refl is
 each_hits : (pools : List PoolSpec) (live : List Segment) → AllByRecursion (λ s. IsNumber pools s.mbuf) live → length live ≤ over_pools (mbufs live) pools 0
 each_hits pools [] all = omega arith
 each_hits pools (s ∷ rest) all =
-    omega (arith, number_hit pools s.mbuf all.0, each_hits pools rest all.1, pools_add (λ m. one_if (same_number s.mbuf m)) (mbufs rest) (mbufs (s ∷ rest)) pools 0 (λ n. tally-cons (has_mbuf n) s rest))
+    omega (
+      arith,
+      number_hit pools s.mbuf all.0,
+      each_hits pools rest all.1,
+      pools_add (λ m. one_if (same_number s.mbuf m)) (mbufs rest) (mbufs (s ∷ rest)) pools 0 (λ n. tally-cons (has_mbuf n) s rest),
+    )
 
 -- there are at most as many live segments as buffers
 pub live_few : (pools : List PoolSpec) (live : List Segment) → AreOwned pools live → length live ≤ sum_by (λ p. p.count) pools

@@ -1,5 +1,6 @@
 -- A record can be received: there are bytes for the free buffers, so that the packet has the record's.
-use Rattle.std.proofs.Common.{◌≡◌, ℕ, zero, suc, ◌+◌, ◌-◌, ◌*◌, ◌/◌, ◌<◌, ◌≤◌, max, false, ◌||◌, List, [], ◌∷◌, ◌++◌, length, take, drop, refl, sym, ◌∙◌, ap, subst, arith, rules, length-take, length-drop}
+use Rattle.std.proofs.Common.{◌≡◌, ℕ, zero, suc, ◌+◌, ◌-◌, ◌*◌, ◌/◌, ◌<◌, ◌≤◌, max, false, ◌||◌, List, [], ◌∷◌, ◌++◌, length, take, drop, refl, sym, ◌∙◌, ap}
+use Rattle.std.proofs.Common.{subst, arith, rules, length-take, length-drop}
 use Rattle.std.specs.Prelude.{slice_range}
 use Rattle.std.specs.List.{AllByRecursion, list_any}
 use Rattle.std.proofs.lemmas.Bool.{or_parts}
@@ -20,21 +21,25 @@ pub range_written : (old new : List ℕ) (place : ℕ) → place + length new �
 range_written old new place fits = same_lists _ _ (search (rules, places)) (λ k d h. grind (arith, places))
 
 -- a write within a buffer changes that buffer only
-pub write_changes : (old : Buffers) (n : Number) (place : ℕ) (new : List ℕ) → place + length new ≤ length (bytes_of old n) → AllByRecursion (λ x. x < 256) new → ChangesOnly (n ∷ []) old (written old n place new)
+pub write_changes : (old : Buffers) (n : Number) (place : ℕ) (new : List ℕ) → place + length new ≤ length (bytes_of old n) →
+    AllByRecursion (λ x. x < 256) new → ChangesOnly (n ∷ []) old (written old n place new)
 write_changes old n place new fits small =
     let bytes = overwritten (bytes_of old n) place new in
     record {
       others = λ b apart. bytes_other old n b bytes (same_number_sym n b ∙ (or_parts (same_number b n) false apart).0);
-      lengths = λ b. written_each (λ xs. length xs ≡ length (bytes_of old b)) old n b bytes refl (λ e. length_overwritten (bytes_of old n) new place fits ∙ ap (λ m. length (bytes_of old m)) e);
+      lengths = λ b. written_each (λ xs. length xs ≡ length (bytes_of old b)) old n b bytes refl (λ e. length_overwritten (bytes_of old n) new place fits
+          ∙ ap (λ m. length (bytes_of old m)) e);
       bytes = λ well b. written_each (AllByRecursion (λ x. x < 256)) old n b bytes (well b)
-          (λ e. all_join (λ x. x < 256) (take place (bytes_of old n)) (new ++ drop (place + length new) (bytes_of old n)) (all_take place (bytes_of old n) (well n))
+          (λ e. all_join (λ x. x < 256) (take place (bytes_of old n)) (new
+          ++ drop (place + length new) (bytes_of old n)) (all_take place (bytes_of old n) (well n))
           (all_join (λ x. x < 256) new (drop (place + length new) (bytes_of old n)) small (all_drop (place + length new) (bytes_of old n) (well n))));
     }
 
 -- changes of some buffers, and then of one more
 changes_then : (n : Number) (ns : List Number) (old mid new : Buffers) → ChangesOnly ns old mid → ChangesOnly (n ∷ []) mid new → ChangesOnly (n ∷ ns) old new
 changes_then n ns old mid new first second = record {
-  others = λ b apart. let (here, rest) = or_parts (same_number b n) (list_any (same_number b) ns) apart in second.others b (ap (λ t. t || false) here) ∙ first.others b rest;
+  others = λ b apart. let (here, rest) = or_parts (same_number b n) (list_any (same_number b) ns) apart in
+      second.others b (ap (λ t. t || false) here) ∙ first.others b rest;
   lengths = λ b. second.lengths b ∙ first.lengths b;
   bytes = λ well. second.bytes (first.bytes well);
 }
@@ -66,7 +71,8 @@ fewer_full c r len h = omega (arith, h)
 first_full : (c r len : ℕ) → suc (suc c) * r ≤ len + r → r ≤ len
 first_full c r len h = omega (arith, h)
 
-enough_rest : (room : ℕ) (n m : Number) (ns : List Number) (bytes : List ℕ) → AreEnough room (n ∷ m ∷ ns) bytes → AreEnough room (m ∷ ns) (drop (room - 128) bytes)
+enough_rest : (room : ℕ) (n m : Number) (ns : List Number) (bytes : List ℕ) → AreEnough room (n ∷ m ∷ ns) bytes →
+    AreEnough room (m ∷ ns) (drop (room - 128) bytes)
 enough_rest room n m ns bytes e =
     let long : length (drop (room - 128) bytes) ≡ length bytes - (room - 128) = length-drop (room - 128) bytes in
     record {
@@ -76,7 +82,8 @@ enough_rest room n m ns bytes e =
     }
 
 -- only these buffers change
-pub filled_changes : (room : ℕ) (ns : List Number) (bytes : List ℕ) (old : Buffers) → AreEnough room ns bytes → HaveLength room old ns → AllByRecursion (λ x. x < 256) bytes → ChangesOnly ns old (filled_with room ns bytes old)
+pub filled_changes : (room : ℕ) (ns : List Number) (bytes : List ℕ) (old : Buffers) → AreEnough room ns bytes → HaveLength room old ns →
+    AllByRecursion (λ x. x < 256) bytes → ChangesOnly ns old (filled_with room ns bytes old)
 unfolding filled_with
 filled_changes room [] bytes old e have small = record { others = λ b apart. refl; lengths = λ b. refl; bytes = λ well. well }
 filled_changes room (n ∷ []) bytes old e have small =
@@ -89,22 +96,28 @@ filled_changes room (n ∷ m ∷ ns) bytes old e have small =
     (all_take (room - 128) bytes small))
 
 -- a write elsewhere leaves the packet's bytes
-packet_quiet : (room : ℕ) (ns : List Number) (len : ℕ) (buffers : Buffers) (n : Number) (place : ℕ) (new : List ℕ) → AllByRecursion (λ m. same_number n m ≡ false) ns → packet_bytes (written buffers n place new) (received room ns len) ≡ packet_bytes buffers (received room ns len)
+packet_quiet : (room : ℕ) (ns : List Number) (len : ℕ) (buffers : Buffers) (n : Number) (place : ℕ) (new : List ℕ) →
+    AllByRecursion (λ m. same_number n m ≡ false) ns → packet_bytes (written buffers n place new) (received room ns len)
+    ≡ packet_bytes buffers (received room ns len)
 packet_quiet room [] len buffers n place new apart = refl
 packet_quiet room (m ∷ []) len buffers n place new apart =
     ap (λ bytes. slice_range bytes 128 (128 + len) ++ []) (bytes_other buffers n m (overwritten (bytes_of buffers n) place new) apart.0)
 packet_quiet room (m ∷ l ∷ ns) len buffers n place new apart =
-    ap (λ bytes. slice_range bytes 128 (128 + (room - 128)) ++ packet_bytes (written buffers n place new) (received room (l ∷ ns) (len - (room - 128)))) (bytes_other buffers n m (overwritten (bytes_of buffers n) place new) apart.0)
-    ∙ ap (λ bytes. slice_range (bytes_of buffers m) 128 (128 + (room - 128)) ++ bytes) (packet_quiet room (l ∷ ns) (len - (room - 128)) buffers n place new apart.1)
+    ap (λ bytes. slice_range bytes 128 (128 + (room - 128)) ++ packet_bytes (written buffers n place new) (received room (l ∷ ns) (len - (room - 128))))
+    (bytes_other buffers n m (overwritten (bytes_of buffers n) place new) apart.0)
+    ∙ ap (λ bytes. slice_range (bytes_of buffers m) 128 (128 + (room - 128))
+    ++ bytes) (packet_quiet room (l ∷ ns) (len - (room - 128)) buffers n place new apart.1)
 
 -- the segment that was written has what was written
-written_segment : (buffers : Buffers) (n : Number) (new : List ℕ) (len : ℕ) → len ≡ length new → 128 + length new ≤ length (bytes_of buffers n) → segment_bytes (written buffers n 128 new) (direct n 128 len) ≡ new
+written_segment : (buffers : Buffers) (n : Number) (new : List ℕ) (len : ℕ) → len ≡ length new → 128 + length new ≤ length (bytes_of buffers n) →
+    segment_bytes (written buffers n 128 new) (direct n 128 len) ≡ new
 written_segment buffers n new len is fits =
     ap (λ l. slice_range (bytes_of (written buffers n 128 new) n) 128 (128 + l)) is
     ∙ (ap (λ bytes. slice_range bytes 128 (128 + length new)) (bytes_same buffers n (overwritten (bytes_of buffers n) 128 new) (omega (arith, fits)))
     ∙ range_written (bytes_of buffers n) new 128 fits)
 
-pub filled_spells : (room : ℕ) (ns : List Number) (bytes : List ℕ) (old : Buffers) → AreEnough room ns bytes → HaveLength room old ns → AreDistinct ns → AllByRecursion (λ x. x < 256) bytes → packet_bytes (filled_with room ns bytes old) (received room ns (length bytes)) ≡ bytes
+pub filled_spells : (room : ℕ) (ns : List Number) (bytes : List ℕ) (old : Buffers) → AreEnough room ns bytes → HaveLength room old ns → AreDistinct ns →
+    AllByRecursion (λ x. x < 256) bytes → packet_bytes (filled_with room ns bytes old) (received room ns (length bytes)) ≡ bytes
 unfolding filled_with
 filled_spells room [] [] old e have distinct small = refl
 filled_spells room [] (b ∷ bytes) old e have distinct small = absurd (omega (arith, e.hold))
@@ -117,10 +130,12 @@ filled_spells room (n ∷ m ∷ ns) bytes old e have distinct small =
     let few = enough_rest room n m ns bytes e in
     let lengths = (filled_changes room (m ∷ ns) (drop r bytes) old few have.1 (all_drop r bytes small)).lengths n in
     let taken : length (take r bytes) ≡ r = omega (arith, length-take r bytes, first_full (length ns) r (length bytes) e.full) in
-    let here : segment_bytes (written rest n 128 (take r bytes)) (direct n 128 r) ≡ take r bytes = written_segment rest n (take r bytes) r (sym taken) (omega (arith, e.large, have.0, lengths, taken)) in
+    let here : segment_bytes (written rest n 128 (take r bytes)) (direct n 128 r) ≡ take r bytes =
+    written_segment rest n (take r bytes) r (sym taken) (omega (arith, e.large, have.0, lengths, taken)) in
     let there : packet_bytes (written rest n 128 (take r bytes)) (received room (m ∷ ns) (length bytes - r)) ≡ drop r bytes =
     packet_quiet room (m ∷ ns) (length bytes - r) rest n 128 (take r bytes) distinct.0
-    ∙ (ap (λ l. packet_bytes rest (received room (m ∷ ns) l)) (sym (length-drop r bytes)) ∙ filled_spells room (m ∷ ns) (drop r bytes) old few have.1 distinct.1 (all_drop r bytes small)) in
+    ∙ (ap (λ l. packet_bytes rest (received room (m ∷ ns) l)) (sym (length-drop r bytes))
+    ∙ filled_spells room (m ∷ ns) (drop r bytes) old few have.1 distinct.1 (all_drop r bytes small)) in
     ap (λ xs. xs ++ packet_bytes (written rest n 128 (take r bytes)) (received room (m ∷ ns) (length bytes - r))) here
     ∙ (ap (λ xs. take r bytes ++ xs) there ∙ take-append-drop r bytes)
 
@@ -134,13 +149,17 @@ needed_full r len = go ((len + (r - 1)) / r) (div-mul-le_self (len + (r - 1)) r)
     go zero h = omega arith
     go (suc q) h = let e : max 1 (suc q) ≡ suc q = omega arith in subst (λ m. m * r ≤ len + r) (sym e) (omega (arith, h))
 
-have_length : (pools : List PoolSpec) (live : List Segment) (pool : ℕ) (buffers : Buffers) (ns : List Number) → ((b : Number) → IsNumber pools b → length (bytes_of buffers b) ≡ room_at pools b.pool) → AllByRecursion (IsFresh pools live pool) ns → HaveLength (room_at pools pool) buffers ns
+have_length : (pools : List PoolSpec) (live : List Segment) (pool : ℕ) (buffers : Buffers) (ns : List Number) →
+    ((b : Number) → IsNumber pools b → length (bytes_of buffers b) ≡ room_at pools b.pool) → AllByRecursion (IsFresh pools live pool) ns →
+    HaveLength (room_at pools pool) buffers ns
 have_length pools live pool buffers [] rooms fresh = tt
 have_length pools live pool buffers (n ∷ ns) rooms fresh =
     (rooms n fresh.0.exists ∙ ap (room_at pools) fresh.0.of_pool, have_length pools live pool buffers ns rooms fresh.1)
 
 -- the free buffers that a record needs can have its bytes
-pub can_fill : (pools : List PoolSpec) (live : List Segment) (pool : ℕ) (bytes : List ℕ) (ns : List Number) (buffers : Buffers) → 129 ≤ room_at pools pool → ((b : Number) → IsNumber pools b → length (bytes_of buffers b) ≡ room_at pools b.pool) → AreFresh pools live pool (needed pools pool (length bytes)) ns → AllByRecursion (λ x. x < 256) bytes → (new : Buffers) × Filled ns (received (room_at pools pool) ns (length bytes)) bytes buffers new
+pub can_fill : (pools : List PoolSpec) (live : List Segment) (pool : ℕ) (bytes : List ℕ) (ns : List Number) (buffers : Buffers) → 129 ≤ room_at pools pool →
+    ((b : Number) → IsNumber pools b → length (bytes_of buffers b) ≡ room_at pools b.pool) → AreFresh pools live pool (needed pools pool (length bytes)) ns →
+    AllByRecursion (λ x. x < 256) bytes → (new : Buffers) × Filled ns (received (room_at pools pool) ns (length bytes)) bytes buffers new
 can_fill pools live pool bytes ns buffers large rooms fresh small =
     let room = room_at pools pool in
     let have = have_length pools live pool buffers ns rooms fresh.each in
@@ -148,5 +167,10 @@ can_fill pools live pool bytes ns buffers large rooms fresh small =
       large = omega (arith, large);
       hold = subst (λ n. length bytes ≤ n * (room - 128)) (sym fresh.count) (needed_holds (room - 128) (length bytes) (omega (arith, large)));
       full = subst (λ n. n * (room - 128) ≤ length bytes + (room - 128)) (sym fresh.count) (needed_full (room - 128) (length bytes));
-    } in
-    (filled_with room ns bytes buffers, record { spells = filled_spells room ns bytes buffers enough have fresh.distinct small; others = filled_changes room ns bytes buffers enough have small })
+    } in (
+      filled_with room ns bytes buffers,
+      record {
+        spells = filled_spells room ns bytes buffers enough have fresh.distinct small;
+        others = filled_changes room ns bytes buffers enough have small;
+      },
+    )

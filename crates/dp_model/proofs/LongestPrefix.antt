@@ -1,5 +1,6 @@
 -- The two readings of the longest prefix agree: depth by depth from the deepest on, and the deepest that matches.
-use Rattle.std.proofs.Common.{◌≡◌, ◌⊎◌, ℕ, zero, suc, ◌-◌, ◌/◌, ◌^◌, ◌≤◌, Bool, true, false, cond, ◌&&◌, ◌||◌, List, [], ◌∷◌, Option, Some, None, refl, sym, ◌∙◌, ap, subst, arith, inl, inr, ⊎_elim}
+use Rattle.std.proofs.Common.{◌≡◌, ◌⊎◌, ℕ, zero, suc, ◌-◌, ◌/◌, ◌^◌, ◌≤◌, Bool, true, false, cond, ◌&&◌, ◌||◌, List, [], ◌∷◌, Option, Some, None, refl, sym}
+use Rattle.std.proofs.Common.{◌∙◌, ap, subst, arith, inl, inr, ⊎_elim}
 use Rattle.std.specs.Prelude.{find, Contains, ◌==◌}
 use Rattle.std.specs.List.{list_any, AllByRecursion}
 use Rattle.std.proofs.lemmas.Bool.{and_parts, and_from, eqb-true, eq-eqb, cases_Bool, cases_lt, both_ways}
@@ -28,7 +29,8 @@ found : (test : Route → Bool) (routes : List Route) (route : Route) → find t
 found test [] route e = cc
 found test (x ∷ routes) route e = go (test x) refl (found test routes route)
   where
-    go : (b : Bool) → test x ≡ b → (find test routes ≡ Some route → Contains routes route × (test route ≡ true)) → Contains (x ∷ routes) route × (test route ≡ true)
+    go : (b : Bool) → test x ≡ b → (find test routes ≡ Some route → Contains routes route × (test route ≡ true)) → Contains (x ∷ routes) route
+        × (test route ≡ true)
     go true t later =
         let same : x ≡ route = same_Some x route (sym (ap (λ b. cond b (Some x) (find test routes)) t) ∙ e) in
         subst (λ r. Contains (x ∷ routes) r × (test r ≡ true)) same (contains_here x routes, t)
@@ -60,7 +62,8 @@ abbrev at_depth : ℕ → ℕ → Route → Bool
 at_depth ip depth route = (route.depth == depth) && is_match ip route
 
 -- a route that is at most so deep is just so deep, or less
-deeper : (routes : List Route) (ip depth : ℕ) (other : Route) → find (at_depth ip (suc depth)) routes ≡ None → Contains routes other → is_match ip other ≡ true → other.depth ≤ suc depth → other.depth ≤ depth
+deeper : (routes : List Route) (ip depth : ℕ) (other : Route) → find (at_depth ip (suc depth)) routes ≡ None → Contains routes other →
+    is_match ip other ≡ true → other.depth ≤ suc depth → other.depth ≤ depth
 deeper routes ip depth other none there fits le = ⊎_elim
     (λ less. omega (arith, less))
     (λ more.
@@ -69,7 +72,8 @@ deeper routes ip depth other none there fits le = ⊎_elim
     absurd (both_ways (at_depth ip (suc depth) other) (not_found (at_depth ip (suc depth)) routes other none there) hit))
     (cases_lt other.depth (suc depth))
 
-says_more : (routes : List Route) (ip depth : ℕ) (o : Option ℕ) → find (at_depth ip (suc depth)) routes ≡ None → Says routes ip depth o → Says routes ip (suc depth) o
+says_more : (routes : List Route) (ip depth : ℕ) (o : Option ℕ) → find (at_depth ip (suc depth)) routes ≡ None → Says routes ip depth o →
+    Says routes ip (suc depth) o
 says_more routes ip depth (Some hop) none (route, there, fits, le, is, best) =
     (route, there, fits, omega (arith, le), is, λ other here also below. best other here also (deeper routes ip depth other none here also below))
 says_more routes ip depth None none never = λ other here one below. ⊎_elim
@@ -81,7 +85,8 @@ says : (routes : List Route) (ip depth : ℕ) → Says routes ip depth (hop_with
 says routes ip zero = λ other here one below. absurd (omega (arith, one, below))
 says routes ip (suc depth) = go (find (at_depth ip (suc depth)) routes) refl (says routes ip depth)
   where
-    go : (o : Option Route) → find (at_depth ip (suc depth)) routes ≡ o → Says routes ip depth (hop_within depth routes ip) → Says routes ip (suc depth) (hop_or o (hop_within depth routes ip))
+    go : (o : Option Route) → find (at_depth ip (suc depth)) routes ≡ o → Says routes ip depth (hop_within depth routes ip) →
+        Says routes ip (suc depth) (hop_or o (hop_within depth routes ip))
     go None e later = says_more routes ip depth (hop_within depth routes ip) e later
     go (Some route) e later =
         let (there, hit) = found (at_depth ip (suc depth)) routes route e in
@@ -94,13 +99,23 @@ says routes ip (suc depth) = go (find (at_depth ip (suc depth)) routes) refl (sa
 none_matches : (routes : List Route) (ip : ℕ) → ((other : Route) → Contains routes other → is_match ip other ≡ false) → list_any (is_match ip) routes ≡ false
 none_matches [] ip never = refl
 none_matches (x ∷ routes) ip never =
-    ap (λ b. b || list_any (is_match ip) routes) (never x (contains_here x routes)) ∙ none_matches routes ip (λ other here. never other (contains_later x other routes here))
+    ap (λ b. b || list_any (is_match ip) routes) (never x (contains_here x routes))
+    ∙ none_matches routes ip (λ other here. never other (contains_later x other routes here))
 
 looked_up : (routes : List Route) (ip : ℕ) (o : Option ℕ) → IsTable routes → Says routes ip 32 o → LooksUp routes ip o
-looked_up routes ip (Some hop) table (route, there, fits, le, is, best) =
-    (route, record { there = there; fits = fits; deepest = λ other here also. best other here also (all_contained (λ r. (1 ≤ r.depth) × (r.depth ≤ 32)) routes other table.depths here).1 }, is)
+looked_up routes ip (Some hop) table (route, there, fits, le, is, best) = (
+  route,
+  record {
+    there = there;
+    fits = fits;
+    deepest = λ other here also.
+        best other here also (all_contained (λ r. (1 ≤ r.depth) × (r.depth ≤ 32)) routes other table.depths here).1;
+  },
+  is,
+)
 looked_up routes ip None table never =
-    none_matches routes ip (λ other here. let (one, few) = all_contained (λ r. (1 ≤ r.depth) × (r.depth ≤ 32)) routes other table.depths here in never other here one few)
+    none_matches routes ip (λ other here. let (one, few) = all_contained (λ r. (1 ≤ r.depth) × (r.depth ≤ 32)) routes other table.depths here in
+    never other here one few)
 
 -- the answer is one that the deepest route gives
 pub hop_looks_up : (routes : List Route) (ip : ℕ) → IsTable routes → LooksUp routes ip (hop_for routes ip)
@@ -120,8 +135,10 @@ some_matches (x ∷ routes) ip route there fits = ⊎_elim
 -- there is only one such answer
 pub one_answer : (routes : List Route) (ip : ℕ) (o u : Option ℕ) → IsTable routes → LooksUp routes ip o → LooksUp routes ip u → o ≡ u
 one_answer routes ip None None table a b = refl
-one_answer routes ip None (Some hop) table a (route, best, _) = absurd (both_ways (list_any (is_match ip) routes) a (some_matches routes ip route best.there best.fits))
-one_answer routes ip (Some hop) None table (route, best, _) b = absurd (both_ways (list_any (is_match ip) routes) b (some_matches routes ip route best.there best.fits))
+one_answer routes ip None (Some hop) table a (route, best, _) = absurd
+    (both_ways (list_any (is_match ip) routes) a (some_matches routes ip route best.there best.fits))
+one_answer routes ip (Some hop) None table (route, best, _) b = absurd
+    (both_ways (list_any (is_match ip) routes) b (some_matches routes ip route best.there best.fits))
 one_answer routes ip (Some hop) (Some other) table (r, a, is) (s, b, also) =
     let depth : r.depth ≡ s.depth = omega (arith, b.deepest r a.there a.fits, a.deepest s b.there b.fits) in
     let mine : r.prefix ≡ ip / 2 ^ (32 - r.depth) = eqb-true r.prefix (ip / 2 ^ (32 - r.depth)) a.fits in
@@ -130,7 +147,8 @@ one_answer routes ip (Some hop) (Some other) table (r, a, is) (s, b, also) =
     ap Some (sym is ∙ (table.once r s a.there b.there prefix depth ∙ also))
 
 -- so a look-up answers what the function does, and nothing else
-pub readings_agree : (routes : List Route) (ip : ℕ) (answer : Option ℕ) → IsTable routes → (LooksUp routes ip answer → answer ≡ hop_for routes ip) × (answer ≡ hop_for routes ip → LooksUp routes ip answer)
+pub readings_agree : (routes : List Route) (ip : ℕ) (answer : Option ℕ) → IsTable routes → (LooksUp routes ip answer → answer ≡ hop_for routes ip)
+    × (answer ≡ hop_for routes ip → LooksUp routes ip answer)
 readings_agree routes ip answer table = (
   λ looks. one_answer routes ip answer (hop_for routes ip) table looks (hop_looks_up routes ip table),
   λ is. subst (LooksUp routes ip) (sym is) (hop_looks_up routes ip table),

@@ -1,5 +1,6 @@
 -- What the words on numbers mean: the least 2^k - 1, and that what is stored is loaded.
-use Rattle.std.proofs.Common.{◌≡◌, ℕ, zero, suc, ◌+◌, ◌-◌, ◌*◌, ◌/◌, ◌%◌, ◌^◌, ◌≤◌, List, ◌∷◌, length, drop, refl, sym, ◌∙◌, ap, arith, length-take, length-drop}
+use Rattle.std.proofs.Common.{◌≡◌, ℕ, zero, suc, ◌+◌, ◌-◌, ◌*◌, ◌/◌, ◌%◌, ◌^◌, ◌≤◌, List, ◌∷◌, length, drop, refl, sym, ◌∙◌, ap, arith, length-take}
+use Rattle.std.proofs.Common.{length-drop}
 use Rattle.std.specs.Prelude.{slice_range}
 use Rattle.std.proofs.Math.Nat.{one-le-pow, two-pow-succ, pow-succ'}
 use Rattle.std.proofs.Math.Arith.{mod-mul}
@@ -44,13 +45,15 @@ spelled_low (suc w) n =
 
 -- ---- what is stored is loaded
 
-pub stored_loaded : (place w n : ℕ) (s : Segment) (rest : Packet) (buffers : Buffers) → 1 ≤ w → place + w ≤ s.len → s.offset + s.len ≤ length (bytes_of buffers s.buffer) → loaded place w (s ∷ rest) (stored place w n (s ∷ rest) buffers) ≡ n % 256 ^ w
+pub stored_loaded : (place w n : ℕ) (s : Segment) (rest : Packet) (buffers : Buffers) → 1 ≤ w → place + w ≤ s.len →
+    s.offset + s.len ≤ length (bytes_of buffers s.buffer) → loaded place w (s ∷ rest) (stored place w n (s ∷ rest) buffers) ≡ n % 256 ^ w
 stored_loaded place w n s rest buffers some fits inside =
     let new = big_endian w n in
     let long = length_spelling w n in
     let old = bytes_of buffers s.buffer in
     let bytes : segment_bytes (written buffers s.buffer (s.offset + place) new) s ≡ overwritten (slice_range old s.offset (s.offset + s.len)) place new =
-    ap (λ xs. slice_range xs s.offset (s.offset + s.len)) (bytes_same buffers s.buffer (overwritten old (s.offset + place) new) (omega (arith, some, fits, inside)))
+    ap (λ xs. slice_range xs s.offset (s.offset + s.len)) (bytes_same buffers s.buffer (overwritten old (s.offset + place) new)
+    (omega (arith, some, fits, inside)))
     ∙ range_overwritten old new s.offset s.len place (omega (arith, long, fits)) inside in
     let whole : length (slice_range old s.offset (s.offset + s.len)) ≡ s.len = length_part old s.offset s.len inside in
     ap (λ xs. spelled (slice_range xs place (place + w))) bytes

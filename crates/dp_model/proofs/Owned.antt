@@ -1,6 +1,7 @@
 -- Each number is the mbuf of at most one live segment, and no buffer is an indirect mbuf: what says so by counts, and
 -- that packets which come, go and change keep it.
-use Rattle.std.proofs.Common.{◌≡◌, ◌⊎◌, ℕ, zero, suc, ◌+◌, ◌-◌, ◌≤◌, Bool, true, false, not, ◌||◌, ◌&&◌, List, [], ◌∷◌, length, refl, ◌∙◌, ap, subst, arith, inl, inr, ⊎_elim}
+use Rattle.std.proofs.Common.{◌≡◌, ◌⊎◌, ℕ, zero, suc, ◌+◌, ◌-◌, ◌≤◌, Bool, true, false, not, ◌||◌, ◌&&◌, List, [], ◌∷◌, length, refl, ◌∙◌, ap, subst, arith}
+use Rattle.std.proofs.Common.{inl, inr, ⊎_elim}
 use Rattle.std.specs.List.{AllByRecursion}
 use Rattle.std.proofs.lemmas.Bool.{and_parts, and_from, not-true, or_parts}
 use Rattle.dp_model.specs.declared.env.PoolSpec.{PoolSpec}
@@ -24,7 +25,8 @@ pub free_no_mbuf : (live : List Segment) (n : Number) → is_free live n ≡ tru
 free_no_mbuf [] n h = refl
 free_no_mbuf (s ∷ rest) n h =
     let t = and_parts (not (same_number s.mbuf n || same_number s.buffer n)) (is_free rest n) h in
-    let other : same_number s.mbuf n ≡ false = (or_parts (same_number s.mbuf n) (same_number s.buffer n) (not-true (same_number s.mbuf n || same_number s.buffer n) t.0)).0 in
+    let other : same_number s.mbuf n ≡ false = (or_parts (same_number s.mbuf n) (same_number s.buffer n)
+    (not-true (same_number s.mbuf n || same_number s.buffer n) t.0)).0 in
     let none : one_if (same_number s.mbuf n) ≡ 0 = ap one_if other in
     omega (arith, none, tally-cons (has_mbuf n) s rest, free_no_mbuf rest n t.1)
 
@@ -56,7 +58,8 @@ some_or_none : (n : ℕ) → (1 ≤ n) ⊎ (n ≡ 0)
 some_or_none zero = inr refl
 some_or_none (suc n) = inl (omega arith)
 
-pub more_owned : (pools : List PoolSpec) (live live' : List Segment) (k : Packet) → AreMore live live' k → MayCome pools live k → AreOwned pools live → AreOwned pools live'
+pub more_owned : (pools : List PoolSpec) (live live' : List Segment) (k : Packet) → AreMore live live' k → MayCome pools live k → AreOwned pools live →
+    AreOwned pools live'
 more_owned pools live live' k more comes owned =
     let counts = counts_of_owned pools live owned in
     owned_of_counts pools live' (record {
@@ -104,7 +107,8 @@ times_once (m ∷ ns) n distinct = go (same_number m n) refl (times_once ns n di
         omega (arith, one, none)
     go false e few = let none : one_if (same_number m n) ≡ 0 = ap one_if e in omega (arith, none, few)
 
-pub times_fresh : (pools : List PoolSpec) (live : List Segment) (pool : ℕ) (ns : List Number) (n : Number) → AllByRecursion (IsFresh pools live pool) ns → 1 ≤ times ns n → (is_free live n ≡ true) × IsNumber pools n
+pub times_fresh : (pools : List PoolSpec) (live : List Segment) (pool : ℕ) (ns : List Number) (n : Number) → AllByRecursion (IsFresh pools live pool) ns →
+    1 ≤ times ns n → (is_free live n ≡ true) × IsNumber pools n
 times_fresh pools live pool [] n all one = absurd (omega arith)
 times_fresh pools live pool (m ∷ ns) n all one = go (same_number m n) refl (times_fresh pools live pool ns n all.1)
   where
@@ -130,7 +134,8 @@ direct_cons : (m : Number) (offset len : ℕ) (k : Packet) (ns : List Number) �
 direct_cons m offset len k ns d = record {
   mbufs = λ n. omega (arith, d.mbufs n, tally-cons (has_mbuf n) (direct m offset len) k);
   buffers = λ n. omega (arith, d.buffers n, tally-cons (λ x. same_number x.buffer n) (direct m offset len) k);
-  indirects = λ n. let none : one_if (is_indirect_at n (direct m offset len)) ≡ 0 = ap one_if (direct_not m offset len n) in omega (arith, none, d.indirects n, tally-cons (is_indirect_at n) (direct m offset len) k);
+  indirects = λ n. let none : one_if (is_indirect_at n (direct m offset len)) ≡ 0 = ap one_if (direct_not m offset len n) in
+      omega (arith, none, d.indirects n, tally-cons (is_indirect_at n) (direct m offset len) k);
 }
 
 direct_none : AreDirect [] []
@@ -146,7 +151,8 @@ received_direct room (n ∷ []) len = direct_cons n 128 len [] [] direct_none
 received_direct room (n ∷ m ∷ ns) len =
     direct_cons n 128 (room - 128) (received room (m ∷ ns) (len - (room - 128))) (m ∷ ns) (received_direct room (m ∷ ns) (len - (room - 128)))
 
-pub direct_comes : (pools : List PoolSpec) (live : List Segment) (pool need : ℕ) (k : Packet) (ns : List Number) → AreDirect k ns → AreFresh pools live pool need ns → MayCome pools live k
+pub direct_comes : (pools : List PoolSpec) (live : List Segment) (pool need : ℕ) (k : Packet) (ns : List Number) → AreDirect k ns →
+    AreFresh pools live pool need ns → MayCome pools live k
 direct_comes pools live pool need k ns d fresh = record {
   once = λ n. omega (arith, d.mbufs n, times_once ns n fresh.distinct);
   fresh = λ n one. times_fresh pools live pool ns n fresh.each (omega (arith, one, d.mbufs n));
@@ -159,9 +165,15 @@ mbufs_cloned [] [] n e = refl
 mbufs_cloned [] (s ∷ k) n e = absurd (omega arith)
 mbufs_cloned (m ∷ ns) [] n e = absurd (omega arith)
 mbufs_cloned (m ∷ ns) (s ∷ k) n e =
-    omega (arith, mbufs_cloned ns k n (omega arith), tally-cons (has_mbuf n) (record { mbuf = m; buffer = s.buffer; offset = s.offset; len = s.len }) (cloned ns k))
+    omega (
+      arith,
+      mbufs_cloned ns k n (omega arith),
+      tally-cons (has_mbuf n) (record { mbuf = m; buffer = s.buffer; offset = s.offset; len = s.len })
+          (cloned ns k),
+    )
 
-pub clone_comes : (pools : List PoolSpec) (live : List Segment) (pool : ℕ) (ns : List Number) (k : Packet) → ((n : Number) → refs (cloned ns k) n ≤ refs live n) → AreFresh pools live pool (length k) ns → MayCome pools live (cloned ns k)
+pub clone_comes : (pools : List PoolSpec) (live : List Segment) (pool : ℕ) (ns : List Number) (k : Packet) →
+    ((n : Number) → refs (cloned ns k) n ≤ refs live n) → AreFresh pools live pool (length k) ns → MayCome pools live (cloned ns k)
 clone_comes pools live pool ns k part fresh = record {
   once = λ n. omega (arith, mbufs_cloned ns k n fresh.count, times_once ns n fresh.distinct);
   fresh = λ n one. times_fresh pools live pool ns n fresh.each (omega (arith, one, mbufs_cloned ns k n fresh.count));

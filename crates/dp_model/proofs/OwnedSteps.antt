@@ -2,10 +2,13 @@
 use Rattle.std.proofs.Common.{◌≡◌, ◌≢◌, ℕ, ◌+◌, Bool, true, false, cond, List, [], ◌∷◌, ◌++◌, length, Some, None, refl, sym, ap, subst, arith}
 use Rattle.std.specs.Prelude.{slice_get, slice_index, nat_lt}
 use Rattle.dp_model.specs.declared.instr.Instr.{Instr}
-use Rattle.dp_model.specs.declared.instr.Instr.TheVariants.{Alloc, Free, Clone, Prepend, Adj, Append, Trim, Chain, IfHead, IfTail, IfLen, IfLast, Load, Store, LoadX, StoreX, Set, Mov, Add, Sub, And, Or, Xor, Shl, Shr, Jmp, Jeq, Jlt, Lookup, Tx, Enq, Exit}
+use Rattle.dp_model.specs.declared.instr.Instr.TheVariants.{Alloc, Free, Clone, Prepend, Adj, Append, Trim, Chain, IfHead, IfTail, IfLen, IfLast, Load, Store}
+use Rattle.dp_model.specs.declared.instr.Instr.TheVariants.{LoadX, StoreX, Set, Mov, Add, Sub, And, Or, Xor, Shl, Shr, Jmp, Jeq, Jlt, Lookup, Tx, Enq, Exit}
 use Rattle.dp_model.specs.Buffers.{Number, same_number}
-use Rattle.dp_model.specs.Packets.{Segment, Packet, headroom, tailroom, first_len, last_len, AreFresh, AreOwned, allocated, cloned, at_front, at_end, more_before, less_before, more_behind, less_behind}
-use Rattle.dp_model.specs.Machine.{Setting, State, live, segments_held, Step, with_step, with_cut, without_packets, Move, Acts, Holds, IsEmpty, goes_on, moves_to, is_denied, with_packet, without_packet, with_ring, with_outbox}
+use Rattle.dp_model.specs.Packets.{Segment, Packet, headroom, tailroom, first_len, last_len, AreFresh, AreOwned, allocated, cloned, at_front, at_end}
+use Rattle.dp_model.specs.Packets.{more_before, less_before, more_behind, less_behind}
+use Rattle.dp_model.specs.Machine.{Setting, State, live, segments_held, Step, with_step, with_cut, without_packets, Move, Acts, Holds, IsEmpty, goes_on}
+use Rattle.dp_model.specs.Machine.{moves_to, is_denied, with_packet, without_packet, with_ring, with_outbox}
 use Rattle.dp_model.specs.Laws.References.{refs_held, live_parts}
 use Rattle.dp_model.proofs.Counts.{tally_live, tally_live_set, tally_to_ring, tally_to_outbox, tally_chain, tally_front, tally_end}
 use Rattle.dp_model.specs.Laws.Counts.{tally, has_mbuf, is_indirect_at, AreFewer, fewer_owned, fewer_by}
@@ -40,18 +43,35 @@ see_indirect : (f : Segment → Segment) (n : Number) → KeepsBuffer f → (s :
 see_indirect f n keeps s = let e = see_mbuf f n keeps s in let g = see_buffer f n keeps s in cc
 
 -- the packet of a register is changed in front, or at the end
-pub front_fewer : (s : State) (p : ℕ) (f : Segment → Segment) (k : Packet) → KeepsBuffer f → Holds s p k → AreFewer (live s) (live (with_packet p (at_front f k) s))
+pub front_fewer : (s : State) (p : ℕ) (f : Segment → Segment) (k : Packet) → KeepsBuffer f → Holds s p k →
+    AreFewer (live s) (live (with_packet p (at_front f k) s))
 front_fewer s p f k keeps holds = record {
   mbufs = λ n. omega (arith, tally_live_set (has_mbuf n) s p (Some k) (Some (at_front f k)) holds, tally_front (has_mbuf n) f k (see_mbuf f n keeps));
-  buffers = λ n. omega (arith, tally_live_set (λ x. same_number x.buffer n) s p (Some k) (Some (at_front f k)) holds, tally_front (λ x. same_number x.buffer n) f k (see_buffer f n keeps));
-  indirects = λ n. omega (arith, tally_live_set (is_indirect_at n) s p (Some k) (Some (at_front f k)) holds, tally_front (is_indirect_at n) f k (see_indirect f n keeps));
+  buffers = λ n. omega (
+    arith,
+    tally_live_set (λ x. same_number x.buffer n) s p (Some k) (Some (at_front f k)) holds,
+    tally_front (λ x. same_number x.buffer n) f k (see_buffer f n keeps),
+  );
+  indirects = λ n. omega (
+    arith,
+    tally_live_set (is_indirect_at n) s p (Some k) (Some (at_front f k)) holds,
+    tally_front (is_indirect_at n) f k (see_indirect f n keeps),
+  );
 }
 
 pub end_fewer : (s : State) (p : ℕ) (f : Segment → Segment) (k : Packet) → KeepsBuffer f → Holds s p k → AreFewer (live s) (live (with_packet p (at_end f k) s))
 end_fewer s p f k keeps holds = record {
   mbufs = λ n. omega (arith, tally_live_set (has_mbuf n) s p (Some k) (Some (at_end f k)) holds, tally_end (has_mbuf n) f k (see_mbuf f n keeps));
-  buffers = λ n. omega (arith, tally_live_set (λ x. same_number x.buffer n) s p (Some k) (Some (at_end f k)) holds, tally_end (λ x. same_number x.buffer n) f k (see_buffer f n keeps));
-  indirects = λ n. omega (arith, tally_live_set (is_indirect_at n) s p (Some k) (Some (at_end f k)) holds, tally_end (is_indirect_at n) f k (see_indirect f n keeps));
+  buffers = λ n. omega (
+    arith,
+    tally_live_set (λ x. same_number x.buffer n) s p (Some k) (Some (at_end f k)) holds,
+    tally_end (λ x. same_number x.buffer n) f k (see_buffer f n keeps),
+  );
+  indirects = λ n. omega (
+    arith,
+    tally_live_set (is_indirect_at n) s p (Some k) (Some (at_end f k)) holds,
+    tally_end (is_indirect_at n) f k (see_indirect f n keeps),
+  );
 }
 
 -- a packet comes into an empty register
@@ -74,26 +94,33 @@ if_owned : (c : Setting) (b : Bool) (x y : Move) → HasOwners c x.state → Has
 if_owned c true x y hx hy = hx
 if_owned c false x y hx hy = hy
 
-ring_owned : (c : Setting) (s : State) (p ring : ℕ) (k : Packet) (packets : List Packet) → HasOwners c s → Holds s p k → slice_get s.world.rings ring ≡ Some packets → HasOwners c (with_ring ring (packets ++ k ∷ []) (without_packet p s))
+ring_owned : (c : Setting) (s : State) (p ring : ℕ) (k : Packet) (packets : List Packet) → HasOwners c s → Holds s p k → slice_get s.world.rings ring
+    ≡ Some packets → HasOwners c (with_ring ring (packets ++ k ∷ []) (without_packet p s))
 ring_owned c s p ring k packets owned holds there =
     fewer_owned c.env.pools (live s) (live (with_ring ring (packets ++ k ∷ []) (without_packet p s)))
-    (fewer_by (live s) (live (with_ring ring (packets ++ k ∷ []) (without_packet p s))) (λ test. omega (arith, tally_to_ring test s p ring k packets holds there))) owned
+    (fewer_by (live s) (live (with_ring ring (packets ++ k ∷ []) (without_packet p s)))
+    (λ test. omega (arith, tally_to_ring test s p ring k packets holds there))) owned
 
-outbox_owned : (c : Setting) (s : State) (p port : ℕ) (k : Packet) (packets : List Packet) → HasOwners c s → Holds s p k → slice_get s.world.outboxes port ≡ Some packets → HasOwners c (with_outbox port (packets ++ k ∷ []) (without_packet p s))
+outbox_owned : (c : Setting) (s : State) (p port : ℕ) (k : Packet) (packets : List Packet) → HasOwners c s → Holds s p k → slice_get s.world.outboxes port
+    ≡ Some packets → HasOwners c (with_outbox port (packets ++ k ∷ []) (without_packet p s))
 outbox_owned c s p port k packets owned holds there =
     fewer_owned c.env.pools (live s) (live (with_outbox port (packets ++ k ∷ []) (without_packet p s)))
-    (fewer_by (live s) (live (with_outbox port (packets ++ k ∷ []) (without_packet p s))) (λ test. omega (arith, tally_to_outbox test s p port k packets holds there))) owned
+    (fewer_by (live s) (live (with_outbox port (packets ++ k ∷ []) (without_packet p s)))
+    (λ test. omega (arith, tally_to_outbox test s p port k packets holds there))) owned
 
-alloc_owned : (c : Setting) (s : State) (p pool : ℕ) (ns : List Number) → HasOwners c s → IsEmpty s p → AreFresh c.env.pools (live s) pool 1 ns → HasOwners c (with_packet p (allocated c.env.pools ns) s)
+alloc_owned : (c : Setting) (s : State) (p pool : ℕ) (ns : List Number) → HasOwners c s → IsEmpty s p → AreFresh c.env.pools (live s) pool 1 ns →
+    HasOwners c (with_packet p (allocated c.env.pools ns) s)
 alloc_owned c s p pool ns owned empty fresh =
     let k = allocated c.env.pools ns in
     more_owned c.env.pools (live s) (live (with_packet p k s)) k (packet_more s p k empty)
     (direct_comes c.env.pools (live s) pool 1 k ns (allocated_direct c.env.pools ns) fresh) owned
 
-clone_owned : (c : Setting) (s : State) (p q pool : ℕ) (k : Packet) (ns : List Number) → HasOwners c s → IsEmpty s p → Holds s q k → AreFresh c.env.pools (live s) pool (length k) ns → HasOwners c (with_packet p (cloned ns k) s)
+clone_owned : (c : Setting) (s : State) (p q pool : ℕ) (k : Packet) (ns : List Number) → HasOwners c s → IsEmpty s p → Holds s q k →
+    AreFresh c.env.pools (live s) pool (length k) ns → HasOwners c (with_packet p (cloned ns k) s)
 clone_owned c s p q pool k ns owned empty holds fresh =
     more_owned c.env.pools (live s) (live (with_packet p (cloned ns k) s)) (cloned ns k) (packet_more s p (cloned ns k) empty)
-    (clone_comes c.env.pools (live s) pool ns k (λ n. omega (arith, refs_cloned ns k n fresh.count, refs_held s.packets q (Some k) n holds, live_parts s n)) fresh) owned
+    (clone_comes c.env.pools (live s) pool ns k (λ n. omega (arith, refs_cloned ns k n fresh.count, refs_held s.packets q (Some k) n holds, live_parts s n))
+    fresh) owned
 
 pub acts_owned : (c : Setting) (label : ℕ) (s : State) (i : Instr) (m : Move) → HasOwners c s → Acts c label s i m → HasOwners c m.state
 acts_owned c label s (Alloc p pool l) m owned (empty, there, call) = matched (is_denied c s pool 1) _ _ call
@@ -105,17 +132,22 @@ acts_owned c label s (Clone p q pool l) m owned (k, holds, empty, there, call) =
 acts_owned c label s (Free p) m owned (k, holds, is) =
     by c m _ is (fewer_owned c.env.pools (live s) (live (without_packet p s)) (packet_fewer s p k holds) owned)
 acts_owned c label s (Prepend p n) m owned (k, holds, le, sole, is) =
-    by c m _ is (fewer_owned c.env.pools (live s) (live (with_packet p (at_front (more_before n) k) s)) (front_fewer s p (more_before n) k (λ s. (refl, refl)) holds) owned)
+    by c m _ is (fewer_owned c.env.pools (live s) (live (with_packet p (at_front (more_before n) k) s))
+    (front_fewer s p (more_before n) k (λ s. (refl, refl)) holds) owned)
 acts_owned c label s (Append p n) m owned (k, holds, le, sole, is) =
-    by c m _ is (fewer_owned c.env.pools (live s) (live (with_packet p (at_end (more_behind n) k) s)) (end_fewer s p (more_behind n) k (λ s. (refl, refl)) holds) owned)
+    by c m _ is (fewer_owned c.env.pools (live s) (live (with_packet p (at_end (more_behind n) k) s))
+    (end_fewer s p (more_behind n) k (λ s. (refl, refl)) holds) owned)
 acts_owned c label s (Adj p n) m owned (k, holds, le, is) =
-    by c m _ is (fewer_owned c.env.pools (live s) (live (with_packet p (at_front (less_before n) k) s)) (front_fewer s p (less_before n) k (λ s. (refl, refl)) holds) owned)
+    by c m _ is (fewer_owned c.env.pools (live s) (live (with_packet p (at_front (less_before n) k) s))
+    (front_fewer s p (less_before n) k (λ s. (refl, refl)) holds) owned)
 acts_owned c label s (Trim p n) m owned (k, holds, le, is) =
-    by c m _ is (fewer_owned c.env.pools (live s) (live (with_packet p (at_end (less_behind n) k) s)) (end_fewer s p (less_behind n) k (λ s. (refl, refl)) holds) owned)
+    by c m _ is (fewer_owned c.env.pools (live s) (live (with_packet p (at_end (less_behind n) k) s))
+    (end_fewer s p (less_behind n) k (λ s. (refl, refl)) holds) owned)
 acts_owned c label s (Chain p q) m owned (k, t, hk, ht, apart, few, is) =
     by c m _ is (fewer_owned c.env.pools (live s) (live (without_packet q (with_packet p (k ++ t) s))) (chain_fewer s p q k t apart hk ht) owned)
 acts_owned c label s (IfHead p n l) m owned (k, holds, is) = by c m _ is (if_owned c (nat_lt (headroom k) n) (moves_to l s) (goes_on label s) owned owned)
-acts_owned c label s (IfTail p n l) m owned (k, holds, is) = by c m _ is (if_owned c (nat_lt (tailroom c.env.pools k) n) (moves_to l s) (goes_on label s) owned owned)
+acts_owned c label s (IfTail p n l) m owned (k, holds, is) = by c m _ is
+    (if_owned c (nat_lt (tailroom c.env.pools k) n) (moves_to l s) (goes_on label s) owned owned)
 acts_owned c label s (IfLen p n l) m owned (k, holds, is) = by c m _ is (if_owned c (nat_lt (first_len k) n) (moves_to l s) (goes_on label s) owned owned)
 acts_owned c label s (IfLast p n l) m owned (k, holds, is) = by c m _ is (if_owned c (nat_lt (last_len k) n) (moves_to l s) (goes_on label s) owned owned)
 acts_owned c label s (Load r p off w) m owned (k, holds, le, is) = by c m _ is owned
@@ -123,9 +155,12 @@ acts_owned c label s (LoadX r p x off w) m owned (k, holds, le, is) = by c m _ i
 acts_owned c label s (Store p off w r) m owned (k, holds, le, sole, is) = by c m _ is owned
 acts_owned c label s (StoreX p x off w r) m owned (k, holds, le, sole, is) = by c m _ is owned
 acts_owned c label s (Tx p r l) m owned (k, port, packets, holds, is_port, there, is) =
-    by c m _ is (if_owned c (nat_lt (length packets + 1) port.queue) (goes_on label (with_outbox (slice_index s.numbers r) (packets ++ k ∷ []) (without_packet p s))) (moves_to l s) (outbox_owned c s p (slice_index s.numbers r) k packets owned holds there) owned)
+    by c m _ is (if_owned c (nat_lt (length packets + 1) port.queue) (goes_on label
+    (with_outbox (slice_index s.numbers r) (packets ++ k ∷ []) (without_packet p s))) (moves_to l s)
+    (outbox_owned c s p (slice_index s.numbers r) k packets owned holds there) owned)
 acts_owned c label s (Enq p ring l) m owned (k, spec, packets, holds, is_ring, there, is) =
-    by c m _ is (if_owned c (nat_lt (length packets + 1) spec.count) (goes_on label (with_ring ring (packets ++ k ∷ []) (without_packet p s))) (moves_to l s) (ring_owned c s p ring k packets owned holds there) owned)
+    by c m _ is (if_owned c (nat_lt (length packets + 1) spec.count) (goes_on label (with_ring ring (packets ++ k ∷ []) (without_packet p s))) (moves_to l s)
+    (ring_owned c s p ring k packets owned holds there) owned)
 acts_owned c label s Exit m owned (gone, is) = by c m _ is owned
 acts_owned c label s (Set r n) m owned (after, e, is) = by c m _ is owned
 acts_owned c label s (Mov r x) m owned (after, e, is) = by c m _ is owned

@@ -1,5 +1,6 @@
 -- How whole runs end: no packet is live, and the allocation calls are those that were told.
-use Rattle.std.proofs.Common.{◌≡◌, ℕ, zero, suc, ◌+◌, Bool, true, List, [], ◌∷◌, ◌++◌, length, map, Option, Some, None, refl, sym, ◌∙◌, ap, subst, arith, length-append}
+use Rattle.std.proofs.Common.{◌≡◌, ℕ, zero, suc, ◌+◌, Bool, true, List, [], ◌∷◌, ◌++◌, length, map, Option, Some, None, refl, sym, ◌∙◌, ap, subst, arith}
+use Rattle.std.proofs.Common.{length-append}
 use Rattle.std.specs.Prelude.{slice_get, MatchOption}
 use Rattle.std.specs.List.{AllByRecursion, AllZip}
 use Rattle.std.proofs.lemmas.List.{length-map}
@@ -12,7 +13,8 @@ use Rattle.dp_model.specs.Buffers.{Number}
 use Rattle.dp_model.specs.Packets.{Segment, Packet, Lies, is_free, available}
 use Rattle.dp_model.specs.Machine.{Setting, World, Ended, live, segments_listed}
 use Rattle.dp_model.specs.Meaning.{RingHolds, TablesFit}
-use Rattle.dp_model.specs.Runs.{first_state, NodeRun, between, Outcome, Got, NoBuffer, Oversize, Arrives, Waiting, first_waiting, Serves, Nodes, Turn, Arrival, Run, WholeRun, with_empty_outboxes, with_empty_rings}
+use Rattle.dp_model.specs.Runs.{first_state, NodeRun, between, Outcome, Got, NoBuffer, Oversize, Arrives, Waiting, first_waiting, Serves, Nodes, Turn}
+use Rattle.dp_model.specs.Runs.{Arrival, Run, WholeRun, with_empty_outboxes, with_empty_rings}
 use Rattle.dp_model.specs.Laws.{AreChecked}
 use Rattle.dp_model.specs.Safety.{IsAtRest}
 use Rattle.dp_model.specs.Starts.{IsStart}
@@ -27,12 +29,16 @@ use Rattle.dp_model.specs.Laws.Waiting.{nothing_listed}
 
 -- ---- nothing is live
 
-run_outboxes : {T : Type 0} (c : Setting) (nodes : Nodes) (arrivals : List (Arrival T)) (w w' : World) (told : List Bool) (outcomes : List Outcome) (captures : List (List (T × List ℕ))) → segments_listed w.outboxes ≡ [] → Run c nodes arrivals w told outcomes captures w' → segments_listed w'.outboxes ≡ []
+run_outboxes : {T : Type 0} (c : Setting) (nodes : Nodes) (arrivals : List (Arrival T)) (w w' : World) (told : List Bool) (outcomes : List Outcome)
+    (captures : List (List (T × List ℕ))) → segments_listed w.outboxes ≡ [] → Run c nodes arrivals w told outcomes captures w' → segments_listed w'.outboxes
+    ≡ []
 run_outboxes c nodes [] w w' told outcomes captures none (_, _, _, is) = ap (λ (x : World). segments_listed x.outboxes) is ∙ none
 run_outboxes c nodes (a ∷ arrivals) w w' told outcomes captures none (outcome, rest, now, later, runs, mid, more, turn, run, _, _, _) =
     run_outboxes c nodes arrivals (with_empty_outboxes mid) w' later rest more (nothing_listed mid.outboxes) run
 
-pub ends_with_nothing : {T : Type 0} (c : Setting) (nodes : Nodes) (arrivals : List (Arrival T)) (w w' : World) (told : List Bool) (outcomes : List Outcome) (captures : List (List (T × List ℕ))) (left : List ℕ) → IsStart c.env w → WholeRun c nodes arrivals w told outcomes captures left w' → live (between w') ≡ []
+pub ends_with_nothing : {T : Type 0} (c : Setting) (nodes : Nodes) (arrivals : List (Arrival T)) (w w' : World) (told : List Bool) (outcomes : List Outcome)
+    (captures : List (List (T × List ℕ))) (left : List ℕ) → IsStart c.env w → WholeRun c nodes arrivals w told outcomes captures left w' →
+    live (between w') ≡ []
 ends_with_nothing c nodes arrivals w w' told outcomes captures left start whole =
     let none : segments_listed w.outboxes ≡ [] = ap segments_listed start.outboxes ∙ nothing_mapped c.env.ports in
     let boxes = run_outboxes c nodes arrivals w whole.last told outcomes captures none whole.run in
@@ -40,7 +46,8 @@ ends_with_nothing c nodes arrivals w w' told outcomes captures left start whole 
     ∙ (ap (λ xs. xs ++ segments_listed whole.last.outboxes) (nothing_listed whole.last.rings) ∙ boxes)
 
 -- so every buffer is free
-pub nothing_is_free : (pools : List PoolSpec) (w : World) (pool : ℕ) (b : Number) → live (between w) ≡ [] → (is_free (live (between w)) b ≡ true) × (available pools (live (between w)) pool ≡ count_at pools pool)
+pub nothing_is_free : (pools : List PoolSpec) (w : World) (pool : ℕ) (b : Number) → live (between w) ≡ [] →
+    (is_free (live (between w)) b ≡ true) × (available pools (live (between w)) pool ≡ count_at pools pool)
 nothing_is_free pools w pool b none =
     (ap (λ segments. is_free segments b) none, ap (λ segments. available pools segments pool) none ∙ available_all pools pool)
 
@@ -52,18 +59,23 @@ zip_length P (x ∷ xs) (y ∷ ys) all = ap suc (zip_length P xs ys all.1)
 zip_length P [] (y ∷ ys) all = absurd all
 zip_length P (x ∷ xs) [] all = absurd all
 
-pub each_ring_counted : {T : Type 0} (c : Setting) (nodes : Nodes) (arrivals : List (Arrival T)) (w w' : World) (told : List Bool) (outcomes : List Outcome) (captures : List (List (T × List ℕ))) (left : List ℕ) → TablesFit c → AreChecked c nodes → IsStart c.env w → WholeRun c nodes arrivals w told outcomes captures left w' → length left ≡ length c.env.rings
+pub each_ring_counted : {T : Type 0} (c : Setting) (nodes : Nodes) (arrivals : List (Arrival T)) (w w' : World) (told : List Bool) (outcomes : List Outcome)
+    (captures : List (List (T × List ℕ))) (left : List ℕ) → TablesFit c → AreChecked c nodes → IsStart c.env w →
+    WholeRun c nodes arrivals w told outcomes captures left w' → length left ≡ length c.env.rings
 each_ring_counted c nodes arrivals w w' told outcomes captures left tables checked start whole =
     let ready = run_ready c nodes arrivals w whole.last told outcomes captures checked (start_ready c w tables start) whole.run in
-    ap length whole.left_are ∙ (length-map whole.last.rings length ∙ zip_length (RingHolds c.env.pools (live (between whole.last))) c.env.rings whole.last.rings ready.world.rings)
+    ap length whole.left_are ∙ (length-map whole.last.rings length ∙ zip_length (RingHolds c.env.pools (live (between whole.last))) c.env.rings
+    whole.last.rings ready.world.rings)
 
 -- ---- allocation calls
 
-node_counts : (c : Setting) (program : List Instr) (k : Packet) (number : ℕ) (w w' : World) (told : List Bool) → NodeRun c program k number w told w' → w'.calls ≡ w.calls + length told
+node_counts : (c : Setting) (program : List Instr) (k : Packet) (number : ℕ) (w w' : World) (told : List Bool) → NodeRun c program k number w told w' →
+    w'.calls ≡ w.calls + length told
 node_counts c program k number w w' told (n, s, goes, is) =
     ap (λ (x : World). x.calls) is ∙ (goes_counts c program n 0 (first_state k number w) told Ended s goes).calls
 
-arrives_counts : (c : Setting) (program : List Instr) (port : ℕ) (spec : PortSpec) (bytes : List ℕ) (w w' : World) (outcome : Outcome) (told : List Bool) → Arrives c program port spec bytes w outcome told w' → w'.calls ≡ w.calls + length told
+arrives_counts : (c : Setting) (program : List Instr) (port : ℕ) (spec : PortSpec) (bytes : List ℕ) (w w' : World) (outcome : Outcome) (told : List Bool) →
+    Arrives c program port spec bytes w outcome told w' → w'.calls ≡ w.calls + length told
 arrives_counts c program port spec bytes w w' Oversize told (_, none, is) =
     let no_call : length told ≡ 0 = ap length none in
     let calls : w'.calls ≡ w.calls = ap (λ (x : World). x.calls) is in
@@ -76,14 +88,19 @@ arrives_counts c program port spec bytes w w' Got told r =
     let long : length told ≡ suc (length r.later) = ap length r.told_is in
     omega (arith, long, node_counts c program r.packet port (record w { buffers = r.buffers; calls = w.calls + 1 }) w' r.later r.run)
 
-serves_counts : (c : Setting) (programs : List (List Instr)) (n : ℕ) (w w' : World) (told : List Bool) (runs : ℕ) → Serves c programs n w told runs w' → w'.calls ≡ w.calls + length told
+serves_counts : (c : Setting) (programs : List (List Instr)) (n : ℕ) (w w' : World) (told : List Bool) (runs : ℕ) → Serves c programs n w told runs w' →
+    w'.calls ≡ w.calls + length told
 serves_counts c programs zero w w' told runs (none, _, is) =
     let no_call : length told ≡ 0 = ap length none in
     let calls : w'.calls ≡ w.calls = ap (λ (x : World). x.calls) is in
     omega (arith, no_call, calls)
 serves_counts c programs (suc n) w w' told runs serves = go (first_waiting w.rings) serves (λ mid told more. serves_counts c programs n mid w' told more)
   where
-    go : (o : Option Waiting) → MatchOption o ((told ≡ []) × (runs ≡ 0) × (w' ≡ w)) (λ next. (program : List Instr) × (now later : List Bool) × (mid : World) × (more : ℕ) × (slice_get programs next.ring ≡ Some program) × NodeRun c program next.packet next.ring (record w { rings = next.rings }) now mid × Serves c programs n mid later more w' × (told ≡ now ++ later) × (runs ≡ more + 1)) → ((mid : World) (told : List Bool) (more : ℕ) → Serves c programs n mid told more w' → w'.calls ≡ mid.calls + length told) → w'.calls ≡ w.calls + length told
+    go : (o : Option Waiting) → MatchOption o ((told ≡ []) × (runs ≡ 0) × (w' ≡ w)) (λ next. (program : List Instr) × (now later : List Bool) × (mid : World)
+        × (more : ℕ) × (slice_get programs next.ring ≡ Some program) × NodeRun c program next.packet next.ring (record w { rings = next.rings }) now mid
+        × Serves c programs n mid later more w' × (told ≡ now ++ later) × (runs ≡ more + 1)) →
+        ((mid : World) (told : List Bool) (more : ℕ) → Serves c programs n mid told more w' → w'.calls ≡ mid.calls + length told) →
+        w'.calls ≡ w.calls + length told
     go None (none, _, is) on =
         let no_call : length told ≡ 0 = ap length none in
         let calls : w'.calls ≡ w.calls = ap (λ (x : World). x.calls) is in
@@ -92,28 +109,43 @@ serves_counts c programs (suc n) w w' told runs serves = go (first_waiting w.rin
         let long : length told ≡ length now + length later = ap length is_told ∙ length-append now later in
         omega (arith, long, on mid later more serves, node_counts c program next.packet next.ring (record w { rings = next.rings }) mid now run)
 
-turn_counts : (c : Setting) (nodes : Nodes) (port : ℕ) (bytes : List ℕ) (w w' : World) (outcome : Outcome) (runs : ℕ) (told : List Bool) → Turn c nodes port bytes w outcome runs told w' → w'.calls ≡ w.calls + length told
+turn_counts : (c : Setting) (nodes : Nodes) (port : ℕ) (bytes : List ℕ) (w w' : World) (outcome : Outcome) (runs : ℕ) (told : List Bool) →
+    Turn c nodes port bytes w outcome runs told w' → w'.calls ≡ w.calls + length told
 turn_counts c nodes port bytes w w' outcome runs told t =
     let long : length told ≡ length t.now + length t.later = ap length t.told_is ∙ length-append t.now t.later in
-    omega (arith, long, arrives_counts c t.program port t.spec bytes w t.mid outcome t.now t.arrives, serves_counts c nodes.rings 32 t.mid w' t.later t.more t.serves)
+    omega (
+      arith,
+      long,
+      arrives_counts c t.program port t.spec bytes w t.mid outcome t.now t.arrives,
+      serves_counts c nodes.rings 32 t.mid w' t.later t.more t.serves,
+    )
 
-run_counts : {T : Type 0} (c : Setting) (nodes : Nodes) (arrivals : List (Arrival T)) (w w' : World) (told : List Bool) (outcomes : List Outcome) (captures : List (List (T × List ℕ))) → Run c nodes arrivals w told outcomes captures w' → w'.calls ≡ w.calls + length told
+run_counts : {T : Type 0} (c : Setting) (nodes : Nodes) (arrivals : List (Arrival T)) (w w' : World) (told : List Bool) (outcomes : List Outcome)
+    (captures : List (List (T × List ℕ))) → Run c nodes arrivals w told outcomes captures w' → w'.calls ≡ w.calls + length told
 run_counts c nodes [] w w' told outcomes captures (none, _, _, is) =
     let no_call : length told ≡ 0 = ap length none in
     let calls : w'.calls ≡ w.calls = ap (λ (x : World). x.calls) is in
     omega (arith, no_call, calls)
 run_counts c nodes (a ∷ arrivals) w w' told outcomes captures (outcome, rest, now, later, runs, mid, more, turn, run, is_told, _, _) =
     let long : length told ≡ length now + length later = ap length is_told ∙ length-append now later in
-    omega (arith, long, turn_counts c nodes a.port a.bytes w mid outcome runs now turn, run_counts c nodes arrivals (with_empty_outboxes mid) w' later rest more run)
+    omega (
+      arith,
+      long,
+      turn_counts c nodes a.port a.bytes w mid outcome runs now turn,
+      run_counts c nodes arrivals (with_empty_outboxes mid) w' later rest more run,
+    )
 
-pub whole_counts : {T : Type 0} (c : Setting) (nodes : Nodes) (arrivals : List (Arrival T)) (w w' : World) (told : List Bool) (outcomes : List Outcome) (captures : List (List (T × List ℕ))) (left : List ℕ) → IsStart c.env w → WholeRun c nodes arrivals w told outcomes captures left w' → w'.calls ≡ length told
+pub whole_counts : {T : Type 0} (c : Setting) (nodes : Nodes) (arrivals : List (Arrival T)) (w w' : World) (told : List Bool) (outcomes : List Outcome)
+    (captures : List (List (T × List ℕ))) (left : List ℕ) → IsStart c.env w → WholeRun c nodes arrivals w told outcomes captures left w' →
+    w'.calls ≡ length told
 whole_counts c nodes arrivals w w' told outcomes captures left start whole =
     let same : w'.calls ≡ whole.last.calls = ap (λ (x : World). x.calls) whole.is in
     omega (arith, same, start.calls, run_counts c nodes arrivals w whole.last told outcomes captures whole.run)
 
 -- ---- the world afterwards
 
-emptied_rings : (pools : List PoolSpec) (segments segments' : List Segment) (specs : List RingSpec) (rings : List (List Packet)) → AllZip (RingHolds pools segments) specs rings → AllZip (RingHolds pools segments') specs (map (λ _. []) rings)
+emptied_rings : (pools : List PoolSpec) (segments segments' : List Segment) (specs : List RingSpec) (rings : List (List Packet)) →
+    AllZip (RingHolds pools segments) specs rings → AllZip (RingHolds pools segments') specs (map (λ _. []) rings)
 emptied_rings pools segments segments' [] [] all = tt
 emptied_rings pools segments segments' (spec ∷ specs) (ring ∷ rings) all = (tt, emptied_rings pools segments segments' specs rings all.1)
 emptied_rings pools segments segments' [] (ring ∷ rings) all = absurd all
@@ -127,7 +159,10 @@ emptied_rest c w rest =
     let same : live (between w') ≡ boxes = ap (λ xs. xs ++ boxes) (nothing_listed w.rings) in
     record {
       ready = record {
-        world = record { rings = emptied_rings c.env.pools (live (between w)) (live (between w')) c.env.rings w.rings rest.ready.world.rings; outboxes = rest.ready.world.outboxes };
+        world = record {
+          rings = emptied_rings c.env.pools (live (between w)) (live (between w')) c.env.rings w.rings rest.ready.world.rings;
+          outboxes = rest.ready.world.outboxes;
+        };
         tables = rest.ready.tables;
         within = record {
           rooms = rest.ready.within.rooms;
@@ -137,7 +172,8 @@ emptied_rest c w rest =
       };
       owned = fewer_owned c.env.pools (live (between w)) (live (between w'))
           (fewer_by (live (between w)) (live (between w'))
-          (λ test. let e : tally test (segments_listed w'.rings) ≡ 0 = ap (tally test) (nothing_listed w.rings) in omega (arith, e, tally_live test (between w), tally_live test (between w'))))
+          (λ test. let e : tally test (segments_listed w'.rings) ≡ 0 = ap (tally test) (nothing_listed w.rings) in
+          omega (arith, e, tally_live test (between w), tally_live test (between w'))))
           rest.owned;
       packets = record { held = tt; rings = no_lists w.rings; outboxes = rest.packets.outboxes };
     }

@@ -17,12 +17,14 @@ use Rattle.dp_model.proofs.PacketSteps.{goes_packets}
 
 -- ---- ownership along a run, of any program
 
-pub goes_owned : (c : Setting) (program : List Instr) (n label : ℕ) (s : State) (told : List Bool) (next : Next) (s' : State) → HasOwners c s → Goes c program n label s told next s' → HasOwners c s'
+pub goes_owned : (c : Setting) (program : List Instr) (n label : ℕ) (s : State) (told : List Bool) (next : Next) (s' : State) → HasOwners c s →
+    Goes c program n label s told next s' → HasOwners c s'
 goes_owned c program zero label s told next s' owned (_, _, is) = subst (HasOwners c) (sym is) owned
 goes_owned c program (suc n) label s told next s' owned (m, later, st, is_told, rest) =
     go m.next rest (step_owned c program label s m owned st) (λ l. goes_owned c program n l m.state later next s')
   where
-    go : (x : Next) → Then x (λ l. Goes c program n l m.state later next s') ((next ≡ Ended) × (n ≡ 0) × (later ≡ []) × (s' ≡ m.state)) → HasOwners c m.state → ((l : ℕ) → HasOwners c m.state → Goes c program n l m.state later next s' → HasOwners c s') → HasOwners c s'
+    go : (x : Next) → Then x (λ l. Goes c program n l m.state later next s') ((next ≡ Ended) × (n ≡ 0) × (later ≡ []) × (s' ≡ m.state)) →
+        HasOwners c m.state → ((l : ℕ) → HasOwners c m.state → Goes c program n l m.state later next s' → HasOwners c s') → HasOwners c s'
     go (At l) rest here on = on l here rest
     go Ended (_, _, _, is) here on = subst (HasOwners c) (sym is) here
 
@@ -39,14 +41,21 @@ then_over : (x : Next) (go : ℕ → Type 0) (over : Type 0) → x ≡ Ended →
 then_over x go over e h = subst (λ y. Then y go over) (sym e) h
 
 -- each step leads further, and there is only so far to go
-pub run_ends : (c : Setting) (q : Question) → c.env ≡ q.env → IsCertified q → (left label : ℕ) (s : State) → 257 * length q.program ≤ left + (label + s.jumps * length q.program) → s.jumps ≤ 256 → Reached c q (At label) s → CanEnd c q.program label s
+pub run_ends : (c : Setting) (q : Question) → c.env ≡ q.env → IsCertified q → (left label : ℕ) (s : State) →
+    257 * length q.program ≤ left + (label + s.jumps * length q.program) → s.jumps ≤ 256 → Reached c q (At label) s → CanEnd c q.program label s
 run_ends c q env accepted zero label s few within reached = absurd (omega (arith, few, room_left q.program label s.jumps reached.2 within))
 run_ends c q env accepted (suc left) label s few within ((row, er, known), inside, place) =
     let safe = step_safe c q label row s env accepted place er known inside in
     let (m, st) = safe.has_step in
-    go m st m.next refl (step_closer c q.program label s m place within st) (safe.stays m st, step_within c q.program label s m inside st, step_place c q.program label s m st) (λ l more room there. run_ends c q env accepted left l m.state more room there)
+    go m st m.next refl (step_closer c q.program label s m place within st) (
+      safe.stays m st,
+      step_within c q.program label s m inside st,
+      step_place c q.program label s m st,
+    ) (λ l more room there. run_ends c q env accepted left l m.state more room there)
   where
-    go : (m : Move) → Step c q.program label s m → (x : Next) → m.next ≡ x → IsCloser q.program label s.jumps x m.state.jumps → Reached c q x m.state → ((l : ℕ) → 257 * length q.program ≤ left + (l + m.state.jumps * length q.program) → m.state.jumps ≤ 256 → Reached c q (At l) m.state → CanEnd c q.program l m.state) → CanEnd c q.program label s
+    go : (m : Move) → Step c q.program label s m → (x : Next) → m.next ≡ x → IsCloser q.program label s.jumps x m.state.jumps → Reached c q x m.state →
+        ((l : ℕ) → 257 * length q.program ≤ left + (l + m.state.jumps * length q.program) → m.state.jumps ≤ 256 → Reached c q (At l) m.state →
+        CanEnd c q.program l m.state) → CanEnd c q.program label s
     go m st (At l) e (_, room, further) there on =
         let (n, told, s', goes) = on l (omega (arith, few, further)) room there in
         (suc n, m.told ++ told, s', (m, told, st, refl, then_at m.next l _ _ e goes))
@@ -80,12 +89,15 @@ accepted_is_safe c q k number w accepted well =
         has_step = sound.never_stuck n label told s goes;
       };
       short = λ n told next s goes. omega (arith, goes_short c q.program n 0 (first_state k number w) told next s start.2 (omega arith) goes);
-      ends = let (n, told, s, goes) = run_ends c q begins.env accepted (257 * length q.program) 0 (first_state k number w) (omega arith) (omega arith) start in (told, s.world, (n, s, goes, refl));
+      ends = let (n, told, s, goes) = run_ends c q begins.env accepted (257 * length q.program) 0 (first_state k number w) (omega arith)
+          (omega arith) start in (told, s.world, (n, s, goes, refl));
       rests = λ told w' (n, s, goes, is). record {
         ready = sound.ends told w' (n, s, goes, is);
-        packets = subst (λ x. ArePackets (between x)) (sym is) (ended_packets s (goes_packets c q.program n 0 (first_state k number w) told Ended s well.packets goes));
+        packets = subst (λ x. ArePackets (between x)) (sym is) (ended_packets s
+            (goes_packets c q.program n 0 (first_state k number w) told Ended s well.packets goes));
         owned = let (here, _, _) = goes_known c q begins.env accepted n 0 (first_state k number w) told Ended s start goes in
-            subst (λ x. AreOwned c.env.pools (live (between x))) (sym is) (ended_owned c s here.2 (goes_owned c q.program n 0 (first_state k number w) told Ended s well.owned goes));
+            subst (λ x. AreOwned c.env.pools (live (between x))) (sym is)
+            (ended_owned c s here.2 (goes_owned c q.program n 0 (first_state k number w) told Ended s well.owned goes));
       };
     }
 

@@ -1,5 +1,6 @@
 -- Turns of a pipeline: every node run of a turn is safe, there is a turn for each record, and the next one can follow.
-use Rattle.std.proofs.Common.{◌≡◌, ℕ, zero, suc, ◌+◌, ◌<◌, ◌≤◌, Bool, true, false, List, [], ◌∷◌, ◌++◌, length, Option, Some, None, refl, sym, ◌∙◌, ap, subst, arith, inl, inr}
+use Rattle.std.proofs.Common.{◌≡◌, ℕ, zero, suc, ◌+◌, ◌<◌, ◌≤◌, Bool, true, false, List, [], ◌∷◌, ◌++◌, length, Option, Some, None, refl, sym, ◌∙◌, ap, subst}
+use Rattle.std.proofs.Common.{arith, inl, inr}
 use Rattle.std.specs.Prelude.{IsTrue, slice_get, slice_set, flat_map, option_map, nat_lt, if◌then◌else◌, MatchOption}
 use Rattle.std.specs.List.{AllByRecursion}
 use Rattle.std.proofs.lemmas.Bool.{ltb-true, ltb-false, lt-ltb, le-ltb}
@@ -16,9 +17,11 @@ use Rattle.dp_model.specs.Packets.{Segment, Packet, needed, received, Filled, Ar
 use Rattle.dp_model.specs.Rules.{Question}
 use Rattle.dp_model.specs.Machine.{Setting, World, live, segments_listed, is_denied}
 use Rattle.dp_model.specs.Meaning.{RingHolds}
-use Rattle.dp_model.specs.Runs.{first_state, between, NodeRun, Outcome, Got, NoBuffer, Oversize, Receives, Arrives, Waiting, first_waiting, Serves, Nodes, runs_of, Turn}
+use Rattle.dp_model.specs.Runs.{first_state, between, NodeRun, Outcome, Got, NoBuffer, Oversize, Receives, Arrives, Waiting, first_waiting, Serves, Nodes}
+use Rattle.dp_model.specs.Runs.{runs_of, Turn}
 use Rattle.dp_model.specs.Laws.{Checked}
-use Rattle.dp_model.specs.Safety.{IsPacket, ArePackets, IsAtRest, BeginsWell, Beginning, IsOfRecord, HasServed, IsOfTurn, IsSafeBeginning, outcome_for, IsSafeTurn, IsPipeline}
+use Rattle.dp_model.specs.Safety.{IsPacket, ArePackets, IsAtRest, BeginsWell, Beginning, IsOfRecord, HasServed, IsOfTurn, IsSafeBeginning, outcome_for}
+use Rattle.dp_model.specs.Safety.{IsSafeTurn, IsPipeline}
 use Rattle.dp_model.specs.Laws.Lists.{get_within, zip_back, each_at}
 use Rattle.dp_model.proofs.Fresh.{enough}
 use Rattle.dp_model.proofs.Sound.{denied_or_enough}
@@ -41,22 +44,34 @@ first_packets : (k : Packet) (number : ℕ) (w : World) → IsPacket k → ArePa
 first_packets k number w is are = record { held = (is, (tt, (tt, (tt, (tt, (tt, (tt, (tt, tt)))))))); rings = are.rings; outboxes = are.outboxes }
 
 -- a record that fits a port is a packet
-received_packet : (c : Setting) (port : ℕ) (spec : PortSpec) (bytes : List ℕ) (numbers : List Number) → slice_get c.env.ports port ≡ Some spec → fault_of c.env ≡ None → needed c.env.pools spec.pool (length bytes) ≤ spec.segs → length numbers ≡ needed c.env.pools spec.pool (length bytes) → IsPacket (received (room_at c.env.pools spec.pool) numbers (length bytes))
+received_packet : (c : Setting) (port : ℕ) (spec : PortSpec) (bytes : List ℕ) (numbers : List Number) → slice_get c.env.ports port ≡ Some spec →
+    fault_of c.env ≡ None → needed c.env.pools spec.pool (length bytes) ≤ spec.segs → length numbers ≡ needed c.env.pools spec.pool (length bytes) →
+    IsPacket (received (room_at c.env.pools spec.pool) numbers (length bytes))
 received_packet c port spec bytes numbers is_spec limits fits count =
     let long = length_received (room_at c.env.pools spec.pool) numbers (length bytes) in
     (omega (arith, long, count), omega (arith, long, count, fits, segs_small c.env port spec.segs limits (ap (option_map (λ (p : PortSpec). p.segs)) is_spec)))
 
 -- a packet that waits is one, and so are the others
-popped_packets : (w : World) (next : Waiting) → first_waiting w.rings ≡ Some next → ArePackets (between w) → IsPacket next.packet × ArePackets (between (record w { rings = next.rings }))
+popped_packets : (w : World) (next : Waiting) → first_waiting w.rings ≡ Some next → ArePackets (between w) →
+    IsPacket next.packet × ArePackets (between (record w { rings = next.rings }))
 popped_packets w next e are =
     let (packets, there, is) = waits w.rings next e in
-    let all = each_at (AllByRecursion IsPacket) w.rings next.ring (next.packet ∷ packets) are.rings there in
-    (all.0, record { held = tt; rings = subst (AllByRecursion (AllByRecursion IsPacket)) (sym is) (each_set (AllByRecursion IsPacket) w.rings next.ring packets are.rings all.1); outboxes = are.outboxes })
+    let all = each_at (AllByRecursion IsPacket) w.rings next.ring (next.packet ∷ packets) are.rings there in (
+      all.0,
+      record {
+        held = tt;
+        rings = subst (AllByRecursion (AllByRecursion IsPacket)) (sym is)
+            (each_set (AllByRecursion IsPacket) w.rings next.ring packets are.rings all.1);
+        outboxes = are.outboxes;
+      },
+    )
 
 -- ---- node runs begin well
 -- on a record that is received
-pub record_begins : (c : Setting) (q : Question) (port : ℕ) (spec : PortSpec) (bytes : List ℕ) (w : World) (numbers : List Number) (buffers : Buffers) → c.env ≡ q.env → q.entry ≡ Port port → slice_get c.env.ports port ≡ Some spec → 129 ≤ room_at c.env.pools spec.pool → fault_of c.env ≡ None → IsAtRest c w
-    → needed c.env.pools spec.pool (length bytes) ≤ spec.segs → AreFresh c.env.pools (live (between w)) spec.pool (needed c.env.pools spec.pool (length bytes)) numbers
+pub record_begins : (c : Setting) (q : Question) (port : ℕ) (spec : PortSpec) (bytes : List ℕ) (w : World) (numbers : List Number) (buffers : Buffers) →
+    c.env ≡ q.env → q.entry ≡ Port port → slice_get c.env.ports port ≡ Some spec → 129 ≤ room_at c.env.pools spec.pool → fault_of c.env ≡ None → IsAtRest c w
+    → needed c.env.pools spec.pool (length bytes) ≤ spec.segs → AreFresh c.env.pools (live (between w)) spec.pool
+    (needed c.env.pools spec.pool (length bytes)) numbers
     → Filled numbers (received (room_at c.env.pools spec.pool) numbers (length bytes)) bytes w.buffers buffers
     → BeginsWell c q (received (room_at c.env.pools spec.pool) numbers (length bytes)) port (record w { buffers = buffers; calls = w.calls + 1 })
 record_begins c q port spec bytes w numbers buffers env entry is_spec room limits rest fits fresh filled =
@@ -66,28 +81,44 @@ record_begins c q port spec bytes w numbers buffers env entry is_spec room limit
       begins = received_begins c q port spec bytes w numbers buffers env entry is_spec room rest.ready fits fresh filled;
       owned = more_owned c.env.pools (live (between w)) (live (first_state k port w1)) k
           (more_by (live (between w)) (live (first_state k port w1)) k (λ test. omega (arith, tally_first test k port w1)))
-          (direct_comes c.env.pools (live (between w)) spec.pool (needed c.env.pools spec.pool (length bytes)) k numbers (received_direct (room_at c.env.pools spec.pool) numbers (length bytes)) fresh)
+          (direct_comes c.env.pools (live (between w)) spec.pool (needed c.env.pools spec.pool (length bytes)) k numbers
+          (received_direct (room_at c.env.pools spec.pool) numbers (length bytes)) fresh)
           rest.owned;
-      packets = first_packets k port w1 (received_packet c port spec bytes numbers is_spec limits fits fresh.count) (record { held = tt; rings = rest.packets.rings; outboxes = rest.packets.outboxes });
+      packets = first_packets k port w1 (received_packet c port spec bytes numbers is_spec limits fits fresh.count)
+          (record { held = tt; rings = rest.packets.rings; outboxes = rest.packets.outboxes });
     }
 
 -- on a packet of a ring
-pub waiting_begins : (c : Setting) (q : Question) (next : Waiting) (w : World) → ((spec : RingSpec) → slice_get c.env.rings next.ring ≡ Some spec → IsTrue (is_well_formed_fact spec.fact)) → c.env ≡ q.env → q.entry ≡ Ring next.ring → first_waiting w.rings ≡ Some next → IsAtRest c w → BeginsWell c q next.packet next.ring (record w { rings = next.rings })
+pub waiting_begins : (c : Setting) (q : Question) (next : Waiting) (w : World) →
+    ((spec : RingSpec) → slice_get c.env.rings next.ring ≡ Some spec → IsTrue (is_well_formed_fact spec.fact)) → c.env ≡ q.env → q.entry ≡ Ring next.ring →
+    first_waiting w.rings ≡ Some next → IsAtRest c w → BeginsWell c q next.packet next.ring (record w { rings = next.rings })
 waiting_begins c q next w facts env entry e rest = record {
   begins = ring_begins c q next w facts env entry e rest.ready;
   packets = let (is, are) = popped_packets w next e rest.packets in first_packets next.packet next.ring (record w { rings = next.rings }) is are;
   owned = let (packets, there, are) = waits w.rings next e in
       fewer_owned c.env.pools (live (between w)) (live (first_state next.packet next.ring (record w { rings = next.rings })))
-      (fewer_by (live (between w)) (live (first_state next.packet next.ring (record w { rings = next.rings }))) (λ test. popped packets there are test)) rest.owned;
+      (fewer_by (live (between w)) (live (first_state next.packet next.ring (record w { rings = next.rings }))) (λ test. popped packets there are test))
+      rest.owned;
 }
   where
-    popped : (packets : List Packet) → slice_get w.rings next.ring ≡ Some (next.packet ∷ packets) → next.rings ≡ slice_set w.rings next.ring packets → (test : Segment → Bool) → tally test (live (first_state next.packet next.ring (record w { rings = next.rings }))) ≤ tally test (live (between w))
+    popped : (packets : List Packet) → slice_get w.rings next.ring ≡ Some (next.packet ∷ packets) → next.rings ≡ slice_set w.rings next.ring packets →
+        (test : Segment → Bool) → tally test (live (first_state next.packet next.ring (record w { rings = next.rings }))) ≤ tally test (live (between w))
     popped packets there are test =
-        let e : tally test (segments_listed next.rings) ≡ tally test (segments_listed (slice_set w.rings next.ring packets)) = ap (λ rings. tally test (segments_listed rings)) are in
-        omega (arith, e, tally_first test next.packet next.ring (record w { rings = next.rings }), tally_live test (between w), tally_live test (between (record w { rings = next.rings })), tally_listed_set test w.rings next.ring (next.packet ∷ packets) packets there, tally-append test next.packet (flat_map (λ k. k) packets))
+        let e : tally test (segments_listed next.rings) ≡ tally test (segments_listed (slice_set w.rings next.ring packets)) =
+        ap (λ rings. tally test (segments_listed rings)) are in
+        omega (
+          arith,
+          e,
+          tally_first test next.packet next.ring (record w { rings = next.rings }),
+          tally_live test (between w),
+          tally_live test (between (record w { rings = next.rings })),
+          tally_listed_set test w.rings next.ring (next.packet ∷ packets) packets there,
+          tally-append test next.packet (flat_map (λ k. k) packets),
+        )
 
 -- a node that is accepted is safe where it begins well
-pub safe_beginning : (c : Setting) (entry : Entry) (program : List Instr) (k : Packet) (number : ℕ) (w : World) (node : Checked c.env entry program) → BeginsWell c node.question k number w → IsSafeBeginning c (record { entry = entry; program = program; packet = k; number = number; world = w })
+pub safe_beginning : (c : Setting) (entry : Entry) (program : List Instr) (k : Packet) (number : ℕ) (w : World) (node : Checked c.env entry program) →
+    BeginsWell c node.question k number w → IsSafeBeginning c (record { entry = entry; program = program; packet = k; number = number; world = w })
 safe_beginning c entry program k number w node well = record {
   question = node.question;
   accepted = node.accepted;
@@ -101,15 +132,26 @@ pub safe_ends : (c : Setting) (b : Beginning) → IsSafeBeginning c b → (told 
 safe_ends c b s = subst (λ p. (told : List Bool) × (w' : World) × NodeRun c p b.packet b.number b.world told w') s.program_is s.safe.ends
 
 -- ---- the node run of the record
-pub record_safe : (c : Setting) (nodes : Nodes) (port : ℕ) (bytes : List ℕ) (w : World) (b : Beginning) → IsPipeline c nodes → IsAtRest c w → IsOfRecord c nodes port bytes w b → IsSafeBeginning c b
+pub record_safe : (c : Setting) (nodes : Nodes) (port : ℕ) (bytes : List ℕ) (w : World) (b : Beginning) → IsPipeline c nodes → IsAtRest c w →
+    IsOfRecord c nodes port bytes w b → IsSafeBeginning c b
 record_safe c nodes port bytes w b checked rest r =
     let node = checked.checked.ports port r.program r.program_is in
     subst (IsSafeBeginning c) (sym r.is)
-    (safe_beginning c (Port port) r.program (received (room_at c.env.pools r.spec.pool) r.numbers (length bytes)) port (record w { buffers = r.buffers; calls = w.calls + 1 }) node
-    (record_begins c node.question port r.spec bytes w r.numbers r.buffers (sym node.env_is) node.entry_is r.spec_is (checked.checked.rooms port r.spec r.spec_is) checked.limits rest r.fits r.fresh r.filled))
+    (safe_beginning c (Port port) r.program (received (room_at c.env.pools r.spec.pool) r.numbers (length bytes)) port
+    (record w { buffers = r.buffers; calls = w.calls + 1 }) node
+    (record_begins c node.question port r.spec bytes w r.numbers r.buffers (sym node.env_is) node.entry_is r.spec_is
+    (checked.checked.rooms port r.spec r.spec_is) checked.limits rest r.fits r.fresh r.filled))
 
 -- a whole run on a record that is received has such a beginning
-pub receives_of : (c : Setting) (nodes : Nodes) (program : List Instr) (port : ℕ) (spec : PortSpec) (bytes : List ℕ) (w w' : World) (told : List Bool) → slice_get c.env.ports port ≡ Some spec → slice_get nodes.ports port ≡ Some program → (r : Receives c program port spec bytes w told w') → IsOfRecord c nodes port bytes w (record { entry = Port port; program = program; packet = received (room_at c.env.pools spec.pool) r.numbers (length bytes); number = port; world = record w { buffers = r.buffers; calls = w.calls + 1 } })
+pub receives_of : (c : Setting) (nodes : Nodes) (program : List Instr) (port : ℕ) (spec : PortSpec) (bytes : List ℕ) (w w' : World) (told : List Bool) →
+    slice_get c.env.ports port ≡ Some spec → slice_get nodes.ports port ≡ Some program → (r : Receives c program port spec bytes w told w') →
+    IsOfRecord c nodes port bytes w (record {
+      entry = Port port;
+      program = program;
+      packet = received (room_at c.env.pools spec.pool) r.numbers (length bytes);
+      number = port;
+      world = record w { buffers = r.buffers; calls = w.calls + 1 };
+    })
 receives_of c nodes program port spec bytes w w' told is_spec is_program r = record {
   spec = spec;
   spec_is = is_spec;
@@ -126,14 +168,21 @@ receives_of c nodes program port spec bytes w w' told is_spec is_program r = rec
 
 rest_calls : (c : Setting) (w : World) (calls : ℕ) → IsAtRest c w → IsAtRest c (record w { calls = calls })
 rest_calls c w calls rest = record {
-  ready = record { world = record { rings = rest.ready.world.rings; outboxes = rest.ready.world.outboxes }; tables = rest.ready.tables; within = rest.ready.within };
+  ready = record {
+    world = record { rings = rest.ready.world.rings; outboxes = rest.ready.world.outboxes };
+    tables = rest.ready.tables;
+    within = rest.ready.within;
+  };
   owned = rest.owned;
   packets = record { held = tt; rings = rest.packets.rings; outboxes = rest.packets.outboxes };
 }
 
-pub arrives_rest : (c : Setting) (nodes : Nodes) (program : List Instr) (port : ℕ) (spec : PortSpec) (bytes : List ℕ) (w w' : World) (outcome : Outcome) (told : List Bool) → IsPipeline c nodes → slice_get nodes.ports port ≡ Some program → slice_get c.env.ports port ≡ Some spec → IsAtRest c w → Arrives c program port spec bytes w outcome told w' → IsAtRest c w'
+pub arrives_rest : (c : Setting) (nodes : Nodes) (program : List Instr) (port : ℕ) (spec : PortSpec) (bytes : List ℕ) (w w' : World) (outcome : Outcome)
+    (told : List Bool) → IsPipeline c nodes → slice_get nodes.ports port ≡ Some program → slice_get c.env.ports port ≡ Some spec → IsAtRest c w →
+    Arrives c program port spec bytes w outcome told w' → IsAtRest c w'
 arrives_rest c nodes program port spec bytes w w' Oversize told checked is_program is_spec rest (_, _, is) = subst (IsAtRest c) (sym is) rest
-arrives_rest c nodes program port spec bytes w w' NoBuffer told checked is_program is_spec rest (_, _, _, is) = subst (IsAtRest c) (sym is) (rest_calls c w (w.calls + 1) rest)
+arrives_rest c nodes program port spec bytes w w' NoBuffer told checked is_program is_spec rest (_, _, _, is) =
+    subst (IsAtRest c) (sym is) (rest_calls c w (w.calls + 1) rest)
 arrives_rest c nodes program port spec bytes w w' Got told checked is_program is_spec rest r =
     let k : Packet = received (room_at c.env.pools spec.pool) r.numbers (length bytes) in
     let w1 : World = record w { buffers = r.buffers; calls = w.calls + 1 } in
@@ -143,7 +192,15 @@ arrives_rest c nodes program port spec bytes w w' Got told checked is_program is
 
 -- ---- node runs on packets of rings
 -- the node of the ring
-pub waiting_safe : (c : Setting) (nodes : Nodes) (next : Waiting) (program : List Instr) (w : World) → IsPipeline c nodes → IsAtRest c w → first_waiting w.rings ≡ Some next → slice_get nodes.rings next.ring ≡ Some program → IsSafeBeginning c (record { entry = Ring next.ring; program = program; packet = next.packet; number = next.ring; world = record w { rings = next.rings } })
+pub waiting_safe : (c : Setting) (nodes : Nodes) (next : Waiting) (program : List Instr) (w : World) → IsPipeline c nodes → IsAtRest c w →
+    first_waiting w.rings ≡ Some next → slice_get nodes.rings next.ring ≡ Some program →
+    IsSafeBeginning c (record {
+      entry = Ring next.ring;
+      program = program;
+      packet = next.packet;
+      number = next.ring;
+      world = record w { rings = next.rings };
+    })
 waiting_safe c nodes next program w checked rest e is_program =
     let node = checked.checked.rings next.ring program is_program in
     safe_beginning c (Ring next.ring) program next.packet next.ring (record w { rings = next.rings }) node
@@ -153,34 +210,61 @@ pub served_rest : (c : Setting) (nodes : Nodes) (n : ℕ) (w w' : World) → IsP
 served_rest c nodes zero w w' checked rest is = subst (IsAtRest c) (sym is) rest
 served_rest c nodes (suc n) w w' checked rest (next, program, told, mid, e, is_program, run, served) =
     served_rest c nodes n mid w' checked
-    (safe_rests c (record { entry = Ring next.ring; program = program; packet = next.packet; number = next.ring; world = record w { rings = next.rings } }) told mid (waiting_safe c nodes next program w checked rest e is_program) run)
+    (safe_rests c (record { entry = Ring next.ring; program = program; packet = next.packet; number = next.ring; world = record w { rings = next.rings } })
+    told mid (waiting_safe c nodes next program w checked rest e is_program) run)
     served
 
-pub serves_rest : (c : Setting) (nodes : Nodes) (n : ℕ) (w w' : World) (told : List Bool) (runs : ℕ) → IsPipeline c nodes → IsAtRest c w → Serves c nodes.rings n w told runs w' → IsAtRest c w'
+pub serves_rest : (c : Setting) (nodes : Nodes) (n : ℕ) (w w' : World) (told : List Bool) (runs : ℕ) → IsPipeline c nodes → IsAtRest c w →
+    Serves c nodes.rings n w told runs w' → IsAtRest c w'
 serves_rest c nodes zero w w' told runs checked rest (_, _, is) = subst (IsAtRest c) (sym is) rest
-serves_rest c nodes (suc n) w w' told runs checked rest serves = go (first_waiting w.rings) refl serves (λ mid told more. serves_rest c nodes n mid w' told more checked)
+serves_rest c nodes (suc n) w w' told runs checked rest serves = go (first_waiting w.rings) refl serves
+    (λ mid told more. serves_rest c nodes n mid w' told more checked)
   where
-    go : (o : Option Waiting) → first_waiting w.rings ≡ o → MatchOption o ((told ≡ []) × (runs ≡ 0) × (w' ≡ w)) (λ next. (program : List Instr) × (now later : List Bool) × (mid : World) × (more : ℕ) × (slice_get nodes.rings next.ring ≡ Some program) × NodeRun c program next.packet next.ring (record w { rings = next.rings }) now mid × Serves c nodes.rings n mid later more w' × (told ≡ now ++ later) × (runs ≡ more + 1)) → ((mid : World) (told : List Bool) (more : ℕ) → IsAtRest c mid → Serves c nodes.rings n mid told more w' → IsAtRest c w') → IsAtRest c w'
+    go : (o : Option Waiting) → first_waiting w.rings ≡ o → MatchOption o ((told ≡ []) × (runs ≡ 0) × (w' ≡ w)) (λ next. (program : List Instr)
+        × (now later : List Bool) × (mid : World) × (more : ℕ) × (slice_get nodes.rings next.ring ≡ Some program)
+        × NodeRun c program next.packet next.ring (record w { rings = next.rings }) now mid × Serves c nodes.rings n mid later more w' × (told ≡ now ++ later)
+        × (runs ≡ more + 1)) → ((mid : World) (told : List Bool) (more : ℕ) → IsAtRest c mid → Serves c nodes.rings n mid told more w' → IsAtRest c w') →
+        IsAtRest c w'
     go None e (_, _, is) on = subst (IsAtRest c) (sym is) rest
     go (Some next) e (program, now, later, mid, more, is_program, run, serves, _, _) on =
-        on mid later more (safe_rests c (record { entry = Ring next.ring; program = program; packet = next.packet; number = next.ring; world = record w { rings = next.rings } }) now mid (waiting_safe c nodes next program w checked rest e is_program) run) serves
+        on mid later more (safe_rests c (record {
+          entry = Ring next.ring;
+          program = program;
+          packet = next.packet;
+          number = next.ring;
+          world = record w { rings = next.rings };
+        }) now mid (waiting_safe c nodes next program w checked rest e is_program) run) serves
 
 -- a ring that has a packet has a node
-ring_node : (c : Setting) (nodes : Nodes) (w : World) (next : Waiting) → length nodes.rings ≡ length c.env.rings → IsAtRest c w → first_waiting w.rings ≡ Some next → (program : List Instr) × (slice_get nodes.rings next.ring ≡ Some program)
+ring_node : (c : Setting) (nodes : Nodes) (w : World) (next : Waiting) → length nodes.rings ≡ length c.env.rings → IsAtRest c w →
+    first_waiting w.rings ≡ Some next → (program : List Instr) × (slice_get nodes.rings next.ring ≡ Some program)
 ring_node c nodes w next count rest e =
     let (packets, there, _) = waits w.rings next e in
-    let (spec, is_ring, _) = zip_back (RingHolds c.env.pools (live (between w))) c.env.rings w.rings next.ring (next.packet ∷ packets) rest.ready.world.rings there in
+    let (spec, is_ring, _) = zip_back (RingHolds c.env.pools (live (between w))) c.env.rings w.rings next.ring (next.packet ∷ packets) rest.ready.world.rings
+    there in
     get_within nodes.rings next.ring (omega (arith, count, slice_get_within c.env.rings next.ring spec is_ring))
 
-pub serves_exist : (c : Setting) (nodes : Nodes) (n : ℕ) (w : World) → IsPipeline c nodes → IsAtRest c w → (told : List Bool) × (runs : ℕ) × (w' : World) × Serves c nodes.rings n w told runs w'
+pub serves_exist : (c : Setting) (nodes : Nodes) (n : ℕ) (w : World) → IsPipeline c nodes → IsAtRest c w →
+    (told : List Bool) × (runs : ℕ) × (w' : World) × Serves c nodes.rings n w told runs w'
 serves_exist c nodes zero w pipeline rest = ([], 0, w, (refl, refl, refl))
 serves_exist c nodes (suc n) w pipeline rest = go (first_waiting w.rings) refl (λ mid. serves_exist c nodes n mid pipeline)
   where
-    go : (o : Option Waiting) → first_waiting w.rings ≡ o → ((mid : World) → IsAtRest c mid → (told : List Bool) × (runs : ℕ) × (w' : World) × Serves c nodes.rings n mid told runs w') → (told : List Bool) × (runs : ℕ) × (w' : World) × MatchOption o ((told ≡ []) × (runs ≡ 0) × (w' ≡ w)) (λ next. (program : List Instr) × (now later : List Bool) × (mid : World) × (more : ℕ) × (slice_get nodes.rings next.ring ≡ Some program) × NodeRun c program next.packet next.ring (record w { rings = next.rings }) now mid × Serves c nodes.rings n mid later more w' × (told ≡ now ++ later) × (runs ≡ more + 1))
+    go : (o : Option Waiting) → first_waiting w.rings ≡ o → ((mid : World) → IsAtRest c mid →
+        (told : List Bool) × (runs : ℕ) × (w' : World) × Serves c nodes.rings n mid told runs w') →
+        (told : List Bool) × (runs : ℕ) × (w' : World) × MatchOption o ((told ≡ []) × (runs ≡ 0) × (w' ≡ w)) (λ next. (program : List Instr)
+        × (now later : List Bool) × (mid : World) × (more : ℕ) × (slice_get nodes.rings next.ring ≡ Some program)
+        × NodeRun c program next.packet next.ring (record w { rings = next.rings }) now mid × Serves c nodes.rings n mid later more w' × (told ≡ now ++ later)
+        × (runs ≡ more + 1))
     go None e on = ([], 0, w, (refl, refl, refl))
     go (Some next) e on =
         let (program, is_program) = ring_node c nodes w next pipeline.rings rest e in
-        let b : Beginning = record { entry = Ring next.ring; program = program; packet = next.packet; number = next.ring; world = record w { rings = next.rings } } in
+        let b : Beginning = record {
+          entry = Ring next.ring;
+          program = program;
+          packet = next.packet;
+          number = next.ring;
+          world = record w { rings = next.rings };
+        } in
         let safe = waiting_safe c nodes next program w pipeline rest e is_program in
         let (now, mid, run) = safe_ends c b safe in
         let (later, more, w', serves) = on mid (safe_rests c b now mid safe run) in
@@ -188,53 +272,97 @@ serves_exist c nodes (suc n) w pipeline rest = go (first_waiting w.rings) refl (
 
 -- ---- what becomes of a record
 -- with these buffers and these bytes in them
-received_ends : (c : Setting) (nodes : Nodes) (program : List Instr) (port : ℕ) (spec : PortSpec) (bytes : List ℕ) (w : World) (ns : List Number) (buffers : Buffers) → IsPipeline c nodes → slice_get c.env.ports port ≡ Some spec → slice_get nodes.ports port ≡ Some program → IsAtRest c w → needed c.env.pools spec.pool (length bytes) ≤ spec.segs → is_denied c (between w) spec.pool (needed c.env.pools spec.pool (length bytes)) ≡ false
-    → AreFresh c.env.pools (live (between w)) spec.pool (needed c.env.pools spec.pool (length bytes)) ns → Filled ns (received (room_at c.env.pools spec.pool) ns (length bytes)) bytes w.buffers buffers → (told : List Bool) × (w' : World) × Receives c program port spec bytes w told w'
+received_ends : (c : Setting) (nodes : Nodes) (program : List Instr) (port : ℕ) (spec : PortSpec) (bytes : List ℕ) (w : World) (ns : List Number)
+    (buffers : Buffers) → IsPipeline c nodes → slice_get c.env.ports port ≡ Some spec → slice_get nodes.ports port ≡ Some program → IsAtRest c w →
+    needed c.env.pools spec.pool (length bytes) ≤ spec.segs → is_denied c (between w) spec.pool (needed c.env.pools spec.pool (length bytes)) ≡ false
+    → AreFresh c.env.pools (live (between w)) spec.pool (needed c.env.pools spec.pool (length bytes)) ns →
+    Filled ns (received (room_at c.env.pools spec.pool) ns (length bytes)) bytes w.buffers buffers →
+    (told : List Bool) × (w' : World) × Receives c program port spec bytes w told w'
 received_ends c nodes program port spec bytes w ns buffers checked is_spec is_program rest fits given fresh filled =
     let node = checked.checked.ports port program is_program in
-    let (told, w', run) = safe_ends c (record { entry = Port port; program = program; packet = received (room_at c.env.pools spec.pool) ns (length bytes); number = port; world = record w { buffers = buffers; calls = w.calls + 1 } })
-    (safe_beginning c (Port port) program (received (room_at c.env.pools spec.pool) ns (length bytes)) port (record w { buffers = buffers; calls = w.calls + 1 }) node
-    (record_begins c node.question port spec bytes w ns buffers (sym node.env_is) node.entry_is is_spec (checked.checked.rooms port spec is_spec) checked.limits rest fits fresh filled)) in
-    (true ∷ told, w', record { fits = fits; given = given; numbers = ns; buffers = buffers; fresh = fresh; packet = received (room_at c.env.pools spec.pool) ns (length bytes); packet_is = refl; filled = filled; later = told; told_is = refl; run = run })
+    let (told, w', run) = safe_ends c (record {
+      entry = Port port;
+      program = program;
+      packet = received (room_at c.env.pools spec.pool) ns (length bytes);
+      number = port;
+      world = record w { buffers = buffers; calls = w.calls + 1 };
+    })
+    (safe_beginning c (Port port) program (received (room_at c.env.pools spec.pool) ns (length bytes)) port
+    (record w { buffers = buffers; calls = w.calls + 1 }) node
+    (record_begins c node.question port spec bytes w ns buffers (sym node.env_is) node.entry_is is_spec (checked.checked.rooms port spec is_spec)
+    checked.limits rest fits fresh filled)) in (
+      true ∷ told,
+      w',
+      record {
+        fits = fits;
+        given = given;
+        numbers = ns;
+        buffers = buffers;
+        fresh = fresh;
+        packet = received (room_at c.env.pools spec.pool) ns (length bytes);
+        packet_is = refl;
+        filled = filled;
+        later = told;
+        told_is = refl;
+        run = run;
+      },
+    )
 
 -- a record that is small enough, where its call is not refused, is received
-receives_exist : (c : Setting) (nodes : Nodes) (program : List Instr) (port : ℕ) (spec : PortSpec) (bytes : List ℕ) (w : World) → IsPipeline c nodes → slice_get c.env.ports port ≡ Some spec → slice_get nodes.ports port ≡ Some program → IsAtRest c w → AllByRecursion (λ x. x < 256) bytes → needed c.env.pools spec.pool (length bytes) ≤ spec.segs → is_denied c (between w) spec.pool (needed c.env.pools spec.pool (length bytes)) ≡ false → (told : List Bool) × (w' : World) × Receives c program port spec bytes w told w'
+receives_exist : (c : Setting) (nodes : Nodes) (program : List Instr) (port : ℕ) (spec : PortSpec) (bytes : List ℕ) (w : World) → IsPipeline c nodes →
+    slice_get c.env.ports port ≡ Some spec → slice_get nodes.ports port ≡ Some program → IsAtRest c w → AllByRecursion (λ x. x < 256) bytes →
+    needed c.env.pools spec.pool (length bytes) ≤ spec.segs → is_denied c (between w) spec.pool (needed c.env.pools spec.pool (length bytes)) ≡ false →
+    (told : List Bool) × (w' : World) × Receives c program port spec bytes w told w'
 receives_exist c nodes program port spec bytes w pipeline is_spec is_program rest small fits given =
     let pools = c.env.pools in
     let need = needed pools spec.pool (length bytes) in
     let (ns, fresh) = enough pools (live (between w)) spec.pool need (denied_or_enough c (between w) spec.pool need given) in
-    let (buffers, filled) = can_fill pools (live (between w)) spec.pool bytes ns w.buffers (pipeline.checked.rooms port spec is_spec) rest.ready.within.rooms fresh small in
+    let (buffers, filled) = can_fill pools (live (between w)) spec.pool bytes ns w.buffers (pipeline.checked.rooms port spec is_spec) rest.ready.within.rooms
+    fresh small in
     received_ends c nodes program port spec bytes w ns buffers pipeline is_spec is_program rest fits given fresh filled
 
-pub arrives_exist : (c : Setting) (nodes : Nodes) (program : List Instr) (port : ℕ) (spec : PortSpec) (bytes : List ℕ) (w : World) → IsPipeline c nodes → slice_get c.env.ports port ≡ Some spec → slice_get nodes.ports port ≡ Some program → IsAtRest c w → AllByRecursion (λ x. x < 256) bytes → (told : List Bool) × (w' : World) × Arrives c program port spec bytes w (outcome_for c spec bytes w) told w'
+pub arrives_exist : (c : Setting) (nodes : Nodes) (program : List Instr) (port : ℕ) (spec : PortSpec) (bytes : List ℕ) (w : World) → IsPipeline c nodes →
+    slice_get c.env.ports port ≡ Some spec → slice_get nodes.ports port ≡ Some program → IsAtRest c w → AllByRecursion (λ x. x < 256) bytes →
+    (told : List Bool) × (w' : World) × Arrives c program port spec bytes w (outcome_for c spec bytes w) told w'
 arrives_exist c nodes program port spec bytes w pipeline is_spec is_program rest small =
-    go (nat_lt spec.segs (needed c.env.pools spec.pool (length bytes))) (is_denied c (between w) spec.pool (needed c.env.pools spec.pool (length bytes))) refl refl
+    go (nat_lt spec.segs (needed c.env.pools spec.pool (length bytes))) (is_denied c (between w) spec.pool (needed c.env.pools spec.pool (length bytes))) refl
+    refl
   where
-    go : (large denied : Bool) → nat_lt spec.segs (needed c.env.pools spec.pool (length bytes)) ≡ large → is_denied c (between w) spec.pool (needed c.env.pools spec.pool (length bytes)) ≡ denied → (told : List Bool) × (w' : World) × Arrives c program port spec bytes w (if large then Oversize else if denied then NoBuffer else Got) told w'
+    go : (large denied : Bool) → nat_lt spec.segs (needed c.env.pools spec.pool (length bytes)) ≡ large →
+        is_denied c (between w) spec.pool (needed c.env.pools spec.pool (length bytes)) ≡ denied →
+        (told : List Bool) × (w' : World) × Arrives c program port spec bytes w (if large then Oversize else if denied then NoBuffer else Got) told w'
     go true denied e f = ([], w, (ltb-true spec.segs (needed c.env.pools spec.pool (length bytes)) e, refl, refl))
     go false true e f = (false ∷ [], record w { calls = w.calls + 1 }, (ltb-false spec.segs (needed c.env.pools spec.pool (length bytes)) e, f, refl, refl))
-    go false false e f = receives_exist c nodes program port spec bytes w pipeline is_spec is_program rest small (ltb-false spec.segs (needed c.env.pools spec.pool (length bytes)) e) f
+    go false false e f = receives_exist c nodes program port spec bytes w pipeline is_spec is_program rest small
+        (ltb-false spec.segs (needed c.env.pools spec.pool (length bytes)) e) f
 
 -- the outcome is the one that the pattern and the free buffers decide
-pub arrives_outcome : (c : Setting) (program : List Instr) (port : ℕ) (spec : PortSpec) (bytes : List ℕ) (w w' : World) (outcome : Outcome) (told : List Bool) → Arrives c program port spec bytes w outcome told w' → outcome ≡ outcome_for c spec bytes w
+pub arrives_outcome : (c : Setting) (program : List Instr) (port : ℕ) (spec : PortSpec) (bytes : List ℕ) (w w' : World) (outcome : Outcome) (told : List Bool)
+    → Arrives c program port spec bytes w outcome told w' → outcome ≡ outcome_for c spec bytes w
 arrives_outcome c program port spec bytes w w' Oversize told (large, _, _) =
     let e = lt-ltb spec.segs (needed c.env.pools spec.pool (length bytes)) large in
     sym (ap (λ b. if b then Oversize else if is_denied c (between w) spec.pool (needed c.env.pools spec.pool (length bytes)) then NoBuffer else Got) e)
 arrives_outcome c program port spec bytes w w' NoBuffer told (fits, denied, _, _) =
     let e = le-ltb spec.segs (needed c.env.pools spec.pool (length bytes)) fits in
-    sym (ap (λ b. if b then Oversize else if is_denied c (between w) spec.pool (needed c.env.pools spec.pool (length bytes)) then NoBuffer else Got) e ∙ ap (λ b. if b then NoBuffer else Got) denied)
+    sym (ap (λ b. if b then Oversize else if is_denied c (between w) spec.pool (needed c.env.pools spec.pool (length bytes)) then NoBuffer else Got) e
+    ∙ ap (λ b. if b then NoBuffer else Got) denied)
 arrives_outcome c program port spec bytes w w' Got told r =
     let e = le-ltb spec.segs (needed c.env.pools spec.pool (length bytes)) r.fits in
-    sym (ap (λ b. if b then Oversize else if is_denied c (between w) spec.pool (needed c.env.pools spec.pool (length bytes)) then NoBuffer else Got) e ∙ ap (λ b. if b then NoBuffer else Got) r.given)
+    sym (ap (λ b. if b then Oversize else if is_denied c (between w) spec.pool (needed c.env.pools spec.pool (length bytes)) then NoBuffer else Got) e
+    ∙ ap (λ b. if b then NoBuffer else Got) r.given)
 
 -- ---- a turn
-pub turn_rest : (c : Setting) (nodes : Nodes) (port : ℕ) (bytes : List ℕ) (w w' : World) (outcome : Outcome) (runs : ℕ) (told : List Bool) → IsPipeline c nodes → IsAtRest c w → Turn c nodes port bytes w outcome runs told w' → IsAtRest c w'
+pub turn_rest : (c : Setting) (nodes : Nodes) (port : ℕ) (bytes : List ℕ) (w w' : World) (outcome : Outcome) (runs : ℕ) (told : List Bool) →
+    IsPipeline c nodes → IsAtRest c w → Turn c nodes port bytes w outcome runs told w' → IsAtRest c w'
 turn_rest c nodes port bytes w w' outcome runs told checked rest t =
     serves_rest c nodes 32 t.mid w' t.later t.more checked
     (arrives_rest c nodes t.program port t.spec bytes w t.mid outcome t.now checked t.program_is t.spec_is rest t.arrives) t.serves
 
 -- a record's part and the rings' part make a turn
-turn_of : (c : Setting) (nodes : Nodes) (program : List Instr) (port : ℕ) (spec : PortSpec) (bytes : List ℕ) (w mid w' : World) (outcome : Outcome) (now later : List Bool) (more : ℕ) → slice_get c.env.ports port ≡ Some spec → slice_get nodes.ports port ≡ Some program → Arrives c program port spec bytes w outcome now mid → Serves c nodes.rings 32 mid later more w' → Turn c nodes port bytes w outcome (runs_of outcome + more) (now ++ later) w'
+turn_of : (c : Setting) (nodes : Nodes) (program : List Instr) (port : ℕ) (spec : PortSpec) (bytes : List ℕ) (w mid w' : World) (outcome : Outcome)
+    (now later : List Bool) (more : ℕ) → slice_get c.env.ports port ≡ Some spec → slice_get nodes.ports port ≡ Some program →
+    Arrives c program port spec bytes w outcome now mid → Serves c nodes.rings 32 mid later more w' →
+    Turn c nodes port bytes w outcome (runs_of outcome + more) (now ++ later) w'
 turn_of c nodes program port spec bytes w mid w' outcome now later more is_spec is_program arrives serves = record {
   spec = spec;
   program = program;
@@ -250,23 +378,34 @@ turn_of c nodes program port spec bytes w mid w' outcome now later more is_spec 
   runs_is = refl;
 }
 
-pub turn_exists : (c : Setting) (nodes : Nodes) (port : ℕ) (spec : PortSpec) (bytes : List ℕ) (w : World) → IsPipeline c nodes → slice_get c.env.ports port ≡ Some spec → IsAtRest c w → AllByRecursion (λ x. x < 256) bytes → (outcome : Outcome) × (runs : ℕ) × (told : List Bool) × (w' : World) × Turn c nodes port bytes w outcome runs told w'
+pub turn_exists : (c : Setting) (nodes : Nodes) (port : ℕ) (spec : PortSpec) (bytes : List ℕ) (w : World) → IsPipeline c nodes → slice_get c.env.ports port
+    ≡ Some spec → IsAtRest c w → AllByRecursion (λ x. x < 256) bytes → (outcome : Outcome) × (runs : ℕ) × (told : List Bool) × (w' : World)
+    × Turn c nodes port bytes w outcome runs told w'
 turn_exists c nodes port spec bytes w pipeline is_spec rest small =
     let (program, is_program) = get_within nodes.ports port (omega (arith, pipeline.ports, slice_get_within c.env.ports port spec is_spec)) in
     let outcome = outcome_for c spec bytes w in
     let (now, mid, arrives) = arrives_exist c nodes program port spec bytes w pipeline is_spec is_program rest small in
-    let (later, more, w', serves) = serves_exist c nodes 32 mid pipeline (arrives_rest c nodes program port spec bytes w mid outcome now pipeline is_program is_spec rest arrives) in
-    (outcome, runs_of outcome + more, now ++ later, w', turn_of c nodes program port spec bytes w mid w' outcome now later more is_spec is_program arrives serves)
+    let (later, more, w', serves) = serves_exist c nodes 32 mid pipeline
+    (arrives_rest c nodes program port spec bytes w mid outcome now pipeline is_program is_spec rest arrives) in (
+      outcome,
+      runs_of outcome + more,
+      now ++ later,
+      w',
+      turn_of c nodes program port spec bytes w mid w' outcome now later more is_spec is_program arrives
+          serves,
+    )
 
 -- every node run of a turn is safe
-pub turn_runs_safe : (c : Setting) (nodes : Nodes) (port : ℕ) (bytes : List ℕ) (w : World) (b : Beginning) → IsPipeline c nodes → IsAtRest c w → IsOfTurn c nodes port bytes w b → IsSafeBeginning c b
+pub turn_runs_safe : (c : Setting) (nodes : Nodes) (port : ℕ) (bytes : List ℕ) (w : World) (b : Beginning) → IsPipeline c nodes → IsAtRest c w →
+    IsOfTurn c nodes port bytes w b → IsSafeBeginning c b
 turn_runs_safe c nodes port bytes w b checked rest (inl r) = record_safe c nodes port bytes w b checked rest r
 turn_runs_safe c nodes port bytes w b checked rest (inr r) =
     let mid = arrives_rest c nodes r.own port r.spec bytes w r.mid r.outcome r.told checked r.own_is r.spec_is rest r.arrives in
     let last = served_rest c nodes r.served r.mid r.last checked mid r.has_served in
     subst (IsSafeBeginning c) (sym r.is) (waiting_safe c nodes r.next r.program r.last checked last r.waits r.program_is)
 
-pub turn_safe : (c : Setting) (nodes : Nodes) (port : ℕ) (spec : PortSpec) (bytes : List ℕ) (w : World) → IsPipeline c nodes → slice_get c.env.ports port ≡ Some spec → IsAtRest c w → AllByRecursion (λ x. x < 256) bytes → IsSafeTurn c nodes port spec bytes w
+pub turn_safe : (c : Setting) (nodes : Nodes) (port : ℕ) (spec : PortSpec) (bytes : List ℕ) (w : World) → IsPipeline c nodes → slice_get c.env.ports port
+    ≡ Some spec → IsAtRest c w → AllByRecursion (λ x. x < 256) bytes → IsSafeTurn c nodes port spec bytes w
 turn_safe c nodes port spec bytes w pipeline is_spec rest small = record {
   never_stuck = λ b of. safe_never_stuck c b (turn_runs_safe c nodes port bytes w b pipeline rest of);
   runs = λ b of. turn_runs_safe c nodes port bytes w b pipeline rest of;

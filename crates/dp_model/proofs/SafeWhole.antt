@@ -20,19 +20,23 @@ drained_rest c w rest = record {
   ready = drained_ready c w rest.ready;
   owned = fewer_owned c.env.pools (live (between w)) (live (between (with_empty_outboxes w)))
       (fewer_by (live (between w)) (live (between (with_empty_outboxes w)))
-      (λ test. let e : tally test (segments_listed (with_empty_outboxes w).outboxes) ≡ 0 = ap (tally test) (nothing_listed w.outboxes) in omega (arith, e, tally_live test (between w), tally_live test (between (with_empty_outboxes w)))))
+      (λ test. let e : tally test (segments_listed (with_empty_outboxes w).outboxes) ≡ 0 = ap (tally test) (nothing_listed w.outboxes) in
+      omega (arith, e, tally_live test (between w), tally_live test (between (with_empty_outboxes w)))))
       rest.owned;
   packets = record { held = tt; rings = rest.packets.rings; outboxes = no_lists w.outboxes };
 }
 
 -- ---- runs
-pub run_rest : {T : Type 0} (c : Setting) (nodes : Nodes) (arrivals : List (Arrival T)) (w w' : World) (told : List Bool) (outcomes : List Outcome) (captures : List (List (T × List ℕ))) → IsPipeline c nodes → IsAtRest c w → Run c nodes arrivals w told outcomes captures w' → IsAtRest c w'
+pub run_rest : {T : Type 0} (c : Setting) (nodes : Nodes) (arrivals : List (Arrival T)) (w w' : World) (told : List Bool) (outcomes : List Outcome)
+    (captures : List (List (T × List ℕ))) → IsPipeline c nodes → IsAtRest c w → Run c nodes arrivals w told outcomes captures w' → IsAtRest c w'
 run_rest c nodes [] w w' told outcomes captures checked rest (_, _, _, is) = subst (IsAtRest c) (sym is) rest
 run_rest c nodes (a ∷ arrivals) w w' told outcomes captures checked rest (outcome, others, now, later, runs, mid, more, turn, run, _, _, _) =
     run_rest c nodes arrivals (with_empty_outboxes mid) w' later others more checked
     (drained_rest c mid (turn_rest c nodes a.port a.bytes w mid outcome runs now checked rest turn)) run
 
-pub run_exists : {T : Type 0} (c : Setting) (nodes : Nodes) (arrivals : List (Arrival T)) (w : World) → IsPipeline c nodes → IsAtRest c w → AllByRecursion (CanArrive c) arrivals → (told : List Bool) × (outcomes : List Outcome) × (captures : List (List (T × List ℕ))) × (w' : World) × Run c nodes arrivals w told outcomes captures w'
+pub run_exists : {T : Type 0} (c : Setting) (nodes : Nodes) (arrivals : List (Arrival T)) (w : World) → IsPipeline c nodes → IsAtRest c w →
+    AllByRecursion (CanArrive c) arrivals → (told : List Bool) × (outcomes : List Outcome) × (captures : List (List (T × List ℕ))) × (w' : World)
+    × Run c nodes arrivals w told outcomes captures w'
 run_exists c nodes [] w pipeline rest can = ([], [], replicate (length c.env.ports) [], w, (refl, refl, refl, refl))
 run_exists {T} c nodes (a ∷ arrivals) w pipeline rest can =
     let (spec, is_spec) = get_within c.env.ports a.port can.0.port in
@@ -42,11 +46,14 @@ run_exists {T} c nodes (a ∷ arrivals) w pipeline rest can =
     (now ++ later, outcome ∷ outcomes, joined (records_at a.time mid) more, w', (outcome, outcomes, now, later, runs, mid, more, turn, run, refl, refl, refl))
 
 -- every node run of a run is safe
-pub run_runs_safe : {T : Type 0} (c : Setting) (nodes : Nodes) (arrivals : List (Arrival T)) (w : World) (b : Beginning) → IsPipeline c nodes → IsAtRest c w → IsOfRun c nodes arrivals w b → IsSafeBeginning c b
+pub run_runs_safe : {T : Type 0} (c : Setting) (nodes : Nodes) (arrivals : List (Arrival T)) (w : World) (b : Beginning) → IsPipeline c nodes → IsAtRest c w →
+    IsOfRun c nodes arrivals w b → IsSafeBeginning c b
 run_runs_safe c nodes arrivals w b checked rest r =
-    turn_runs_safe c nodes r.arrival.port r.arrival.bytes r.last b checked (run_rest c nodes r.before w r.last r.told r.outcomes r.captures checked rest r.run) r.of_turn
+    turn_runs_safe c nodes r.arrival.port r.arrival.bytes r.last b checked
+    (run_rest c nodes r.before w r.last r.told r.outcomes r.captures checked rest r.run) r.of_turn
 
-pub run_safe : {T : Type 0} (c : Setting) (nodes : Nodes) (arrivals : List (Arrival T)) (w : World) → IsPipeline c nodes → IsAtRest c w → AllByRecursion (CanArrive c) arrivals → AreSafe c nodes arrivals w
+pub run_safe : {T : Type 0} (c : Setting) (nodes : Nodes) (arrivals : List (Arrival T)) (w : World) → IsPipeline c nodes → IsAtRest c w →
+    AllByRecursion (CanArrive c) arrivals → AreSafe c nodes arrivals w
 run_safe c nodes arrivals w pipeline rest can = record {
   never_stuck = λ b of. safe_never_stuck c b (run_runs_safe c nodes arrivals w b pipeline rest of);
   runs = λ b of. run_runs_safe c nodes arrivals w b pipeline rest of;

@@ -1,5 +1,6 @@
 -- Sharing groups, when registers and references change.
-use Rattle.std.proofs.Common.{◌≡◌, ◌≢◌, ◌⊎◌, ℕ, zero, suc, ◌+◌, ◌≤◌, Bool, true, false, cond, List, [], ◌∷◌, length, Option, Some, None, refl, sym, ◌∙◌, ap, subst, arith, inl, inr, ⊎_elim}
+use Rattle.std.proofs.Common.{◌≡◌, ◌≢◌, ◌⊎◌, ℕ, zero, suc, ◌+◌, ◌≤◌, Bool, true, false, cond, List, [], ◌∷◌, length, Option, Some, None, refl, sym, ◌∙◌, ap}
+use Rattle.std.proofs.Common.{subst, arith, inl, inr, ⊎_elim}
 use Rattle.std.specs.Prelude.{slice_get, slice_set, count_by, ◌==◌}
 use Rattle.std.specs.List.{AllByRecursion}
 use Rattle.std.proofs.lemmas.List.{length-set}
@@ -16,7 +17,8 @@ use Rattle.dp_model.specs.Laws.References.{refs-cons, refs-append, refs_of, refs
 use Rattle.dp_model.specs.Laws.Lists.{get_set_other, get_set_same}
 use Rattle.dp_model.specs.Laws.Cases.{one_if, by_cases}
 use Rattle.dp_model.specs.Laws.Stored.{same_is}
-use Rattle.dp_model.specs.Laws.Groups.{size-cons, size_same, belongs_at, belongs_there, belongs_other, belongs_set, other_group, in_one, belongs_in, belongs_out}
+use Rattle.dp_model.specs.Laws.Groups.{size-cons, size_same, belongs_at, belongs_there, belongs_other, belongs_set, other_group, in_one, belongs_in}
+use Rattle.dp_model.specs.Laws.Groups.{belongs_out}
 
 -- ---- the registers of a group
 
@@ -28,7 +30,8 @@ size_none (x ∷ xs) g none =
     omega (arith, here, size-cons x xs g, size_none xs g (λ i. none (suc i)))
 
 -- a register set
-pub size_set : (facts : List Fact) (p : ℕ) (f f' : Fact) (g : ℕ) → slice_get facts p ≡ Some f → size (slice_set facts p f') g + one_if (is_in g f) ≡ size facts g + one_if (is_in g f')
+pub size_set : (facts : List Fact) (p : ℕ) (f f' : Fact) (g : ℕ) → slice_get facts p ≡ Some f → size (slice_set facts p f') g + one_if (is_in g f)
+    ≡ size facts g + one_if (is_in g f')
 size_set [] p f f' g e = cc
 size_set (x ∷ facts) zero f f' g e =
     let same : one_if (is_in g x) ≡ one_if (is_in g f) = ap (λ y. one_if (is_in g y)) (same_Some x f e) in
@@ -41,7 +44,8 @@ pub member_or_none : (facts : List Fact) (g : ℕ) → ((i : ℕ) × (belongs fa
 member_or_none [] g = inr (λ i. refl)
 member_or_none (f ∷ facts) g = go (is_in g f) refl (member_or_none facts g)
   where
-    go : (b : Bool) → is_in g f ≡ b → ((i : ℕ) × (belongs facts g i ≡ true)) ⊎ ((i : ℕ) → belongs facts g i ≡ false) → ((i : ℕ) × (belongs (f ∷ facts) g i ≡ true)) ⊎ ((i : ℕ) → belongs (f ∷ facts) g i ≡ false)
+    go : (b : Bool) → is_in g f ≡ b → ((i : ℕ) × (belongs facts g i ≡ true)) ⊎ ((i : ℕ) → belongs facts g i ≡ false) →
+        ((i : ℕ) × (belongs (f ∷ facts) g i ≡ true)) ⊎ ((i : ℕ) → belongs (f ∷ facts) g i ≡ false)
     go true e later = inl (0, e)
     go false e (inl (i, h)) = inl (suc i, h)
     go false e (inr none) = inr each
@@ -77,7 +81,8 @@ all_counted P (s ∷ k) each = (each s.buffer (refs_first s k), all_counted P k 
 -- ---- what a group has
 module _ (live : List Segment) (facts : List Fact) (packets : List (Option Packet)) (g : ℕ) where
   -- the buffers of a register of the group have as many references as the group has registers
-  pub group_refs : GroupHolds live facts packets g → (p : ℕ) (k : Packet) (b : Number) → belongs facts g p ≡ true → slice_get packets p ≡ Some (Some k) → 1 ≤ refs k b → refs live b ≡ size facts g
+  pub group_refs : GroupHolds live facts packets g → (p : ℕ) (k : Packet) (b : Number) → belongs facts g p ≡ true → slice_get packets p ≡ Some (Some k) →
+      1 ≤ refs k b → refs live b ≡ size facts g
   group_refs h p k b in_it at one =
       let (t, there, alike) = h.same p in_it in
       let same : t ≡ k = cc (at, there) in
@@ -85,7 +90,8 @@ module _ (live : List Segment) (facts : List Fact) (packets : List (Option Packe
       (subst (λ bs. 1 ≤ count_by (λ n. same_number n b) bs) alike (omega (arith, one, refs_counted t b, ap (λ x. refs x b) same)))
 
   -- each of its registers refers to them
-  pub group_each : GroupHolds live facts packets g → (p : ℕ) (k : Packet) (b : Number) → belongs facts g p ≡ true → slice_get packets p ≡ Some (Some k) → 1 ≤ refs k b → (i : ℕ) → belongs facts g i ≡ true → (t : Packet) × (slice_get packets i ≡ Some (Some t)) × (refs t b ≡ refs k b)
+  pub group_each : GroupHolds live facts packets g → (p : ℕ) (k : Packet) (b : Number) → belongs facts g p ≡ true → slice_get packets p ≡ Some (Some k) →
+      1 ≤ refs k b → (i : ℕ) → belongs facts g i ≡ true → (t : Packet) × (slice_get packets i ≡ Some (Some t)) × (refs t b ≡ refs k b)
   group_each h p k b in_it at one i here =
       let (t, there, alike) = h.same i here in
       let (j, other, alike') = h.same p in_it in
@@ -93,7 +99,8 @@ module _ (live : List Segment) (facts : List Fact) (packets : List (Option Packe
       (t, there, refs_alike t k b (alike ∙ (sym alike' ∙ ap buffers_of same)))
 
   -- a group holds whose registers and buffers are known by one of them
-  pub group_from : (p : ℕ) (k : Packet) → ((i : ℕ) → belongs facts g i ≡ true → (t : Packet) × (slice_get packets i ≡ Some (Some t)) × (buffers_of t ≡ buffers_of k)) → ((b : Number) → 1 ≤ refs k b → refs live b ≡ size facts g) → GroupHolds live facts packets g
+  pub group_from : (p : ℕ) (k : Packet) → ((i : ℕ) → belongs facts g i ≡ true → (t : Packet) × (slice_get packets i ≡ Some (Some t))
+      × (buffers_of t ≡ buffers_of k)) → ((b : Number) → 1 ≤ refs k b → refs live b ≡ size facts g) → GroupHolds live facts packets g
   group_from p k each counted = record { buffers = buffers_of k; same = each; counted = all_counted (λ b. refs live b ≡ size facts g) k counted }
 
   -- a group without registers
@@ -104,7 +111,8 @@ module _ (live : List Segment) (facts : List Fact) (packets : List (Option Packe
       no p h = let e : false ≡ true = sym (none p) ∙ h in cc
 
 -- ---- a group has all references to its buffers
-held-cons : (o : Option Packet) (packets : List (Option Packet)) (b : Number) → refs (segments_held (o ∷ packets)) b ≡ refs_of o b + refs (segments_held packets) b
+held-cons : (o : Option Packet) (packets : List (Option Packet)) (b : Number) → refs (segments_held (o ∷ packets)) b
+    ≡ refs_of o b + refs (segments_held packets) b
 held-cons None packets b = omega arith
 held-cons (Some k) packets b = refs-append k (segments_held packets) b
 
@@ -113,7 +121,8 @@ abbrev pub AllRefer : List Fact → List (Option Packet) → ℕ → Number → 
 AllRefer facts packets g b = (i : ℕ) → belongs facts g i ≡ true → (k : Packet) × (slice_get packets i ≡ Some (Some k)) × (1 ≤ refs k b)
 
 -- so there are at least as many references
-pub count_le : (facts : List Fact) (packets : List (Option Packet)) (g : ℕ) (b : Number) → AllRefer facts packets g b → size facts g ≤ refs (segments_held packets) b
+pub count_le : (facts : List Fact) (packets : List (Option Packet)) (g : ℕ) (b : Number) → AllRefer facts packets g b →
+    size facts g ≤ refs (segments_held packets) b
 count_le [] packets g b each = omega arith
 count_le (f ∷ facts) [] g b each = go (is_in g f) refl (count_le facts [] g b (λ i h. let (k, at, one) = each (suc i) h in cc))
   where
@@ -136,13 +145,16 @@ apart : (facts : List Fact) (g i p : ℕ) → belongs facts g i ≡ true → bel
 apart facts g i p inside outside e = let wrong : true ≡ false = sym inside ∙ (ap (belongs facts g) e ∙ outside) in cc
 
 -- what another register holds is beside them
-pub others_le : (facts : List Fact) (packets : List (Option Packet)) (g : ℕ) (b : Number) (p : ℕ) (o : Option Packet) → AllRefer facts packets g b → belongs facts g p ≡ false → slice_get packets p ≡ Some o → size facts g + refs_of o b ≤ refs (segments_held packets) b
+pub others_le : (facts : List Fact) (packets : List (Option Packet)) (g : ℕ) (b : Number) (p : ℕ) (o : Option Packet) → AllRefer facts packets g b →
+    belongs facts g p ≡ false → slice_get packets p ≡ Some o → size facts g + refs_of o b ≤ refs (segments_held packets) b
 others_le facts packets g b p o each out there =
-    let c = count_le facts (slice_set packets p None) g b (λ i h. let (k, at, one) = each i h in (k, get_set_other packets p i None (apart facts g i p h out) ∙ at, one)) in
+    let c = count_le facts (slice_set packets p None) g b (λ i h. let (k, at, one) = each i h in
+    (k, get_set_other packets p i None (apart facts g i p h out) ∙ at, one)) in
     omega (arith, c, refs_set packets p o None b there)
 
 -- and of its own registers each has just one
-pub own_le : (facts : List Fact) (packets : List (Option Packet)) (g : ℕ) (b : Number) (p : ℕ) (k : Packet) → AllRefer facts packets g b → belongs facts g p ≡ true → slice_get packets p ≡ Some (Some k) → size facts g + refs k b ≤ refs (segments_held packets) b + 1
+pub own_le : (facts : List Fact) (packets : List (Option Packet)) (g : ℕ) (b : Number) (p : ℕ) (k : Packet) → AllRefer facts packets g b →
+    belongs facts g p ≡ true → slice_get packets p ≡ Some (Some k) → size facts g + refs k b ≤ refs (segments_held packets) b + 1
 own_le facts packets g b p k each in_it there =
     let (f, at_f, is_f) = belongs_there facts g p in_it in
     let rest = slice_set facts p Empty in
@@ -160,7 +172,11 @@ abbrev pub HasAlike : List (Option Packet) → ℕ → Packet → Type 0
 HasAlike packets i k = (t : Packet) × (slice_get packets i ≡ Some (Some t)) × (buffers_of t ≡ buffers_of k)
 
 -- a group whose registers have the same buffers, with as many references to them
-pub group_stays : (live live' : List Segment) (facts facts' : List Fact) (packets packets' : List (Option Packet)) (g h : ℕ) → GroupHolds live facts packets g → length facts' ≡ length facts → ((i : ℕ) → belongs facts' h i ≡ belongs facts g i) → ((i : ℕ) (k : Packet) → belongs facts g i ≡ true → slice_get packets i ≡ Some (Some k) → HasAlike packets' i k) → ((i : ℕ) (k : Packet) (b : Number) → belongs facts g i ≡ true → slice_get packets i ≡ Some (Some k) → 1 ≤ refs k b → refs live' b ≡ refs live b) → GroupHolds live' facts' packets' h
+pub group_stays : (live live' : List Segment) (facts facts' : List Fact) (packets packets' : List (Option Packet)) (g h : ℕ) →
+    GroupHolds live facts packets g → length facts' ≡ length facts → ((i : ℕ) → belongs facts' h i ≡ belongs facts g i) →
+    ((i : ℕ) (k : Packet) → belongs facts g i ≡ true → slice_get packets i ≡ Some (Some k) → HasAlike packets' i k) →
+    ((i : ℕ) (k : Packet) (b : Number) → belongs facts g i ≡ true → slice_get packets i ≡ Some (Some k) → 1 ≤ refs k b → refs live' b ≡ refs live b) →
+    GroupHolds live' facts' packets' h
 group_stays live live' facts facts' packets packets' g h holds long same alike refs_same = ⊎_elim some none (member_or_none facts g)
   where
     none : ((i : ℕ) → belongs facts g i ≡ false) → GroupHolds live' facts' packets' h
@@ -175,7 +191,8 @@ group_stays live live' facts facts' packets packets' g h holds long same alike r
         let (t, there, ist) = holds.same i here in
         let (u, there', isu) = alike i t here there in
         (u, there', isu ∙ (ist ∙ sym is)))
-        (λ b one. refs_same p k b in_it at one ∙ (group_refs live facts packets g holds p k b in_it at one ∙ size_same facts facts' g h (sym long) (λ i. sym (same i))))
+        (λ b one. refs_same p k b in_it at one ∙ (group_refs live facts packets g holds p k b in_it at one
+        ∙ size_same facts facts' g h (sym long) (λ i. sym (same i))))
 
 -- ---- who has references to the buffers of a group
 module _ (live : List Segment) (facts : List Fact) (packets : List (Option Packet)) (g : ℕ) where
@@ -183,29 +200,45 @@ module _ (live : List Segment) (facts : List Fact) (packets : List (Option Packe
   abbrev pub AreLive : Type 0
   AreLive = (b : Number) → refs (segments_held packets) b ≤ refs live b
 
-  all_refer : GroupHolds live facts packets g → (i : ℕ) (k : Packet) (b : Number) → belongs facts g i ≡ true → slice_get packets i ≡ Some (Some k) → 1 ≤ refs k b → AllRefer facts packets g b
+  all_refer : GroupHolds live facts packets g → (i : ℕ) (k : Packet) (b : Number) → belongs facts g i ≡ true → slice_get packets i ≡ Some (Some k) →
+      1 ≤ refs k b → AllRefer facts packets g b
   all_refer h i k b inside at one j here =
       let (t, there, same) = group_each live facts packets g h i k b inside at one j here in
       (t, there, omega (arith, one, same))
 
   -- another register has none
-  pub other_refs : GroupHolds live facts packets g → AreLive → (p : ℕ) (o : Option Packet) → belongs facts g p ≡ false → slice_get packets p ≡ Some o → (i : ℕ) (k : Packet) (b : Number) → belongs facts g i ≡ true → slice_get packets i ≡ Some (Some k) → 1 ≤ refs k b → refs_of o b ≡ 0
+  pub other_refs : GroupHolds live facts packets g → AreLive → (p : ℕ) (o : Option Packet) → belongs facts g p ≡ false → slice_get packets p ≡ Some o →
+      (i : ℕ) (k : Packet) (b : Number) → belongs facts g i ≡ true → slice_get packets i ≡ Some (Some k) → 1 ≤ refs k b → refs_of o b ≡ 0
   other_refs h are p o out there i k b inside at one =
       omega (arith, are b, group_refs live facts packets g h i k b inside at one, others_le facts packets g b p o (all_refer h i k b inside at one) out there)
 
   -- and each of its own has one
-  pub own_refs : GroupHolds live facts packets g → AreLive → (p : ℕ) (j : Packet) → belongs facts g p ≡ true → slice_get packets p ≡ Some (Some j) → (i : ℕ) (k : Packet) (b : Number) → belongs facts g i ≡ true → slice_get packets i ≡ Some (Some k) → 1 ≤ refs k b → refs j b ≡ 1
+  pub own_refs : GroupHolds live facts packets g → AreLive → (p : ℕ) (j : Packet) → belongs facts g p ≡ true → slice_get packets p ≡ Some (Some j) →
+      (i : ℕ) (k : Packet) (b : Number) → belongs facts g i ≡ true → slice_get packets i ≡ Some (Some k) → 1 ≤ refs k b → refs j b ≡ 1
   own_refs h are p j here there i k b inside at one =
       let (t, there', same) = group_each live facts packets g h i k b inside at one p here in
       let is : t ≡ j = cc (there, there') in
-      omega (arith, one, same, ap (λ x. refs x b) is, are b, group_refs live facts packets g h i k b inside at one, own_le facts packets g b p j (all_refer h i k b inside at one) here there)
+      omega (
+        arith,
+        one,
+        same,
+        ap (λ x. refs x b) is,
+        are b,
+        group_refs live facts packets g h i k b inside at one,
+        own_le facts packets g b p j (all_refer h i k b inside at one) here there,
+      )
 
 -- ---- a register set, with a fact of the same groups and the same buffers
-pub groups_set : (live live' : List Segment) (facts : List Fact) (packets : List (Option Packet)) (p : ℕ) (old f : Fact) (o : Option Packet) → ((g : ℕ) → GroupHolds live facts packets g) → slice_get facts p ≡ Some old → ((g : ℕ) → is_in g f ≡ is_in g old) → ((g : ℕ) (k : Packet) → is_in g old ≡ true → slice_get packets p ≡ Some (Some k) → (t : Packet) × (o ≡ Some t) × (buffers_of t ≡ buffers_of k)) → ((g i : ℕ) (k : Packet) (b : Number) → belongs facts g i ≡ true → slice_get packets i ≡ Some (Some k) → 1 ≤ refs k b → refs live' b ≡ refs live b) → (g : ℕ) → GroupHolds live' (slice_set facts p f) (slice_set packets p o) g
+pub groups_set : (live live' : List Segment) (facts : List Fact) (packets : List (Option Packet)) (p : ℕ) (old f : Fact) (o : Option Packet) →
+    ((g : ℕ) → GroupHolds live facts packets g) → slice_get facts p ≡ Some old → ((g : ℕ) → is_in g f ≡ is_in g old) →
+    ((g : ℕ) (k : Packet) → is_in g old ≡ true → slice_get packets p ≡ Some (Some k) → (t : Packet) × (o ≡ Some t) × (buffers_of t ≡ buffers_of k)) →
+    ((g i : ℕ) (k : Packet) (b : Number) → belongs facts g i ≡ true → slice_get packets i ≡ Some (Some k) → 1 ≤ refs k b → refs live' b ≡ refs live b) →
+    (g : ℕ) → GroupHolds live' (slice_set facts p f) (slice_set packets p o) g
 groups_set live live' facts packets p old f o holds there groups like same g =
     group_stays live live' facts (slice_set facts p f) packets (slice_set packets p o) g g (holds g) (length-set facts p f)
     (λ i. ⊎_elim
-    (λ is. ap (belongs (slice_set facts p f) g) is ∙ (belongs_set facts g p old f there ∙ (groups g ∙ (sym (belongs_at facts g p old there) ∙ ap (belongs facts g) (sym is)))))
+    (λ is. ap (belongs (slice_set facts p f) g) is ∙ (belongs_set facts g p old f there
+    ∙ (groups g ∙ (sym (belongs_at facts g p old there) ∙ ap (belongs facts g) (sym is)))))
     (λ ne. belongs_other facts g p i f ne)
     (cases_eq i p))
     (λ i k inside at. ⊎_elim
@@ -219,7 +252,10 @@ groups_set live live' facts packets p old f o holds there groups like same g =
     (same g)
 
 -- ---- a packet is freed: its register leaves the group
-pub groups_freed : (live live' : List Segment) (facts : List Fact) (packets : List (Option Packet)) (p : ℕ) (k : Packet) → ((g : ℕ) → GroupHolds live facts packets g) → ((b : Number) → refs (segments_held packets) b ≤ refs live b) → slice_get packets p ≡ Some (Some k) → (f : Fact) → slice_get facts p ≡ Some f → ((b : Number) → refs live' b + refs k b ≡ refs live b) → (g : ℕ) → GroupHolds live' (slice_set facts p Empty) (slice_set packets p None) g
+pub groups_freed : (live live' : List Segment) (facts : List Fact) (packets : List (Option Packet)) (p : ℕ) (k : Packet) →
+    ((g : ℕ) → GroupHolds live facts packets g) → ((b : Number) → refs (segments_held packets) b ≤ refs live b) → slice_get packets p ≡ Some (Some k) →
+    (f : Fact) → slice_get facts p ≡ Some f → ((b : Number) → refs live' b + refs k b ≡ refs live b) →
+    (g : ℕ) → GroupHolds live' (slice_set facts p Empty) (slice_set packets p None) g
 groups_freed live live' facts packets p k holds are there f at_f gone g = go (is_in g f) refl
   where
     out_now : belongs (slice_set facts p Empty) g p ≡ false
@@ -242,7 +278,14 @@ groups_freed live live' facts packets p k holds are there f at_f gone g = go (is
         (t, get_set_other packets p x None ne' ∙ at', alike' ∙ sym alike))
         (λ b one.
         let unit : one_if (is_in g f) ≡ 1 = ap one_if e in
-        omega (arith, unit, gone b, own_refs live facts packets g (holds g) are p k was there i j b before at one, group_refs live facts packets g (holds g) i j b before at one, size_set facts p f Empty g at_f))
+        omega (
+          arith,
+          unit,
+          gone b,
+          own_refs live facts packets g (holds g) are p k was there i j b before at one,
+          group_refs live facts packets g (holds g) i j b before at one,
+          size_set facts p f Empty g at_f,
+        ))
 
     go : (t : Bool) → is_in g f ≡ t → GroupHolds live' (slice_set facts p Empty) (slice_set packets p None) g
     go true e = ⊎_elim (some e) (group_none live' (slice_set facts p Empty) (slice_set packets p None) g) (member_or_none (slice_set facts p Empty) g)
@@ -266,7 +309,8 @@ length_reshared g share (f ∷ facts) = ap suc (length_reshared g share facts)
 
 module _ (live : List Segment) (facts : List Fact) (packets : List (Option Packet)) where
   -- another group stays as it is
-  stays_beside : (g x share : ℕ) → x ≢ g → (share == share_of_group x) ≡ false → GroupHolds live facts packets x → GroupHolds live (reshared g share facts) packets x
+  stays_beside : (g x share : ℕ) → x ≢ g → (share == share_of_group x) ≡ false → GroupHolds live facts packets x →
+      GroupHolds live (reshared g share facts) packets x
   stays_beside g x share ne other h =
       group_stays live live facts (reshared g share facts) packets packets x x h (length_reshared g share facts)
       (λ i. by_cases (belongs facts g i)
@@ -281,18 +325,21 @@ module _ (live : List Segment) (facts : List Fact) (packets : List (Option Packe
       (λ outside. belongs_out facts g g share i outside ∙ outside))
 
   -- a group is dissolved
-  pub groups_gone : (g share : ℕ) → ((x : ℕ) → (share == share_of_group x) ≡ false) → ((x : ℕ) → GroupHolds live facts packets x) → (x : ℕ) → GroupHolds live (reshared g share facts) packets x
+  pub groups_gone : (g share : ℕ) → ((x : ℕ) → (share == share_of_group x) ≡ false) → ((x : ℕ) → GroupHolds live facts packets x) →
+      (x : ℕ) → GroupHolds live (reshared g share facts) packets x
   groups_gone g share none holds x = ⊎_elim
       (λ is. subst (GroupHolds live (reshared g share facts) packets) (sym is) (is_gone g share (none g)))
       (λ ne. stays_beside g x share ne (none x) (holds x))
       (cases_eq x g)
 
   -- a group gets another name, to which no register belongs
-  pub groups_renamed : (g m : ℕ) → (m ≡ g) ⊎ ((i : ℕ) → belongs facts m i ≡ false) → ((x : ℕ) → GroupHolds live facts packets x) → (x : ℕ) → GroupHolds live (reshared g (share_of_group m) facts) packets x
+  pub groups_renamed : (g m : ℕ) → (m ≡ g) ⊎ ((i : ℕ) → belongs facts m i ≡ false) → ((x : ℕ) → GroupHolds live facts packets x) →
+      (x : ℕ) → GroupHolds live (reshared g (share_of_group m) facts) packets x
   groups_renamed g m free holds x = ⊎_elim
       (λ is. subst (GroupHolds live (reshared g (share_of_group m) facts) packets) (sym is) named)
       (λ ne. ⊎_elim
-      (λ is. subst (GroupHolds live (reshared g (share_of_group m) facts) packets) (sym is) (is_gone g (share_of_group m) (other_group m g (λ e. ne (is ∙ sym e)))))
+      (λ is. subst (GroupHolds live (reshared g (share_of_group m) facts) packets) (sym is)
+      (is_gone g (share_of_group m) (other_group m g (λ e. ne (is ∙ sym e)))))
       (λ apart. stays_beside g x (share_of_group m) apart (other_group m x (λ e. ne (sym e))) (holds x))
       (cases_eq x g))
       (cases_eq x m)
@@ -306,7 +353,11 @@ module _ (live : List Segment) (facts : List Fact) (packets : List (Option Packe
           (λ i k inside at. (k, at, refl)) (λ i k b inside at one. refl)
 
 -- ---- a clone joins the groups of its source
-pub groups_cloned : (live live' : List Segment) (facts : List Fact) (packets : List (Option Packet)) (p q : ℕ) (old f : Fact) (k k' : Packet) → ((g : ℕ) → GroupHolds live facts packets g) → ((b : Number) → refs (segments_held packets) b ≤ refs live b) → slice_get facts p ≡ Some old → ((g : ℕ) → is_in g old ≡ false) → slice_get facts q ≡ Some f → slice_get packets p ≡ Some None → slice_get packets q ≡ Some (Some k) → buffers_of k' ≡ buffers_of k → ((b : Number) → refs live' b ≡ refs live b + refs k b) → (g : ℕ) → GroupHolds live' (slice_set facts p f) (slice_set packets p (Some k')) g
+pub groups_cloned : (live live' : List Segment) (facts : List Fact) (packets : List (Option Packet)) (p q : ℕ) (old f : Fact) (k k' : Packet) →
+    ((g : ℕ) → GroupHolds live facts packets g) → ((b : Number) → refs (segments_held packets) b ≤ refs live b) → slice_get facts p ≡ Some old →
+    ((g : ℕ) → is_in g old ≡ false) → slice_get facts q ≡ Some f → slice_get packets p ≡ Some None → slice_get packets q ≡ Some (Some k) →
+    buffers_of k' ≡ buffers_of k → ((b : Number) → refs live' b ≡ refs live b + refs k b) →
+    (g : ℕ) → GroupHolds live' (slice_set facts p f) (slice_set packets p (Some k')) g
 groups_cloned live live' facts packets p q old f k k' holds are at_p none at_q empty there alike more g = by_cases (is_in g f) joins beside
   where
     new : belongs (slice_set facts p f) g p ≡ is_in g f
@@ -330,7 +381,15 @@ groups_cloned live live' facts packets p q old f k k' holds are at_p none at_q e
         let is : u ≡ k = cc (at', there) in
         (t, get_set_other packets p i (Some k') ne' ∙ at, same ∙ (sym same' ∙ ap buffers_of is)))
         (cases_eq i p))
-        (λ b one. omega (arith, more b, in_new, in_old, size_set facts p old f g at_p, group_refs live facts packets g (holds g) q k b source there one, own_refs live facts packets g (holds g) are q k source there q k b source there one))
+        (λ b one. omega (
+          arith,
+          more b,
+          in_new,
+          in_old,
+          size_set facts p old f g at_p,
+          group_refs live facts packets g (holds g) q k b source there one,
+          own_refs live facts packets g (holds g) are q k source there q k b source there one,
+        ))
 
     beside : is_in g f ≡ false → GroupHolds live' (slice_set facts p f) (slice_set packets p (Some k')) g
     beside e =
@@ -340,4 +399,9 @@ groups_cloned live live' facts packets p q old f k k' holds are at_p none at_q e
         (λ ne. belongs_other facts g p i f ne)
         (cases_eq i p))
         (λ i t inside at. (t, get_set_other packets p i (Some k') (apart facts g i p inside out) ∙ at, refl))
-        (λ i t b inside at one. omega (arith, more b, other_refs live facts packets g (holds g) are q (Some k) (belongs_at facts g q f at_q ∙ e) there i t b inside at one))
+        (λ i t b inside at one. omega (
+          arith,
+          more b,
+          other_refs live facts packets g (holds g) are q (Some k) (belongs_at facts g q f at_q
+              ∙ e) there i t b inside at one,
+        ))

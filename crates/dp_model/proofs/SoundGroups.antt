@@ -28,7 +28,8 @@ pub of_group : (live : List Segment) (m : ℕ) (k : Packet) → IsShared live (s
 of_group live m k = far_shared live (8 + m) k (omega arith)
 
 -- ---- the registers of a group get another share
-fact_reshared : (pools : List PoolSpec) (live : List Segment) (g share : ℕ) (f : Fact) (o : Option Packet) → FactHolds pools live f o → ((k : Packet) → is_in g f ≡ true → o ≡ Some k → IsShared live share k) → FactHolds pools live (reshared_fact g share f) o
+fact_reshared : (pools : List PoolSpec) (live : List Segment) (g share : ℕ) (f : Fact) (o : Option Packet) → FactHolds pools live f o →
+    ((k : Packet) → is_in g f ≡ true → o ≡ Some k → IsShared live share k) → FactHolds pools live (reshared_fact g share f) o
 fact_reshared pools live g share Empty o h each = h
 fact_reshared pools live g share (Held old head tail first last segs) None h each = h
 fact_reshared pools live g share (Held old head tail first last segs) (Some k) m each =
@@ -38,7 +39,9 @@ fact_reshared pools live g share (Held old head tail first last segs) (Some k) m
     shares true e = subst (λ t. IsShared live (cond t share old) k) (sym e) (each k e refl)
     shares false e = subst (λ t. IsShared live (cond t share old) k) (sym e) m.share
 
-facts_reshared : (pools : List PoolSpec) (live : List Segment) (g share : ℕ) (facts : List Fact) (packets : List (Option Packet)) → AllZip (FactHolds pools live) facts packets → ((i : ℕ) (k : Packet) → belongs facts g i ≡ true → slice_get packets i ≡ Some (Some k) → IsShared live share k) → AllZip (FactHolds pools live) (reshared g share facts) packets
+facts_reshared : (pools : List PoolSpec) (live : List Segment) (g share : ℕ) (facts : List Fact) (packets : List (Option Packet)) →
+    AllZip (FactHolds pools live) facts packets → ((i : ℕ) (k : Packet) → belongs facts g i ≡ true → slice_get packets i ≡ Some (Some k) →
+    IsShared live share k) → AllZip (FactHolds pools live) (reshared g share facts) packets
 facts_reshared pools live g share [] packets h each = h
 facts_reshared pools live g share (f ∷ facts) [] h each = h
 facts_reshared pools live g share (f ∷ facts) (o ∷ packets) h each = (
@@ -46,11 +49,18 @@ facts_reshared pools live g share (f ∷ facts) (o ∷ packets) h each = (
   facts_reshared pools live g share facts packets h.1 (λ i k. each (suc i) k),
 )
 
-pub known_reshared : (c : Setting) (row : Row) (s : State) (g share : ℕ) → Known c row s → ((i : ℕ) (k : Packet) → belongs row.facts g i ≡ true → Holds s i k → IsShared (live s) share k) → ((x : ℕ) → GroupHolds (live s) (reshared g share row.facts) s.packets x) → Known c (with_shares row g share) s
+pub known_reshared : (c : Setting) (row : Row) (s : State) (g share : ℕ) → Known c row s →
+    ((i : ℕ) (k : Packet) → belongs row.facts g i ≡ true → Holds s i k → IsShared (live s) share k) →
+    ((x : ℕ) → GroupHolds (live s) (reshared g share row.facts) s.packets x) → Known c (with_shares row g share) s
 known_reshared c row s g share known shares groups =
     let r = known.row_holds in
     record {
-      row_holds = record { is_live = r.is_live; facts = facts_reshared c.env.pools (live s) g share row.facts s.packets r.facts shares; groups = groups; bounds = r.bounds };
+      row_holds = record {
+        is_live = r.is_live;
+        facts = facts_reshared c.env.pools (live s) g share row.facts s.packets r.facts shares;
+        groups = groups;
+        bounds = r.bounds;
+      };
       world_holds = known.world_holds;
       tables = known.tables;
     }
@@ -68,7 +78,8 @@ known_dissolved c row s p known = go (group_at row p) refl
 -- ---- names
 -- ---- what is left of a group gets its name
 -- its name is its own, or that of a register that had none of its own name
-pub known_renamed : (c : Setting) (row : Row) (s : State) (g : ℕ) → Known c row s → ((m : ℕ) → belongs row.facts g m ≡ true → (m ≡ g) ⊎ ((i : ℕ) → belongs row.facts m i ≡ false)) → Known c (renamed row g) s
+pub known_renamed : (c : Setting) (row : Row) (s : State) (g : ℕ) → Known c row s →
+    ((m : ℕ) → belongs row.facts g m ≡ true → (m ≡ g) ⊎ ((i : ℕ) → belongs row.facts m i ≡ false)) → Known c (renamed row g) s
 known_renamed c row s g known free = by_cases (size row.facts g == 1) alone more
   where
     h : GroupHolds (live s) row.facts s.packets g
@@ -79,7 +90,8 @@ known_renamed c row s g known free = by_cases (size row.facts g == 1) alone more
     sole one i k inside at =
         let (t, there, alike) = h.same i inside in
         let same : t ≡ k = cc (at, there) in
-        segments k (subst (AllByRecursion (λ b. refs (live s) b ≡ 1)) (sym alike ∙ ap buffers_of same) (subst (λ n. AllByRecursion (λ b. refs (live s) b ≡ n) h.buffers) one h.counted))
+        segments k (subst (AllByRecursion (λ b. refs (live s) b ≡ 1)) (sym alike
+        ∙ ap buffers_of same) (subst (λ n. AllByRecursion (λ b. refs (live s) b ≡ n) h.buffers) one h.counted))
       where
         segments : (k : Packet) → AllByRecursion (λ b. refs (live s) b ≡ 1) (buffers_of k) → IsSole (live s) k
         segments [] all = tt
@@ -88,12 +100,14 @@ known_renamed c row s g known free = by_cases (size row.facts g == 1) alone more
     alone : (size row.facts g == 1) ≡ true → Known c (renamed row g) s
     alone e =
         subst (λ n. Known c (with_shares row g n) s) (sym (ap (λ b. cond b 2 (option_map_or share_of_group (least row.facts g) 0)) e))
-        (known_reshared c row s g 2 known (sole (eqb-true (size row.facts g) 1 e)) (groups_gone (live s) row.facts s.packets g 2 sole_no_group known.row_holds.groups))
+        (known_reshared c row s g 2 known (sole (eqb-true (size row.facts g) 1 e))
+        (groups_gone (live s) row.facts s.packets g 2 sole_no_group known.row_holds.groups))
 
     several : (o : Option ℕ) → least row.facts g ≡ o → Known c (with_shares row g (option_map_or share_of_group o 0)) s
     several None e = known_reshared c row s g 0 known (λ i k inside at. tt) (groups_gone (live s) row.facts s.packets g 0 loose_no_group known.row_holds.groups)
     several (Some m) e =
-        known_reshared c row s g (share_of_group m) known (λ i k inside at. of_group (live s) m k) (groups_renamed (live s) row.facts s.packets g m (free m (least_belongs row.facts g m e)) known.row_holds.groups)
+        known_reshared c row s g (share_of_group m) known (λ i k inside at. of_group (live s) m k)
+        (groups_renamed (live s) row.facts s.packets g m (free m (least_belongs row.facts g m e)) known.row_holds.groups)
 
     more : (size row.facts g == 1) ≡ false → Known c (renamed row g) s
     more e =

@@ -8,7 +8,9 @@ use Rattle.dp_model.specs.declared.instr.Instr.{Instr}
 use Rattle.dp_model.specs.declared.instr.Instr.TheVariants.{Free, Prepend, Adj, Append, Trim, Chain}
 use Rattle.dp_model.specs.Environments.{room_at}
 use Rattle.dp_model.specs.Buffers.{Number, Buffers, same_number}
-use Rattle.dp_model.specs.Packets.{Segment, Packet, refs, headroom, tailroom, first_len, last_len, IsHeadSole, IsTailSole, IsWithin, AreOwned, Lies, needed, allocated, received, cloned, at_front, at_end, more_before, less_before, more_behind, less_behind, zeroed_before, zeroed_behind, stored}
+use Rattle.dp_model.specs.Packets.{Segment, Packet, refs, headroom, tailroom, first_len, last_len, IsHeadSole, IsTailSole, IsWithin, AreOwned, Lies, needed}
+use Rattle.dp_model.specs.Packets.{allocated, received, cloned, at_front, at_end, more_before, less_before, more_behind, less_behind, zeroed_before}
+use Rattle.dp_model.specs.Packets.{zeroed_behind, stored}
 use Rattle.dp_model.specs.Machine.{Setting, State, live, segments_held, Acts, with_packet, with_buffers, goes_on}
 use Rattle.dp_model.specs.Stores.{Store, segments_of, Has, with_slot, Becomes, unwritten, Allocates, ReceivesInto, Clones, Chains, IsWellFormedStore}
 use Rattle.dp_model.specs.Laws.References.{refs_set, refs_held}
@@ -26,7 +28,8 @@ pub free_refs : (s : Store) (h : ℕ) (k : Packet) (b : Number) → Has s h k �
 free_refs s h k b has = omega (arith, refs_set s.slots h (Some k) None b has)
 
 -- a packet that comes brings its own
-pub give_refs : (s : Store) (h : ℕ) (k : Packet) (b : Number) → slice_get s.slots h ≡ Some None → refs (segments_of (with_slot h (Some k) s)) b ≡ refs (segments_of s) b + refs k b
+pub give_refs : (s : Store) (h : ℕ) (k : Packet) (b : Number) → slice_get s.slots h ≡ Some None → refs (segments_of (with_slot h (Some k) s)) b
+    ≡ refs (segments_of s) b + refs k b
 give_refs s h k b empty = omega (arith, refs_set s.slots h None (Some k) b empty)
 
 -- which are one for each buffer of a new packet, and those of the source for a clone
@@ -40,16 +43,23 @@ pub cloned_refs : (ns : List Number) (k : Packet) (b : Number) → length ns ≡
 cloned_refs = refs_cloned
 
 -- a change of the first or of the last segment leaves all references
-pub front_refs : (s : Store) (h : ℕ) (f : Segment → Segment) (k : Packet) (b : Number) → ((x : Segment) → (f x).buffer ≡ x.buffer) → Has s h k → refs (segments_of (with_slot h (Some (at_front f k)) s)) b ≡ refs (segments_of s) b
+pub front_refs : (s : Store) (h : ℕ) (f : Segment → Segment) (k : Packet) (b : Number) → ((x : Segment) → (f x).buffer ≡ x.buffer) → Has s h k →
+    refs (segments_of (with_slot h (Some (at_front f k)) s)) b ≡ refs (segments_of s) b
 front_refs s h f k b keeps has =
-    omega (arith, refs_set s.slots h (Some k) (Some (at_front f k)) b has, tally_front (λ x. same_number x.buffer b) f k (λ x. ap (λ n. same_number n b) (keeps x)))
+    omega (
+      arith,
+      refs_set s.slots h (Some k) (Some (at_front f k)) b has,
+      tally_front (λ x. same_number x.buffer b) f k (λ x. ap (λ n. same_number n b) (keeps x)),
+    )
 
-pub end_refs : (s : Store) (h : ℕ) (f : Segment → Segment) (k : Packet) (b : Number) → ((x : Segment) → (f x).buffer ≡ x.buffer) → Has s h k → refs (segments_of (with_slot h (Some (at_end f k)) s)) b ≡ refs (segments_of s) b
+pub end_refs : (s : Store) (h : ℕ) (f : Segment → Segment) (k : Packet) (b : Number) → ((x : Segment) → (f x).buffer ≡ x.buffer) → Has s h k →
+    refs (segments_of (with_slot h (Some (at_end f k)) s)) b ≡ refs (segments_of s) b
 end_refs s h f k b keeps has =
     omega (arith, refs_set s.slots h (Some k) (Some (at_end f k)) b has, tally_end (λ x. same_number x.buffer b) f k (λ x. ap (λ n. same_number n b) (keeps x)))
 
 -- so does chaining
-pub chain_refs : (s : Store) (h t : ℕ) (k tail : Packet) (b : Number) → h ≢ t → Has s h k → Has s t tail → refs (segments_held (slice_set (slice_set s.slots h (Some (k ++ tail))) t None)) b ≡ refs (segments_of s) b
+pub chain_refs : (s : Store) (h t : ℕ) (k tail : Packet) (b : Number) → h ≢ t → Has s h k → Has s t tail →
+    refs (segments_held (slice_set (slice_set s.slots h (Some (k ++ tail))) t None)) b ≡ refs (segments_of s) b
 chain_refs s h t k tail b apart hk ht = tally_chain (λ x. same_number x.buffer b) s.slots h t k tail apart hk ht
 
 -- ---- a layer as a state whose registers are the handles
@@ -58,7 +68,19 @@ abbrev setting_of : List PoolSpec → Setting
 setting_of pools = record { env = record { pools = pools; tables = 0; rings = []; ports = [] }; tables = []; pattern = [] }
 
 abbrev state_of : Store → State
-state_of s = record { packets = s.slots; numbers = []; jumps = 0; world = record { buffers = s.buffers; rings = []; outboxes = []; calls = 0; steps = 0; cuts = 0 } }
+state_of s = record {
+  packets = s.slots;
+  numbers = [];
+  jumps = 0;
+  world = record {
+    buffers = s.buffers;
+    rings = [];
+    outboxes = [];
+    calls = 0;
+    steps = 0;
+    cuts = 0;
+  };
+}
 
 live_of : (s : Store) → live (state_of s) ≡ segments_of s
 live_of s = append-nil (segments_held s.slots)
@@ -70,7 +92,8 @@ of_state : (s : Store) → IsInside (setting_of s.pools) (state_of s) → HasOwn
 of_state s inside owned = record { within = subst (IsWithin s.pools s.buffers) (live_of s) inside; owned = subst (AreOwned s.pools) (live_of s) owned }
 
 -- what an instruction does
-acted : (s : Store) (i : Instr) (s' : Store) → s'.pools ≡ s.pools → IsWellFormedStore s → Acts (setting_of s.pools) 0 (state_of s) i (goes_on 0 (state_of s')) → IsWellFormedStore s'
+acted : (s : Store) (i : Instr) (s' : Store) → s'.pools ≡ s.pools → IsWellFormedStore s →
+    Acts (setting_of s.pools) 0 (state_of s) i (goes_on 0 (state_of s')) → IsWellFormedStore s'
 acted s i s' same well acts =
     let (inside, owned) = to_state s well in
     of_state s'
@@ -88,69 +111,96 @@ tail_sole_of s k sole = subst (λ l. IsTailSole l k) (sym (live_of s)) sole
 pub free_well : (s : Store) (h : ℕ) (k : Packet) → IsWellFormedStore s → Has s h k → IsWellFormedStore (with_slot h None s)
 free_well s h k well has = acted s (Free h) (with_slot h None s) refl well (k, has, refl)
 
-pub prepend_well : (s s' : Store) (h n : ℕ) (k : Packet) → IsWellFormedStore s → Has s h k → n ≤ headroom k → IsHeadSole (segments_of s) k → Becomes s s' h (at_front (more_before n)) (zeroed_before n) → IsWellFormedStore s'
+pub prepend_well : (s s' : Store) (h n : ℕ) (k : Packet) → IsWellFormedStore s → Has s h k → n ≤ headroom k → IsHeadSole (segments_of s) k →
+    Becomes s s' h (at_front (more_before n)) (zeroed_before n) → IsWellFormedStore s'
 prepend_well s s' h n k well has le sole becomes =
     subst IsWellFormedStore (sym (becomes k has))
-    (acted s (Prepend h n) (record s { buffers = zeroed_before n k s.buffers; slots = slice_set s.slots h (Some (at_front (more_before n) k)) }) refl well (k, has, le, head_sole_of s k sole, refl))
+    (acted s (Prepend h n) (record s { buffers = zeroed_before n k s.buffers; slots = slice_set s.slots h (Some (at_front (more_before n) k)) }) refl well (
+      k,
+      has,
+      le,
+      head_sole_of s k sole,
+      refl,
+    ))
 
-pub adj_well : (s s' : Store) (h n : ℕ) (k : Packet) → IsWellFormedStore s → Has s h k → n ≤ first_len k → Becomes s s' h (at_front (less_before n)) unwritten → IsWellFormedStore s'
+pub adj_well : (s s' : Store) (h n : ℕ) (k : Packet) → IsWellFormedStore s → Has s h k → n ≤ first_len k →
+    Becomes s s' h (at_front (less_before n)) unwritten → IsWellFormedStore s'
 adj_well s s' h n k well has le becomes =
     subst IsWellFormedStore (sym (becomes k has))
     (acted s (Adj h n) (record s { slots = slice_set s.slots h (Some (at_front (less_before n) k)) }) refl well (k, has, le, refl))
 
-pub append_well : (s s' : Store) (h n : ℕ) (k : Packet) → IsWellFormedStore s → Has s h k → n ≤ tailroom s.pools k → IsTailSole (segments_of s) k → Becomes s s' h (at_end (more_behind n)) (zeroed_behind n) → IsWellFormedStore s'
+pub append_well : (s s' : Store) (h n : ℕ) (k : Packet) → IsWellFormedStore s → Has s h k → n ≤ tailroom s.pools k → IsTailSole (segments_of s) k →
+    Becomes s s' h (at_end (more_behind n)) (zeroed_behind n) → IsWellFormedStore s'
 append_well s s' h n k well has le sole becomes =
     subst IsWellFormedStore (sym (becomes k has))
-    (acted s (Append h n) (record s { buffers = zeroed_behind n k s.buffers; slots = slice_set s.slots h (Some (at_end (more_behind n) k)) }) refl well (k, has, le, tail_sole_of s k sole, refl))
+    (acted s (Append h n) (record s { buffers = zeroed_behind n k s.buffers; slots = slice_set s.slots h (Some (at_end (more_behind n) k)) }) refl well (
+      k,
+      has,
+      le,
+      tail_sole_of s k sole,
+      refl,
+    ))
 
-pub trim_well : (s s' : Store) (h n : ℕ) (k : Packet) → IsWellFormedStore s → Has s h k → n ≤ last_len k → Becomes s s' h (at_end (less_behind n)) unwritten → IsWellFormedStore s'
+pub trim_well : (s s' : Store) (h n : ℕ) (k : Packet) → IsWellFormedStore s → Has s h k → n ≤ last_len k → Becomes s s' h (at_end (less_behind n)) unwritten →
+    IsWellFormedStore s'
 trim_well s s' h n k well has le becomes =
     subst IsWellFormedStore (sym (becomes k has))
     (acted s (Trim h n) (record s { slots = slice_set s.slots h (Some (at_end (less_behind n) k)) }) refl well (k, has, le, refl))
 
-pub chain_well : (s s' : Store) (h t : ℕ) (k tail : Packet) → IsWellFormedStore s → h ≢ t → Has s h k → Has s t tail → length k + length tail ≤ 64 → Chains s h t s' → IsWellFormedStore s'
+pub chain_well : (s s' : Store) (h t : ℕ) (k tail : Packet) → IsWellFormedStore s → h ≢ t → Has s h k → Has s t tail → length k + length tail ≤ 64 →
+    Chains s h t s' → IsWellFormedStore s'
 chain_well s s' h t k tail well apart hk ht few chains =
     subst IsWellFormedStore (sym (chains k hk tail ht))
     (acted s (Chain h t) (record s { slots = slice_set (slice_set s.slots h (Some (k ++ tail))) t None }) refl well (k, tail, hk, ht, apart, few, refl))
 
 -- a store writes within the first segment
-pub store_well : (s s' : Store) (h place w n : ℕ) (k : Packet) → IsWellFormedStore s → Has s h k → place + w ≤ first_len k → Becomes s s' h (λ k. k) (stored place w n) → IsWellFormedStore s'
+pub store_well : (s s' : Store) (h place w n : ℕ) (k : Packet) → IsWellFormedStore s → Has s h k → place + w ≤ first_len k →
+    Becomes s s' h (λ k. k) (stored place w n) → IsWellFormedStore s'
 store_well s s' h place w n k well has le becomes =
     let (inside, owned) = to_state s well in
     let c = setting_of s.pools in
     let lies = inside_held c (state_of s) h k inside has in
-    let wrote : IsInside c (with_buffers (stored place w n k s.buffers) (state_of s)) = stored_within s.pools s.buffers (live (state_of s)) place w n k le lies inside in
+    let wrote : IsInside c (with_buffers (stored place w n k s.buffers) (state_of s)) =
+    stored_within s.pools s.buffers (live (state_of s)) place w n k le lies inside in
     let after : Store = record s { buffers = stored place w n k s.buffers; slots = slice_set s.slots h (Some k) } in
     subst IsWellFormedStore (sym (becomes k has))
     (of_state after (inside_set c (with_buffers (stored place w n k s.buffers) (state_of s)) h (Some k) wrote lies)
     (same_owned s h k has owned))
   where
-    same_owned : (s : Store) (h : ℕ) (k : Packet) → Has s h k → HasOwners (setting_of s.pools) (state_of s) → HasOwners (setting_of s.pools) (with_packet h k (state_of s))
+    same_owned : (s : Store) (h : ℕ) (k : Packet) → Has s h k → HasOwners (setting_of s.pools) (state_of s) →
+        HasOwners (setting_of s.pools) (with_packet h k (state_of s))
     same_owned s h k has owned = subst (λ slots. AreOwned s.pools (segments_held slots ++ [])) (sym (set_same s.slots h (Some k) has)) owned
 
 -- a call that is given free buffers
-gives_well : (s : Store) (h pool need : ℕ) (k : Packet) (ns : List Number) (buffers : Buffers) → IsWellFormedStore s → slice_get s.slots h ≡ Some None → IsWithin s.pools buffers (segments_of s) → AllByRecursion (Lies s.pools) k → MayCome s.pools (segments_of s) k → IsWellFormedStore (record s { buffers = buffers; slots = slice_set s.slots h (Some k) })
+gives_well : (s : Store) (h pool need : ℕ) (k : Packet) (ns : List Number) (buffers : Buffers) → IsWellFormedStore s → slice_get s.slots h ≡ Some None →
+    IsWithin s.pools buffers (segments_of s) → AllByRecursion (Lies s.pools) k → MayCome s.pools (segments_of s) k →
+    IsWellFormedStore (record s { buffers = buffers; slots = slice_set s.slots h (Some k) })
 gives_well s h pool need k ns buffers well empty within lies comes =
     let c = setting_of s.pools in
     let after : Store = record s { buffers = buffers; slots = slice_set s.slots h (Some k) } in
     let here : IsInside c (with_buffers buffers (state_of s)) = subst (IsWithin s.pools buffers) (sym (live_of s)) within in
     of_state after (inside_set c (with_buffers buffers (state_of s)) h (Some k) here lies)
     (subst (AreOwned s.pools) (sym (live_of after))
-    (more_owned s.pools (segments_of s) (segments_of after) k (more_by (segments_of s) (segments_of after) k (λ test. omega (arith, tally_set test s.slots h None (Some k) empty))) comes well.owned))
+    (more_owned s.pools (segments_of s) (segments_of after) k (more_by (segments_of s) (segments_of after) k
+    (λ test. omega (arith, tally_set test s.slots h None (Some k) empty))) comes well.owned))
 
 pub alloc_well : (s s' : Store) (pool h : ℕ) → IsWellFormedStore s → Allocates s pool s' (Some h) → IsWellFormedStore s'
 alloc_well s s' pool h well (enough, empty, ns, buffers, fresh, changes, is) =
     subst IsWellFormedStore (sym is)
     (gives_well s h pool 1 (allocated s.pools ns) ns buffers well empty (changes_within s.pools ns s.buffers buffers (segments_of s) changes well.within)
-    (lies_allocated s.pools (segments_of s) pool ns fresh.each) (direct_comes s.pools (segments_of s) pool 1 (allocated s.pools ns) ns (allocated_direct s.pools ns) fresh))
+    (lies_allocated s.pools (segments_of s) pool ns fresh.each) (direct_comes s.pools (segments_of s) pool 1 (allocated s.pools ns) ns
+    (allocated_direct s.pools ns) fresh))
 
-pub receive_well : (s s' : Store) (pool h : ℕ) (bytes : List ℕ) → 129 ≤ room_at s.pools pool → IsWellFormedStore s → ReceivesInto s pool bytes s' (Some h) → IsWellFormedStore s'
+pub receive_well : (s s' : Store) (pool h : ℕ) (bytes : List ℕ) → 129 ≤ room_at s.pools pool → IsWellFormedStore s → ReceivesInto s pool bytes s' (Some h) →
+    IsWellFormedStore s'
 receive_well s s' pool h bytes large well (enough, empty, ns, buffers, fresh, filled, is) =
     let room = room_at s.pools pool in
     let k = received room ns (length bytes) in
-    let holds : length bytes ≤ length ns * (room - 128) = subst (λ n. length bytes ≤ n * (room - 128)) (sym fresh.count) (needed_holds (room - 128) (length bytes) (omega (arith, large))) in
+    let holds : length bytes ≤ length ns * (room - 128) = subst (λ n. length bytes ≤ n * (room - 128)) (sym fresh.count)
+    (needed_holds (room - 128) (length bytes) (omega (arith, large))) in
     subst IsWellFormedStore (sym is)
-    (gives_well s h pool (needed s.pools pool (length bytes)) k ns buffers well empty (changes_within s.pools ns s.buffers buffers (segments_of s) filled.others well.within)
+    (gives_well s h pool (needed s.pools pool (length bytes)) k ns buffers well empty
+    (changes_within s.pools ns s.buffers buffers (segments_of s) filled.others well.within)
     (lies_received s.pools (segments_of s) pool ns (length bytes) (omega (arith, large)) holds fresh.each)
     (direct_comes s.pools (segments_of s) pool (needed s.pools pool (length bytes)) k ns (received_direct room ns (length bytes)) fresh))
 
@@ -160,4 +210,5 @@ clone_well s s' from pool h k well has clones =
     let lies = inside_held (setting_of s.pools) (state_of s) from k (to_state s well).0 has in
     subst IsWellFormedStore (sym is)
     (gives_well s h pool (length k) (cloned ns k) ns buffers well empty (subst (λ b. IsWithin s.pools b (segments_of s)) (sym same) well.within)
-    (lies_cloned s.pools ns k lies) (clone_comes s.pools (segments_of s) pool ns k (λ n. omega (arith, refs_cloned ns k n fresh.count, refs_held s.slots from (Some k) n has)) fresh))
+    (lies_cloned s.pools ns k lies) (clone_comes s.pools (segments_of s) pool ns k
+    (λ n. omega (arith, refs_cloned ns k n fresh.count, refs_held s.slots from (Some k) n has)) fresh))

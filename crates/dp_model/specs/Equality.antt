@@ -115,7 +115,8 @@ environment_itself a =
 -- the test passes exactly where the two are equal
 pub same_environment_decides : (a b : Environment) → Decides (same_environment a b) (a ≡ b)
 same_environment_decides a b = (
-  λ h. let (h2, ports) = two ((a.tables == b.tables) && pointwise same_pool a.pools b.pools && pointwise same_ring a.rings b.rings) (pointwise same_port a.ports b.ports) h in
+  λ h. let (h2, ports) = two ((a.tables == b.tables) && pointwise same_pool a.pools b.pools && pointwise same_ring a.rings b.rings)
+      (pointwise same_port a.ports b.ports) h in
       let (h1, rings) = two ((a.tables == b.tables) && pointwise same_pool a.pools b.pools) (pointwise same_ring a.rings b.rings) h2 in
       let (tables, pools) = two (a.tables == b.tables) (pointwise same_pool a.pools b.pools) h1 in
       environment_path a b

@@ -13,7 +13,8 @@ use Rattle.dp_model.specs.Rows.{entry_row}
 use Rattle.dp_model.specs.Rules.{Question, IsCertified}
 use Rattle.dp_model.specs.Machine.{Setting, World, State, live, Next, At, Move, Acts, IsPlace, Step, with_step, is_denied}
 use Rattle.dp_model.specs.Meaning.{RowHolds, RingHolds}
-use Rattle.dp_model.specs.Runs.{Goes, first_state, NodeRun, most_steps, NeverStuck, between, Outcome, Got, NoBuffer, Oversize, Arrives, Waiting, first_waiting, Nodes, Turn, Arrival, Run}
+use Rattle.dp_model.specs.Runs.{Goes, first_state, NodeRun, most_steps, NeverStuck, between, Outcome, Got, NoBuffer, Oversize, Arrives, Waiting}
+use Rattle.dp_model.specs.Runs.{first_waiting, Nodes, Turn, Arrival, Run}
 use Rattle.dp_model.specs.Laws.{RowHoldsAt, Ready, Begins, AreChecked}
 
 -- ---- packets
@@ -91,7 +92,13 @@ pub record IsOfRecord (c : Setting) (nodes : Nodes) (port : ℕ) (bytes : List �
   pub buffers : Buffers
   pub fresh : AreFresh c.env.pools (live (between w)) spec.pool (needed c.env.pools spec.pool (length bytes)) numbers
   pub filled : Filled numbers (received (room_at c.env.pools spec.pool) numbers (length bytes)) bytes w.buffers buffers
-  pub is : b ≡ record { entry = Port port; program = program; packet = received (room_at c.env.pools spec.pool) numbers (length bytes); number = port; world = record w { buffers = buffers; calls = w.calls + 1 } }
+  pub is : b ≡ record {
+    entry = Port port;
+    program = program;
+    packet = received (room_at c.env.pools spec.pool) numbers (length bytes);
+    number = port;
+    world = record w { buffers = buffers; calls = w.calls + 1 };
+  }
 
 -- so many whole node runs on packets that wait in rings, one after the other
 abbrev pub HasServed : Setting → List (List Instr) → ℕ → World → World → Type 0
@@ -156,7 +163,8 @@ pub record IsSafeTurn (c : Setting) (nodes : Nodes) (port : ℕ) (spec : PortSpe
   -- there is such a turn
   pub exists : (outcome : Outcome) × (runs : ℕ) × (told : List Bool) × (w' : World) × Turn c nodes port bytes w outcome runs told w'
   -- each has the outcome that the pattern and the free buffers decide, and where it ends the next one can begin
-  pub outcome : (outcome : Outcome) (runs : ℕ) (told : List Bool) (w' : World) → Turn c nodes port bytes w outcome runs told w' → outcome ≡ outcome_for c spec bytes w
+  pub outcome : (outcome : Outcome) (runs : ℕ) (told : List Bool) (w' : World) → Turn c nodes port bytes w outcome runs told w' →
+      outcome ≡ outcome_for c spec bytes w
   pub rests : (outcome : Outcome) (runs : ℕ) (told : List Bool) (w' : World) → Turn c nodes port bytes w outcome runs told w' → IsAtRest c w'
 
 -- ---- whole runs
@@ -180,12 +188,20 @@ pub record KeepsSafe (c : Setting) (nodes : Nodes) : Type 0 where
   -- those of a turn are safe
   pub turn_runs : (port : ℕ) (bytes : List ℕ) (w : World) (b : Beginning) → IsAtRest c w → IsOfTurn c nodes port bytes w b → IsSafeBeginning c b
   -- so is the next one on a packet of a ring
-  pub waiting : (next : Waiting) (program : List Instr) (w : World) → IsAtRest c w → first_waiting w.rings ≡ Some next → slice_get nodes.rings next.ring ≡ Some program →
-      IsSafeBeginning c (record { entry = Ring next.ring; program = program; packet = next.packet; number = next.ring; world = record w { rings = next.rings } })
+  pub waiting : (next : Waiting) (program : List Instr) (w : World) → IsAtRest c w → first_waiting w.rings ≡ Some next → slice_get nodes.rings next.ring
+      ≡ Some program →
+      IsSafeBeginning c (record {
+        entry = Ring next.ring;
+        program = program;
+        packet = next.packet;
+        number = next.ring;
+        world = record w { rings = next.rings };
+      })
   -- a safe one goes from instruction to instruction
   pub leads : (b : Beginning) → IsSafeBeginning c b → LeadsWithin c b
   -- whatever becomes of a record, the world is at rest again
-  pub arrives : (program : List Instr) (port : ℕ) (spec : PortSpec) (bytes : List ℕ) (w w' : World) (outcome : Outcome) (told : List Bool) → slice_get nodes.ports port ≡ Some program →
+  pub arrives : (program : List Instr) (port : ℕ) (spec : PortSpec) (bytes : List ℕ) (w w' : World) (outcome : Outcome) (told : List Bool) →
+      slice_get nodes.ports port ≡ Some program →
       slice_get c.env.ports port ≡ Some spec → IsAtRest c w → Arrives c program port spec bytes w outcome told w' → IsAtRest c w'
 
 -- no program has more instructions than that
@@ -216,13 +232,16 @@ pub record AreSafe {T : Type 0} (c : Setting) (nodes : Nodes) (arrivals : List (
   -- they are all safe
   pub runs : (b : Beginning) → IsOfRun c nodes arrivals w b → IsSafeBeginning c b
   -- there is such a run
-  pub exists : (told : List Bool) × (outcomes : List Outcome) × (captures : List (List (T × List ℕ))) × (w' : World) × Run c nodes arrivals w told outcomes captures w'
+  pub exists : (told : List Bool) × (outcomes : List Outcome) × (captures : List (List (T × List ℕ))) × (w' : World)
+      × Run c nodes arrivals w told outcomes captures w'
   -- and where it ends the next record can come
-  pub rests : (told : List Bool) (outcomes : List Outcome) (captures : List (List (T × List ℕ))) (w' : World) → Run c nodes arrivals w told outcomes captures w' → IsAtRest c w'
+  pub rests : (told : List Bool) (outcomes : List Outcome) (captures : List (List (T × List ℕ))) (w' : World) →
+      Run c nodes arrivals w told outcomes captures w' → IsAtRest c w'
 
 -- what holds of whole runs of every pipeline, whatever comes
 pub record KeepsRunsSafe {T : Type 0} (c : Setting) (nodes : Nodes) (arrivals : List (Arrival T)) (w : World) : Type 0 where
   -- their node runs are safe
   pub runs : (b : Beginning) → IsOfRun c nodes arrivals w b → IsSafeBeginning c b
   -- and where such a run ends the next record can come
-  pub rests : (told : List Bool) (outcomes : List Outcome) (captures : List (List (T × List ℕ))) (w' : World) → Run c nodes arrivals w told outcomes captures w' → IsAtRest c w'
+  pub rests : (told : List Bool) (outcomes : List Outcome) (captures : List (List (T × List ℕ))) (w' : World) →
+      Run c nodes arrivals w told outcomes captures w' → IsAtRest c w'

@@ -3,8 +3,11 @@
 ghost use Rattle.std.specs.Prelude.{◌≡◌, ◌≢◌, ℕ, ◌+◌, ◌*◌, ◌^◌, ◌<◌, ◌≤◌, Bool, true, ◌↔◌, length, IsTrue, slice_index, slice_get, Some, None};
 ghost use Rattle.dp_model.specs.Arithmetic.{bytes_in};
 ghost use Rattle.dp_model.specs.Environments.{room_at};
-ghost use Rattle.dp_model.specs.Packets.{Segment, headroom, tailroom, first_len, last_len, segment_bytes, packet_bytes, needed, available, IsHeadSole, IsTailSole, at_front, at_end, more_before, less_before, more_behind, less_behind, zeroed_before, zeroed_behind, stored, loaded};
-ghost use Rattle.dp_model.specs.Stores.{Store, segments_of, HasSome, IsLive, Of, with_slot, Becomes, unwritten, Allocates, ReceivesInto, Clones, Chains, IsWellFormedStore};
+ghost use Rattle.dp_model.specs.Packets.{Segment, headroom, tailroom, first_len, last_len, segment_bytes, packet_bytes, needed, available, IsHeadSole};
+ghost use Rattle.dp_model.specs.Packets.{IsTailSole, at_front, at_end, more_before, less_before, more_behind, less_behind, zeroed_before, zeroed_behind};
+ghost use Rattle.dp_model.specs.Packets.{stored, loaded};
+ghost use Rattle.dp_model.specs.Stores.{Store, segments_of, HasSome, IsLive, Of, with_slot, Becomes, unwritten, Allocates, ReceivesInto, Clones, Chains};
+ghost use Rattle.dp_model.specs.Stores.{IsWellFormedStore};
 
 use crate::registers::Width;
 use std::marker::Model;

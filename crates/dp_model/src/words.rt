@@ -8,9 +8,12 @@ ghost use Rattle.dp_model.specs.Machine.{Setting, State, World, At, Move, Acts, 
 ghost use Rattle.dp_model.specs.Jumps.{label_of};
 ghost use Rattle.dp_model.specs.Laws.{AreChecked};
 ghost use Rattle.dp_model.specs.Meaning.{TablesFit};
-ghost use Rattle.dp_model.specs.Packets.{Segment, Packet, refs, is_free, available, headroom, tailroom, first_len, last_len, IsHeadSole, IsTailSole, AreOwned, IsWellFormed, at_front, at_end, more_before, less_before, more_behind, less_behind, zeroed_before, zeroed_behind, stored, loaded};
+ghost use Rattle.dp_model.specs.Packets.{Segment, Packet, refs, is_free, available, headroom, tailroom, first_len, last_len, IsHeadSole, IsTailSole};
+ghost use Rattle.dp_model.specs.Packets.{AreOwned, IsWellFormed, at_front, at_end, more_before, less_before, more_behind, less_behind, zeroed_before};
+ghost use Rattle.dp_model.specs.Packets.{zeroed_behind, stored, loaded};
 ghost use Rattle.dp_model.specs.Prefixes.{Route, IsTable, LooksUp, hop_for};
-ghost use Rattle.dp_model.specs.Runs.{Goes, first_state, NodeRun, most_steps, TookAtMost, Receives, Serves, Nodes, Outcome, Turn, Arrival, WholeRun, between, with_empty_outboxes, with_empty_rings, of_port, interleaved};
+ghost use Rattle.dp_model.specs.Runs.{Goes, first_state, NodeRun, most_steps, TookAtMost, Receives, Serves, Nodes, Outcome, Turn, Arrival, WholeRun, between};
+ghost use Rattle.dp_model.specs.Runs.{with_empty_outboxes, with_empty_rings, of_port, interleaved};
 ghost use Rattle.dp_model.specs.Safety.{ArePackets, IsAtRest, Beginning, IsOfRecord, IsServed, AreShort};
 ghost use Rattle.dp_model.specs.Starts.{IsStart};
 ghost use Rattle.dp_model.specs.Stores.{Store, segments_of, Has, with_slot, Becomes, unwritten, Allocates, ReceivesInto, Clones, Chains, IsWellFormedStore};
@@ -86,13 +89,16 @@ pub fn runs_are_as_they_read<T>()
 /// ring or a transmit list, every buffer is free, so each pool has as many as it has buffers; the allocation calls are
 /// those of which the run tells. What leaves the rings is counted for each of them.
 pub fn whole_runs_end_with_whole_pools<T>()
-    ensures nothing { (c : Setting) (nodes : Nodes) (arrivals : List (Arrival T)) (w w' : World) (told : List Bool) (outcomes : List Outcome) (captures : List (List (T × List ℕ))) (left : List ℕ) →
+    ensures nothing { (c : Setting) (nodes : Nodes) (arrivals : List (Arrival T)) (w w' : World) (told : List Bool) (outcomes : List Outcome)
+        (captures : List (List (T × List ℕ))) (left : List ℕ) →
         IsStart c.env w → WholeRun c nodes arrivals w told outcomes captures left w' → live (between w') ≡ [] }
     ensures free { (pools : List PoolSpec) (w : World) (pool : ℕ) (b : Number) → live (between w) ≡ [] →
         (is_free (live (between w)) b ≡ true) × (available pools (live (between w)) pool ≡ count_at pools pool) }
-    ensures rings { (c : Setting) (nodes : Nodes) (arrivals : List (Arrival T)) (w w' : World) (told : List Bool) (outcomes : List Outcome) (captures : List (List (T × List ℕ))) (left : List ℕ) →
+    ensures rings { (c : Setting) (nodes : Nodes) (arrivals : List (Arrival T)) (w w' : World) (told : List Bool) (outcomes : List Outcome)
+        (captures : List (List (T × List ℕ))) (left : List ℕ) →
         TablesFit c → AreChecked c nodes → IsStart c.env w → WholeRun c nodes arrivals w told outcomes captures left w' → length left ≡ length c.env.rings }
-    ensures calls { (c : Setting) (nodes : Nodes) (arrivals : List (Arrival T)) (w w' : World) (told : List Bool) (outcomes : List Outcome) (captures : List (List (T × List ℕ))) (left : List ℕ) →
+    ensures calls { (c : Setting) (nodes : Nodes) (arrivals : List (Arrival T)) (w w' : World) (told : List Bool) (outcomes : List Outcome)
+        (captures : List (List (T × List ℕ))) (left : List ℕ) →
         IsStart c.env w → WholeRun c nodes arrivals w told outcomes captures left w' → w'.calls ≡ length told }
     ensures rests { (c : Setting) (w : World) → IsAtRest c w → IsAtRest c (with_empty_rings w) }
 {}

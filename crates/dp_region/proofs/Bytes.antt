@@ -22,12 +22,18 @@ without_with r [] new = ap (λ (t : Bool). cond t [] (r ∷ [])) (is_span-same r
 without_with r (s ∷ ss) new =
     let off = or_parts (is_span r s) (listed r ss) new in
     by_test (ltb r.0 s.0)
-    (λ e. ap (λ (t : Bool). without_span r (cond t (r ∷ s ∷ ss) (s ∷ with_span r ss))) e ∙ ap (λ (t : Bool). cond t (s ∷ ss) (r ∷ without_span r (s ∷ ss))) (is_span-same r))
-    (λ e. ap (λ (t : Bool). without_span r (cond t (r ∷ s ∷ ss) (s ∷ with_span r ss))) e ∙ ap (λ (t : Bool). cond t (with_span r ss) (s ∷ without_span r (with_span r ss))) off.0 ∙ ap (λ (l : List Span). s ∷ l) (without_with r ss off.1))
+    (λ e. ap (λ (t : Bool). without_span r (cond t (r ∷ s ∷ ss) (s ∷ with_span r ss))) e
+    ∙ ap (λ (t : Bool). cond t (s ∷ ss) (r ∷ without_span r (s ∷ ss))) (is_span-same r))
+    (λ e. ap (λ (t : Bool). without_span r (cond t (r ∷ s ∷ ss) (s ∷ with_span r ss))) e
+    ∙ ap (λ (t : Bool). cond t (with_span r ss) (s ∷ without_span r (with_span r ss))) off.0 ∙ ap (λ (l : List Span). s ∷ l) (without_with r ss off.1))
 
 -- a span that is lent, written over and given back
 pub stored : (r : RegionView) (p n : ℕ) (ws : List ℕ) → length ws ≡ n → p + n ≤ length r.bytes → listed (p, n) r.lent ≡ false
-    → record { home = r.home; bytes = with_bytes r.bytes p (with_bytes (bytes_in r.bytes p n) 0 ws); lent = without_span (p, length (with_bytes (bytes_in r.bytes p n) 0 ws)) (with_span (p, n) r.lent) }
+    → record {
+      home = r.home;
+      bytes = with_bytes r.bytes p (with_bytes (bytes_in r.bytes p n) 0 ws);
+      lent = without_span (p, length (with_bytes (bytes_in r.bytes p n) 0 ws)) (with_span (p, n) r.lent);
+    }
     ≡ record r { bytes = with_bytes r.bytes p ws }
 stored r p n ws long fits new =
     let whole = with_bytes-whole (bytes_in r.bytes p n) ws (long ∙ sym (length-bytes_in r.bytes p n fits)) in

@@ -30,7 +30,8 @@ module _ {M : Type 1} {𝓤 : Ura M} (𝓛 : Logic 𝓤) (xs : List ℕ) (n : �
       let end = o + n * 1 in let none : 0 ≡ n - n = omega arith in
       qed 𝓛 (‵ (run_owns (block_ptr b o) xs) ∷ []) ∵
       rewrite ! 0 (λ m. ‵ (lies_at (Array u8 m) full_share (block_ptr b o) xs)) (sym long) refl $
-      nothing ! $ use0 𝓛 (‵ (froom (ty_array (ty_int w8) 0) b end)) (𝓛.laws.room_nil (ty_int w8) b end) $ rewrite ! 0 (λ m. ‵ (froom (ty_array (ty_int w8) m) b end)) none refl $
+      nothing ! $ use0 𝓛 (‵ (froom (ty_array (ty_int w8) 0) b end)) (𝓛.laws.room_nil (ty_int w8) b end) $ rewrite ! 0
+      (λ m. ‵ (froom (ty_array (ty_int w8) m) b end)) none refl $
       fjoin ! $ move ! (1 ∷ 0 ∷ []) $ fjoin ! $
       rewrite ! 0 (λ t. ‵ (owns_if t (guest (block_ptr b o) n n xs))) (sym (filled n some)) refl $ flt_i ! (n * 1) (2 ^ 63) (omega arith) $ fjoin ! $ done !
 

@@ -36,7 +36,8 @@ sums : (s x y : Bool) → (s ≡ true → (x ≡ false) × (y ≡ true)) → (s 
 sums true x y here there =
     let p = here refl in subst (λ (z : Bool). right_if (not x) ∈ cell (some tt) (right_if (not z))) (sym p.1)
     (subst (λ (z : Bool). right_if (not z) ∈ cell (some tt) none) (sym p.0) (Opt.mem-op-none token.op (some tt)))
-sums false x y here there = subst (λ (z : Bool). right_if (not x) ∈ cell none (right_if (not z))) (sym (there refl)) (Opt.mem-none-op token.op (right_if (not x)))
+sums false x y here there = subst (λ (z : Bool). right_if (not x) ∈ cell none (right_if (not z))) (sym (there refl))
+    (Opt.mem-none-op token.op (right_if (not x)))
 
 -- with r handed out
 handed : (r : Span) (ls : List Span) → listed r ls ≡ false → others ls ∈ Rights.op (one r) (others (with_span r ls))

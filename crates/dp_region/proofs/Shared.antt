@@ -25,19 +25,23 @@ module _ {M : Type 1} {𝓤 : Ura M} (𝓛 : Logic 𝓤) (ls : List Span) (b : �
   skip : (n : ℕ) (xs : List ℕ) (o k p j : ℕ) → p ≡ o + n → j ≡ k + n → ⟦ unlent_shared ls b o k xs κ ⟧ ⊢ ⟦ unlent_shared ls b p j (drop n xs) κ ⟧
   skip zero xs o k p j e f =
       let e' : o ≡ p = omega arith in let f' : k ≡ j = omega arith in
-      qed 𝓛 (‵ (unlent_shared ls b o k xs κ) ∷ []) ∵ rewrite ! 0 (λ (z : ℕ). ‵ (unlent_shared ls b z k xs κ)) e' refl $ rewrite ! 0 (λ (z : ℕ). ‵ (unlent_shared ls b p z xs κ)) f' refl $ done !
+      qed 𝓛 (‵ (unlent_shared ls b o k xs κ) ∷ []) ∵ rewrite ! 0 (λ (z : ℕ). ‵ (unlent_shared ls b z k xs κ)) e' refl $ rewrite ! 0
+      (λ (z : ℕ). ‵ (unlent_shared ls b p z xs κ)) f' refl $ done !
   skip (suc n) [] o k p j e f = top 𝓤 _
   skip (suc n) (x ∷ xs) o k p j e f =
-      qed 𝓛 (‵ (shared_unless (is_lent ls k) (lent_at u8 (block_ptr b o) x) κ) ∷ ‵ (unlent_shared ls b (o + 1) (k + 1) xs κ) ∷ []) ∵ let_go ! $ by ! (skip n xs (o + 1) (k + 1) p j (omega arith) (omega arith))
+      qed 𝓛 (‵ (shared_unless (is_lent ls k) (lent_at u8 (block_ptr b o) x) κ) ∷ ‵ (unlent_shared ls b (o + 1) (k + 1) xs κ) ∷ []) ∵ let_go ! $ by !
+      (skip n xs (o + 1) (k + 1) p j (omega arith) (omega arith))
 
   some : (n : ℕ) (xs : List ℕ) (o k : ℕ) → IsUnlent ls k n → ⟦ unlent_shared ls b o k xs κ ⟧ ⊢ ⟦ elements_shared u8 (take n xs) b o κ ⟧
   some zero xs o k free = top 𝓤 _
   some (suc n) [] o k free = top 𝓤 _
   some (suc n) (x ∷ xs) o k free =
       qed 𝓛 (‵ (shared_unless (is_lent ls k) (lent_at u8 (block_ptr b o) x) κ) ∷ ‵ (unlent_shared ls b (o + 1) (k + 1) xs κ) ∷ []) ∵
-      rewrite ! 0 (λ (t : Bool). ‵ (shared_unless t (lent_at u8 (block_ptr b o) x) κ)) (free k (omega arith) (omega arith)) refl $ fsplit ! $ let_go ! $ frame ! $
+      rewrite ! 0 (λ (t : Bool). ‵ (shared_unless t (lent_at u8 (block_ptr b o) x) κ)) (free k (omega arith) (omega arith)) refl $ fsplit ! $ let_go ! $ frame
+      ! $
       by ! (some n xs (o + 1) (k + 1) (λ j p q. free j (omega arith) (omega arith)))
 
   pub shown : (p n : ℕ) (xs : List ℕ) (o : ℕ) → IsUnlent ls p n → ⟦ unlent_shared ls b o 0 xs κ ⟧ ⊢ ⟦ elements_shared u8 (take n (drop p xs)) b (o + p) κ ⟧
   shown p n xs o free =
-      qed 𝓛 (‵ (unlent_shared ls b o 0 xs κ) ∷ []) ∵ use1 𝓛 (‵ (unlent_shared ls b (o + p) p (drop p xs) κ)) (skip p xs o 0 (o + p) p refl (omega arith)) $ by ! (some n (drop p xs) (o + p) p free)
+      qed 𝓛 (‵ (unlent_shared ls b o 0 xs κ) ∷ []) ∵ use1 𝓛 (‵ (unlent_shared ls b (o + p) p (drop p xs) κ)) (skip p xs o 0 (o + p) p refl (omega arith)) $ by
+      ! (some n (drop p xs) (o + p) p free)

@@ -1,7 +1,8 @@
 -- Spans that are added and removed.
 use Rattle.std.proofs.Common.{◌≡◌, ℕ, ◌+◌, ◌<◌, ◌≤◌, Bool, true, false, cond, ◌&&◌, ◌||◌, leb, ltb, eqb, List, [], ◌∷◌, refl, sym, ap, subst, ◌∙◌, arith}
 use mathlib.Core.Logic.{⊎_elim}
-use Rattle.std.proofs.lemmas.Bool.{ltb-true, ltb-false, leb-true, lt-ltb, le-leb, eq-eqb, cases_lt, and_parts, and_from, or_parts, or_from, or_left, or_right, false_from_ne_true, both_ways, true≢false}
+use Rattle.std.proofs.lemmas.Bool.{ltb-true, ltb-false, leb-true, lt-ltb, le-leb, eq-eqb, cases_lt, and_parts, and_from, or_parts, or_from, or_left, or_right}
+use Rattle.std.proofs.lemmas.Bool.{false_from_ne_true, both_ways, true≢false}
 use Rattle.dp_region.specs.Spans.{Span, is_span, listed, covers, is_lent, IsUnlent, with_span, without_span, spaced, Spaced}
 use Rattle.dp_region.specs.Laws.{is_span-true, covers-below, covers-above}
 
@@ -25,13 +26,15 @@ pub listed-with : (q r : Span) (ls : List Span) → listed q (with_span r ls) �
 listed-with q r [] = refl
 listed-with q r (s ∷ ss) = by_test (ltb r.0 s.0)
     (λ e. ap (λ (t : Bool). listed q (cond t (r ∷ s ∷ ss) (s ∷ with_span r ss))) e)
-    (λ e. ap (λ (t : Bool). listed q (cond t (r ∷ s ∷ ss) (s ∷ with_span r ss))) e ∙ ap (λ (t : Bool). is_span q s || t) (listed-with q r ss) ∙ or_swap (is_span q s) (is_span q r) (listed q ss))
+    (λ e. ap (λ (t : Bool). listed q (cond t (r ∷ s ∷ ss) (s ∷ with_span r ss))) e ∙ ap (λ (t : Bool). is_span q s || t) (listed-with q r ss)
+    ∙ or_swap (is_span q s) (is_span q r) (listed q ss))
 
 pub is_lent-with : (r : Span) (ls : List Span) (k : ℕ) → is_lent (with_span r ls) k ≡ (covers r k || is_lent ls k)
 is_lent-with r [] k = refl
 is_lent-with r (s ∷ ss) k = by_test (ltb r.0 s.0)
     (λ e. ap (λ (t : Bool). is_lent (cond t (r ∷ s ∷ ss) (s ∷ with_span r ss)) k) e)
-    (λ e. ap (λ (t : Bool). is_lent (cond t (r ∷ s ∷ ss) (s ∷ with_span r ss)) k) e ∙ ap (λ (t : Bool). covers s k || t) (is_lent-with r ss k) ∙ or_swap (covers s k) (covers r k) (is_lent ss k))
+    (λ e. ap (λ (t : Bool). is_lent (cond t (r ∷ s ∷ ss) (s ∷ with_span r ss)) k) e ∙ ap (λ (t : Bool). covers s k || t) (is_lent-with r ss k)
+    ∙ or_swap (covers s k) (covers r k) (is_lent ss k))
 
 pub spaced_out : (low high : ℕ) (r : Span) (rs : List Span) → Spaced low high (r ∷ rs) → (low ≤ r.0) × (0 < r.1) × Spaced (r.0 + r.1) high rs
 spaced_out low high r rs t =
@@ -41,15 +44,18 @@ spaced_out low high r rs t =
 
 pub spaced_in : (low high : ℕ) (r : Span) (rs : List Span) → low ≤ r.0 → 0 < r.1 → Spaced (r.0 + r.1) high rs → Spaced low high (r ∷ rs)
 spaced_in low high r rs above some rest =
-    and_from (leb low r.0) (ltb 0 r.1 && spaced (r.0 + r.1) high rs) (le-leb low r.0 above) (and_from (ltb 0 r.1) (spaced (r.0 + r.1) high rs) (lt-ltb 0 r.1 some) rest)
+    and_from (leb low r.0) (ltb 0 r.1 && spaced (r.0 + r.1) high rs) (le-leb low r.0 above)
+    (and_from (ltb 0 r.1) (spaced (r.0 + r.1) high rs) (lt-ltb 0 r.1 some) rest)
 
 pub spaced_lower : (ls : List Span) (low low' high : ℕ) → low' ≤ low → Spaced low high ls → Spaced low' high ls
 spaced_lower [] low low' high below t = let l = leb-true low high t in le-leb low' high (omega arith)
-spaced_lower (r ∷ rs) low low' high below t = let parts = spaced_out low high r rs t in let above = parts.0 in spaced_in low' high r rs (omega arith) parts.1 parts.2
+spaced_lower (r ∷ rs) low low' high below t = let parts = spaced_out low high r rs t in
+    let above = parts.0 in spaced_in low' high r rs (omega arith) parts.1 parts.2
 
 pub spaced_bound : (ls : List Span) (low high : ℕ) → Spaced low high ls → low ≤ high
 spaced_bound [] low high t = leb-true low high t
-spaced_bound (r ∷ rs) low high t = let parts = spaced_out low high r rs t in let above = parts.0 in let rest = spaced_bound rs (r.0 + r.1) high parts.2 in omega arith
+spaced_bound (r ∷ rs) low high t = let parts = spaced_out low high r rs t in let above = parts.0 in
+    let rest = spaced_bound rs (r.0 + r.1) high parts.2 in omega arith
 
 -- below low nothing is lent
 pub unlent_below : (ls : List Span) (low high k : ℕ) → Spaced low high ls → k < low → is_lent ls k ≡ false
@@ -77,19 +83,24 @@ listed_lent q (r ∷ rs) k e l h = by_test (is_span q r)
     (λ other. or_right (covers r k) (is_lent rs k) (listed_lent q rs k (sym (ap (λ (t : Bool). t || listed q rs) other) ∙ e) l h))
 
 pub unlent_unlisted : (ls : List Span) (p n : ℕ) → 0 < n → IsUnlent ls p n → listed (p, n) ls ≡ false
-unlent_unlisted ls p n some free = false_from_ne_true (listed (p, n) ls) (λ e. both_ways (is_lent ls p) (free p (omega arith) (omega arith)) (listed_lent (p, n) ls p e (omega arith) (omega arith)))
+unlent_unlisted ls p n some free = false_from_ne_true (listed (p, n) ls)
+    (λ e. both_ways (is_lent ls p) (free p (omega arith) (omega arith)) (listed_lent (p, n) ls p e (omega arith) (omega arith)))
 
-pub spaced_with : (ls : List Span) (low high p n : ℕ) → Spaced low high ls → low ≤ p → 0 < n → p + n ≤ high → IsUnlent ls p n → Spaced low high (with_span (p, n) ls)
+pub spaced_with : (ls : List Span) (low high p n : ℕ) → Spaced low high ls → low ≤ p → 0 < n → p + n ≤ high → IsUnlent ls p n →
+    Spaced low high (with_span (p, n) ls)
 spaced_with [] low high p n t above some fits free = spaced_in low high (p, n) [] above some (le-leb (p + n) high fits)
 spaced_with (s ∷ ss) low high p n t above some fits free =
     let parts = spaced_out low high s ss t in let first = parts.0 in let more = parts.1 in
     let off = λ (k : ℕ) (a : p ≤ k) (b : k < p + n). or_parts (covers s k) (is_lent ss k) (free k a b) in
     by_test (ltb p s.0)
     (λ e. let before = ltb-true p s.0 e in
-    let apart : p + n ≤ s.0 = ⊎_elim (λ (h : s.0 < p + n). absurd (both_ways (covers s s.0) (off s.0 (omega arith) h).0 (covers-in s s.0 (omega arith) (omega arith)))) (λ h. h) (cases_lt s.0 (p + n)) in
-    subst (Spaced low high) (sym (ap (λ (t : Bool). cond t ((p, n) ∷ s ∷ ss) (s ∷ with_span (p, n) ss)) e)) (spaced_in low high (p, n) (s ∷ ss) above some (spaced_in (p + n) high s ss apart parts.1 parts.2)))
+    let apart : p + n ≤ s.0 = ⊎_elim (λ (h : s.0 < p + n). absurd (both_ways (covers s s.0) (off s.0 (omega arith) h).0
+    (covers-in s s.0 (omega arith) (omega arith)))) (λ h. h) (cases_lt s.0 (p + n)) in
+    subst (Spaced low high) (sym (ap (λ (t : Bool). cond t ((p, n) ∷ s ∷ ss) (s ∷ with_span (p, n) ss)) e))
+    (spaced_in low high (p, n) (s ∷ ss) above some (spaced_in (p + n) high s ss apart parts.1 parts.2)))
     (λ e. let after = ltb-false p s.0 e in
-    let apart : s.0 + s.1 ≤ p = ⊎_elim (λ (h : p < s.0 + s.1). absurd (both_ways (covers s p) (off p (omega arith) (omega arith)).0 (covers-in s p after h))) (λ h. h) (cases_lt p (s.0 + s.1)) in
+    let apart : s.0 + s.1 ≤ p = ⊎_elim (λ (h : p < s.0 + s.1). absurd (both_ways (covers s p) (off p (omega arith) (omega arith)).0 (covers-in s p after h)))
+    (λ h. h) (cases_lt p (s.0 + s.1)) in
     subst (Spaced low high) (sym (ap (λ (t : Bool). cond t ((p, n) ∷ s ∷ ss) (s ∷ with_span (p, n) ss)) e))
     (spaced_in low high s (with_span (p, n) ss) parts.0 parts.1 (spaced_with ss (s.0 + s.1) high p n parts.2 apart some fits (λ k a b. (off k a b).1))))
 
@@ -99,13 +110,15 @@ module _ (r : Span) where
   spaced_without (s ∷ ss) low high t =
       let parts = spaced_out low high s ss t in let above = parts.0 in let some = parts.1 in by_test (is_span r s)
       (λ e. subst (Spaced low high) (sym (ap (λ (t : Bool). cond t ss (s ∷ without_span r ss)) e)) (spaced_lower ss (s.0 + s.1) low high (omega arith) parts.2))
-      (λ e. subst (Spaced low high) (sym (ap (λ (t : Bool). cond t ss (s ∷ without_span r ss)) e)) (spaced_in low high s (without_span r ss) parts.0 parts.1 (spaced_without ss (s.0 + s.1) high parts.2)))
+      (λ e. subst (Spaced low high) (sym (ap (λ (t : Bool). cond t ss (s ∷ without_span r ss)) e))
+      (spaced_in low high s (without_span r ss) parts.0 parts.1 (spaced_without ss (s.0 + s.1) high parts.2)))
 
   -- outside r, what is lent stays so
   pub lent_without : (ls : List Span) (k : ℕ) → covers r k ≡ false → is_lent (without_span r ls) k ≡ is_lent ls k
   lent_without [] k out = refl
   lent_without (s ∷ ss) k out = by_test (is_span r s)
-      (λ e. ap (λ (t : Bool). is_lent (cond t ss (s ∷ without_span r ss)) k) e ∙ sym (ap (λ (t : Bool). t || is_lent ss k) (subst (λ (q : Span). covers q k ≡ false) (is_span-true r s e) out)))
+      (λ e. ap (λ (t : Bool). is_lent (cond t ss (s ∷ without_span r ss)) k) e
+      ∙ sym (ap (λ (t : Bool). t || is_lent ss k) (subst (λ (q : Span). covers q k ≡ false) (is_span-true r s e) out)))
       (λ e. ap (λ (t : Bool). is_lent (cond t ss (s ∷ without_span r ss)) k) e ∙ ap (λ (t : Bool). covers s k || t) (lent_without ss k out))
 
   -- inside it nothing is
@@ -129,10 +142,12 @@ module _ (r : Span) where
       ap (λ (t : Bool). listed r (cond t ss (s ∷ without_span r ss))) same ∙
       false_from_ne_true (listed r ss) (λ e. let above = (listed_bounds r ss (s.0 + s.1) high parts.2 e).0 in
       let above' : r.0 + r.1 ≤ r.0 = subst (λ (q : Span). q.0 + q.1 ≤ r.0) (sym (is_span-true r s same)) above in absurd (omega arith)))
-      (λ other. ap (λ (t : Bool). listed r (cond t ss (s ∷ without_span r ss))) other ∙ or_from (is_span r s) (listed r (without_span r ss)) other (unlisted_without ss (s.0 + s.1) high parts.2))
+      (λ other. ap (λ (t : Bool). listed r (cond t ss (s ∷ without_span r ss))) other
+      ∙ or_from (is_span r s) (listed r (without_span r ss)) other (unlisted_without ss (s.0 + s.1) high parts.2))
 
   pub listed_without : (q : Span) (ls : List Span) → is_span q r ≡ false → listed q (without_span r ls) ≡ listed q ls
   listed_without q [] other = refl
   listed_without q (s ∷ ss) other = by_test (is_span r s)
-      (λ e. ap (λ (t : Bool). listed q (cond t ss (s ∷ without_span r ss))) e ∙ sym (ap (λ (t : Bool). t || listed q ss) (subst (λ (z : Span). is_span q z ≡ false) (is_span-true r s e) other)))
+      (λ e. ap (λ (t : Bool). listed q (cond t ss (s ∷ without_span r ss))) e
+      ∙ sym (ap (λ (t : Bool). t || listed q ss) (subst (λ (z : Span). is_span q z ≡ false) (is_span-true r s e) other)))
       (λ e. ap (λ (t : Bool). listed q (cond t ss (s ∷ without_span r ss))) e ∙ ap (λ (t : Bool). is_span q s || t) (listed_without q ss other))

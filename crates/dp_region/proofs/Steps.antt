@@ -8,7 +8,8 @@ pub use base.Logic.{id⊢, never}
 pub use contract.Monad.{fact}
 pub use contract.Running.{tables}
 pub use prog.Wp.{WpFn}
-pub use types.Kit.{‵, raw, ◌⊛◌, some, given, later, prop, at_ret, ◌$◌, ◌∵◌, !, qed, done, move, keep, drop, use0, use1, use2, split, join, fsplit, fjoin, feq_i, flt_i, pick, learn, await, rewrite, regoal, suffices, group}
+pub use types.Kit.{‵, raw, ◌⊛◌, some, given, later, prop, at_ret, ◌$◌, ◌∵◌, !, qed, done, move, keep, drop, use0, use1, use2, split, join, fsplit, fjoin}
+pub use types.Kit.{feq_i, flt_i, pick, learn, await, rewrite, regoal, suffices, group}
 pub use types.Part.{agg}
 pub use types.Run.{enter, returns, of_opd, and_then, no_more, first, blocks, exec}
 pub use types.ByLocal.{alloc_all, pass_all, free_all, look_at, get, sets, sets_last, env}

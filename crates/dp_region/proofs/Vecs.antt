@@ -36,7 +36,8 @@ module _ {M : Type 1} {𝓤 : Ura M} (𝓛 : Logic 𝓤) (v : Vec ℕ Global) wh
   held some = not_from_false _ (ne_eqb v.cap 0 (λ e. omega (arith, v.ok.1)))
 
   module _ (u : Val) (W : List ℕ → Fml) (becomes : (xs : List ℕ) → ent 𝓤 ⟦ Owner.own_val (with_items v xs) (u ∷ []) ⟧ ⟦ W xs ⟧) where
-    pub parted : 0 < v.len → ent 𝓤 ⟦ Owner.own_val v (u ∷ []) ⟧ (sep 𝓤 ⟦ run_owns v.ptr v.items ⟧ ⟦ fall (List ℕ) (λ xs. fwand (filled_owns (extent v) xs) (W xs)) ⟧)
+    pub parted : 0 < v.len → ent 𝓤 ⟦ Owner.own_val v (u ∷ []) ⟧ (sep 𝓤 ⟦ run_owns v.ptr v.items ⟧ ⟦ fall (List ℕ)
+        (λ xs. fwand (filled_owns (extent v) xs) (W xs)) ⟧)
     parted some =
         let live = held some in
         qed 𝓛 (‵ (Owner.own_val v (u ∷ [])) ∷ []) ∵ fsplit ! $ move ! (1 ∷ []) $ fsplit ! $ move ! (1 ∷ []) $
@@ -48,6 +49,7 @@ module _ {M : Type 1} {𝓤 : Ura M} (𝓛 : Logic 𝓤) (v : Vec ℕ Global) wh
         let same = with_items_is v xs long in
         rewrite ! 0 (λ n. ‵ (lies_at (Array u8 n) full_share v.ptr xs)) long refl $ fjoin ! $
         rewrite ! 0 (λ ys. ‵ (Block v.ptr ys)) (sym same) refl $
-        rewrite ! 0 (λ p. ‵ (Block p (with_items v xs).items)) at refl $ rewrite ! 0 (λ t. ‵ (owns_if t (Block (block_ptr b o) (with_items v xs).items))) (sym live) refl $
+        rewrite ! 0 (λ p. ‵ (Block p (with_items v xs).items)) at refl $ rewrite ! 0 (λ t. ‵ (owns_if t (Block (block_ptr b o) (with_items v xs).items)))
+        (sym live) refl $
         rewrite ! 0 (λ p. ‵ (in_block p (owns_if (has_block v.cap) (Block p (with_items v xs).items)))) (sym at) refl $
         move ! (1 ∷ 0 ∷ []) $ fjoin ! $ move ! (1 ∷ 0 ∷ []) $ fjoin ! $ by ! (becomes xs))))

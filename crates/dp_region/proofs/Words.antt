@@ -42,7 +42,8 @@ bare = vstruct vnil
 
 module _ {M : Type 1} {𝓤 : Ura M} {𝓛 : Logic 𝓤} {K : Type 0} {Γ : List (Item 𝓤)} {G : Goal 𝓤 𝓛.H} (t : K) where
   -- what is owned is one machine value, of its type
-  pub told : (R : RattleType) → Laws R → (x : R.Denot) (vs : List Val) → ((v : Val) → vs ≡ v ∷ [] → Fits (layout R) v → Seq K 𝓛 (‵ (R.own_val x (v ∷ [])) ∷ Γ) G) → Seq K 𝓛 (‵ (R.own_val x vs) ∷ Γ) G
+  pub told : (R : RattleType) → Laws R → (x : R.Denot) (vs : List Val) →
+      ((v : Val) → vs ≡ v ∷ [] → Fits (layout R) v → Seq K 𝓛 (‵ (R.own_val x (v ∷ [])) ∷ Γ) G) → Seq K 𝓛 (‵ (R.own_val x vs) ∷ Γ) G
   told R L x vs rest = peeks t R (Is R) (shows 𝓛 R) x vs (λ is.
       let w = word_of (layout R) vs (subst (λ τs. Typed τs vs) L.one ((L.lawful 𝓛).typed x vs is)) in
       rewrite t 0 (λ us. ‵ (R.own_val x us)) w.alone refl $ rest w.value w.alone w.fits)
@@ -50,9 +51,11 @@ module _ {M : Type 1} {𝓤 : Ura M} {𝓛 : Logic 𝓤} {K : Type 0} {Γ : List
   module _ (Rs : List RattleType) (xs : Denots Rs) where
     pub put_together : (vss : Valss Rs) → Step K 𝓛 (‵ ((of_fields Rs).own_val xs (vstruct (of_list (flat Rs vss)) ∷ [])) ∷ Γ) G (‵ (owns Rs xs vss) ∷ Γ) G
     put_together vss = step (λ rest.
-        let word = vstruct (of_list (flat Rs vss)) ∷ [] in feq_i t (List Val) word word refl $ fjoin t $ fpack t (Valss Rs) (within (nameless Rs) xs word) vss $ rest)
+        let word = vstruct (of_list (flat Rs vss)) ∷ [] in feq_i t (List Val) word word refl $ fjoin t $ fpack t (Valss Rs) (within (nameless Rs) xs word) vss
+        $ rest)
 
-    pub taken_apart : (vs : List Val) → ((vss : Valss Rs) → vs ≡ vstruct (of_list (flat Rs vss)) ∷ [] → Seq K 𝓛 (‵ (owns Rs xs vss) ∷ Γ) G) → Seq K 𝓛 (‵ ((of_fields Rs).own_val xs vs) ∷ Γ) G
+    pub taken_apart : (vs : List Val) → ((vss : Valss Rs) → vs ≡ vstruct (of_list (flat Rs vss)) ∷ [] → Seq K 𝓛 (‵ (owns Rs xs vss) ∷ Γ) G) →
+        Seq K 𝓛 (‵ ((of_fields Rs).own_val xs vs) ∷ Γ) G
     taken_apart vs rest = fpick t (λ vss. fsplit t $ feq_l t (λ is. rest vss is))
 
 module _ {M : Type 1} {𝓤 : Ura M} {𝓛 : Logic 𝓤} {K : Type 0} {Γ : List (Item 𝓤)} {G : Goal 𝓤 𝓛.H} (t : K) (P : Fml) where

@@ -40,7 +40,8 @@ pub record Home : Type 0 where
 
 -- it is stored as the tuple of its fields
 abbrev pub home_code : Coded Home
-home_code = code_by (ℕ × (ℕ × ℕ)) (coded× coded_ℕ (coded× coded_ℕ coded_ℕ)) (λ h. (h.block, (h.start, h.rights))) (λ p. record { block = p.0; start = p.1.0; rights = p.1.1 }) (λ _. refl)
+home_code = code_by (ℕ × (ℕ × ℕ)) (coded× coded_ℕ (coded× coded_ℕ coded_ℕ)) (λ h. (h.block, (h.start, h.rights)))
+    (λ p. record { block = p.0; start = p.1.0; rights = p.1.1 }) (λ _. refl)
 
 -- the byte at k of it
 abbrev pub place_in : Home → ℕ → Ptr

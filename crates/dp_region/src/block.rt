@@ -30,7 +30,8 @@ impl Model for Block {
 
     ghost view = { λ b. record { home = b.ticket.home; place = b.place; bytes = b.bytes.items } };
 
-    ghost invariant = { λ b. (0 < b.len) × (length b.bytes.items ≡ b.len) × (b.bytes.ptr ≡ place_in b.ticket.home b.place) × (b.ticket.place ≡ b.place) × (b.ticket.len ≡ b.len) };
+    ghost invariant = { λ b. (0 < b.len) × (length b.bytes.items ≡ b.len) × (b.bytes.ptr ≡ place_in b.ticket.home b.place) × (b.ticket.place ≡ b.place)
+        × (b.ticket.len ≡ b.len) };
 }
 
 impl Block {

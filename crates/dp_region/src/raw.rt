@@ -39,5 +39,6 @@ impl Owns for Shell {
 }
 
 impl Move for Shell {
-    ghost own_val = { λ e vs. fex Inside (λ s. fsep (feq ℕ s.vec.len e.len) (fall (List ℕ) (λ xs. fwand (filled_owns e xs) (Fields.own_val (record { vec = with_items s.vec xs }) vs)))) };
+    ghost own_val = { λ e vs. fex Inside (λ s. fsep (feq ℕ s.vec.len e.len)
+        (fall (List ℕ) (λ xs. fwand (filled_owns e xs) (Fields.own_val (record { vec = with_items s.vec xs }) vs)))) };
 }

@@ -36,7 +36,8 @@ impl Model for Region {
 
     ghost view = { λ r. record { home = r.cells.home; bytes = r.cells.bytes; lent = r.cells.lent } };
 
-    ghost invariant = { λ r. (r.ptr ≡ place_in r.cells.home 0) × (r.shell.ptr ≡ r.ptr) × (r.shell.len ≡ r.size) × (length r.cells.bytes ≡ r.size) × IsRegionSize r.size };
+    ghost invariant = { λ r. (r.ptr ≡ place_in r.cells.home 0) × (r.shell.ptr ≡ r.ptr) × (r.shell.len ≡ r.size) × (length r.cells.bytes ≡ r.size)
+        × IsRegionSize r.size };
 }
 
 impl Region {
@@ -84,7 +85,11 @@ impl Region {
     pub fn reclaim(&mut self, block: Block)
         requires { block.home ≡ self.old.home }
         ensures was_lent { listed (span_of block) self.old.lent ≡ true }
-        ensures back { self.new ≡ record { home = self.old.home; bytes = with_bytes self.old.bytes block.place block.bytes; lent = without_span (span_of block) self.old.lent } }
+        ensures back { self.new ≡ record {
+          home = self.old.home;
+          bytes = with_bytes self.old.bytes block.place block.bytes;
+          lent = without_span (span_of block) self.old.lent;
+        } }
         ensures size { length self.new.bytes ≡ length self.old.bytes }
     {
         replace_with(&mut self.cells, block.into_parts(), give);
@@ -165,7 +170,8 @@ fn take(cells: Cells, span: (usize, usize)) -> (Cells, (Run, Ticket))
 // A run comes back by the right to that.
 fn give(cells: Cells, back: (Run, Ticket)) -> (Cells, ())
     requires { (back.1.home ≡ cells.home) × (back.0.start ≡ place_in cells.home back.1.place) × (length back.0.bytes ≡ back.1.len) }
-    ensures { (listed (back.1.place, back.1.len) cells.lent ≡ true) × (result.0.home ≡ cells.home) × (result.0.bytes ≡ with_bytes cells.bytes back.1.place back.0.bytes) × (result.0.lent ≡ without_span (back.1.place, back.1.len) cells.lent) }
+    ensures { (listed (back.1.place, back.1.len) cells.lent ≡ true) × (result.0.home ≡ cells.home)
+        × (result.0.bytes ≡ with_bytes cells.bytes back.1.place back.0.bytes) × (result.0.lent ≡ without_span (back.1.place, back.1.len) cells.lent) }
 {
     let (run, ticket) = back;
     (cells.give(run, ticket), ())

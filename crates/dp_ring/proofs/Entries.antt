@@ -1,5 +1,6 @@
 -- How the entries of a ring stand in its bytes, and what one more does to them.
-use Rattle.std.proofs.Common.{◌≡◌, ℕ, zero, suc, ◌+◌, ◌-◌, ◌*◌, ◌^◌, ◌<◌, ◌≤◌, cond, ltb, List, [], ◌∷◌, ◌++◌, length, slice_get, Some, None, refl, sym, ap, ◌∙◌, arith, inl, inr}
+use Rattle.std.proofs.Common.{◌≡◌, ℕ, zero, suc, ◌+◌, ◌-◌, ◌*◌, ◌^◌, ◌<◌, ◌≤◌, cond, ltb, List, [], ◌∷◌, ◌++◌, length, slice_get, Some, None, refl, sym, ap}
+use Rattle.std.proofs.Common.{◌∙◌, arith, inl, inr}
 use Rattle.std.specs.Prelude.{◌⊎◌}
 use Rattle.std.proofs.lemmas.Bool.{ltb-true, ltb-false, cases_Bool}
 use Rattle.std.proofs.lemmas.Option.{slice_get_past}
@@ -14,7 +15,8 @@ length_entries bytes count first (suc n) = let rest = length_entries bytes count
 -- ---- places
 
 -- a place behind another, with or without a turn
-pub place_cases : (count first n : ℕ) → ((first + n < count) × (place_behind count first n ≡ first + n)) ⊎ ((count ≤ first + n) × (place_behind count first n ≡ first + n - count))
+pub place_cases : (count first n : ℕ) → ((first + n < count) × (place_behind count first n ≡ first + n))
+    ⊎ ((count ≤ first + n) × (place_behind count first n ≡ first + n - count))
 place_cases count first n = elim (cases_Bool (ltb (first + n) count)) [
   | inl yes' ↦ inl (ltb-true (first + n) count yes', ap (λ t. cond t (first + n) (first + n - count)) yes')
   | inr no' ↦ inr (ltb-false (first + n) count no', ap (λ t. cond t (first + n) (first + n - count)) no')
@@ -79,7 +81,8 @@ place_behind-other count first i n small less few same = elim (place_cases count
 -- ---- one more entry
 
 -- the last of the entries stands so far behind the first
-entries_from-last : (bytes : List ℕ) (count first n : ℕ) → first < count → n < count → entries_from bytes count first (suc n) ≡ entries_from bytes count first n ++ number_at bytes (4 * place_behind count first n) 4 ∷ []
+entries_from-last : (bytes : List ℕ) (count first n : ℕ) → first < count → n < count → entries_from bytes count first (suc n)
+    ≡ entries_from bytes count first n ++ number_at bytes (4 * place_behind count first n) 4 ∷ []
 entries_from-last bytes count first zero small few = elim (place_cases count first 0) [
   | inl c ↦ ap (λ p. number_at bytes (4 * p) 4 ∷ []) (omega (arith, c.1))
   | inr c ↦ absurd (omega (arith, c.0, small))
@@ -87,7 +90,8 @@ entries_from-last bytes count first zero small few = elim (place_cases count fir
 entries_from-last bytes count first (suc n) small few =
     ap (λ rest. number_at bytes (4 * first) 4 ∷ rest) (
     entries_from-last bytes count (next_place count first) n (next_place-small count first small) (omega (arith, few))
-    ∙ ap (λ p. entries_from bytes count (next_place count first) n ++ number_at bytes (4 * p) 4 ∷ []) (place_behind-next count first n small (omega (arith, few))))
+    ∙ ap (λ p. entries_from bytes count (next_place count first) n ++ number_at bytes (4 * p) 4 ∷ [])
+    (place_behind-next count first n small (omega (arith, few))))
 
 -- what is written elsewhere leaves the entries
 entries_from-kept : (bytes : List ℕ) (count p v first n : ℕ) → first < count → p < count → n < count → 4 * count ≤ length bytes
@@ -106,8 +110,10 @@ entries_from-kept bytes count p v first (suc n) small place few room off =
         | inr same ↦ absurd (off 0 (omega arith) (here ∙ (let a = ltb-false first p no' in let b = ltb-false p first same in omega (arith, a, b))))
       ]
     ] in
-    let rest = entries_from-kept bytes count p v (next_place count first) n (next_place-small count first small) place (omega (arith, few)) room (λ i less is. off (suc i) (omega (arith, less)) (sym (place_behind-next count first i small (omega (arith, few, less))) ∙ is)) in
-    ap (λ x. x ∷ entries_from (with_number bytes (4 * p) 4 v) count (next_place count first) n) (number_at-other bytes (4 * p) v (omega (arith, place, room)) (4 * first) (omega (arith, small, room)) apart)
+    let rest = entries_from-kept bytes count p v (next_place count first) n (next_place-small count first small) place (omega (arith, few)) room
+    (λ i less is. off (suc i) (omega (arith, less)) (sym (place_behind-next count first i small (omega (arith, few, less))) ∙ is)) in
+    ap (λ x. x ∷ entries_from (with_number bytes (4 * p) 4 v) count (next_place count first) n)
+    (number_at-other bytes (4 * p) v (omega (arith, place, room)) (4 * first) (omega (arith, small, room)) apart)
     ∙ ap (λ xs. number_at bytes (4 * first) 4 ∷ xs) rest
 
 -- an entry that is written behind the others is the last
@@ -120,11 +126,13 @@ entries_pushed bytes count first used v small few room fits =
     ap (λ n. entries_from (with_number bytes (4 * p) 4 v) count first n) one_more
     ∙ entries_from-last (with_number bytes (4 * p) 4 v) count first used small (omega (arith, few))
     ∙ ap (λ x. entries_from (with_number bytes (4 * p) 4 v) count first used ++ x ∷ []) (number_at-same bytes (4 * p) v (omega (arith, place, room)) fits)
-    ∙ ap (λ xs. xs ++ v ∷ []) (entries_from-kept bytes count p v first used small place (omega (arith, few)) room (λ i less is. place_behind-other count first i used small less (omega (arith, few)) is))
+    ∙ ap (λ xs. xs ++ v ∷ []) (entries_from-kept bytes count p v first used small place (omega (arith, few)) room
+    (λ i less is. place_behind-other count first i used small less (omega (arith, few)) is))
 
 -- ---- the entries one by one
 
-pub slice_get_entries : (bytes : List ℕ) (count first n k : ℕ) → first < count → n < count → k < n → slice_get (entries_from bytes count first n) k ≡ Some (number_at bytes (4 * place_behind count first k) 4)
+pub slice_get_entries : (bytes : List ℕ) (count first n k : ℕ) → first < count → n < count → k < n → slice_get (entries_from bytes count first n) k
+    ≡ Some (number_at bytes (4 * place_behind count first k) 4)
 slice_get_entries bytes count first zero k small few less = absurd (omega (arith, less))
 slice_get_entries bytes count first (suc n) zero small few less =
     ap (λ p. Some (number_at bytes (4 * p) 4)) (elim (place_cases count first 0) [
@@ -140,8 +148,10 @@ slice_get_entries bytes count first (suc n) (suc k) small few less =
 pub counted : (bytes : List ℕ) (count first used : ℕ) → used ≡ length (entries_from bytes count first used)
 counted bytes count first used = sym (length_entries bytes count first used)
 
-pub entry_at : (bytes : List ℕ) (count first n k : ℕ) → first < count → n < count → k < n → Some (number_at bytes (4 * place_behind count first k) 4) ≡ slice_get (entries_from bytes count first n) k
+pub entry_at : (bytes : List ℕ) (count first n k : ℕ) → first < count → n < count → k < n → Some (number_at bytes (4 * place_behind count first k) 4)
+    ≡ slice_get (entries_from bytes count first n) k
 entry_at bytes count first n k small few less = sym (slice_get_entries bytes count first n k small few less)
 
 pub no_entry_at : (bytes : List ℕ) (count first n k : ℕ) → n ≤ k → None ≡ slice_get (entries_from bytes count first n) k
-no_entry_at bytes count first n k past = sym (slice_get_past (entries_from bytes count first n) k (let long = length_entries bytes count first n in omega (arith, long, past)))
+no_entry_at bytes count first n k past = sym (slice_get_past (entries_from bytes count first n) k (let long = length_entries bytes count first n in
+    omega (arith, long, past)))

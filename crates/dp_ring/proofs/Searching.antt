@@ -11,7 +11,8 @@ found_at (z ∷ xs) zero x y is same = ap (λ b. b || list_any (λ w. eqb w y) x
 found_at (z ∷ xs) (suc k) x y is same = found_at xs k x y is same
 
 -- another stands at the place
-pub missed_at : (xs : List ℕ) (k x y : ℕ) → slice_get xs k ≡ Some x → eqb x y ≡ false → list_any (λ z. eqb z y) (drop k xs) ≡ list_any (λ z. eqb z y) (drop (suc k) xs)
+pub missed_at : (xs : List ℕ) (k x y : ℕ) → slice_get xs k ≡ Some x → eqb x y ≡ false → list_any (λ z. eqb z y) (drop k xs)
+    ≡ list_any (λ z. eqb z y) (drop (suc k) xs)
 missed_at [] k x y is other = absurd (none-some x is)
 missed_at (z ∷ xs) zero x y is other = ap (λ b. b || list_any (λ w. eqb w y) xs) (ap (λ o. eqb (unwrap_or o x) y) is ∙ other)
 missed_at (z ∷ xs) (suc k) x y is other = missed_at xs k x y is other

@@ -10,9 +10,11 @@ use Rattle.dp_ring.specs.Rings.{next_place, entries_from, place_behind, IsRun, S
 use Rattle.dp_ring.proofs.Entries.{place_cases, place_behind-next, next_place-small, place_behind-small, slice_get_entries, length_entries}
 
 -- an entry of the list
-entry_is : (bytes : List ℕ) (count first n k : ℕ) → first < count → n < count → k < n → slice_index (entries_from bytes count first n) k ≡ number_at bytes (4 * place_behind count first k) 4
+entry_is : (bytes : List ℕ) (count first n k : ℕ) → first < count → n < count → k < n → slice_index (entries_from bytes count first n) k
+    ≡ number_at bytes (4 * place_behind count first k) 4
 entry_is bytes count first n k small few less =
-    get_or_from_slice_get (entries_from bytes count first n) k (number_at bytes (4 * place_behind count first k) 4) 0 (slice_get_entries bytes count first n k small few less)
+    get_or_from_slice_get (entries_from bytes count first n) k (number_at bytes (4 * place_behind count first k) 4) 0
+    (slice_get_entries bytes count first n k small few less)
 
 here : (count first : ℕ) → first < count → place_behind count first 0 ≡ first
 here count first small = elim (place_cases count first 0) [
@@ -26,7 +28,8 @@ entries_are : (bytes : List ℕ) (count first : ℕ) (es : List ℕ) → first <
     → entries_from bytes count first (length es) ≡ es
 entries_are bytes count first [] small few each = refl
 entries_are bytes count first (e ∷ es) small few each =
-    ap (λ x. x ∷ entries_from bytes count (next_place count first) (length es)) (ap (λ p. number_at bytes (4 * p) 4) (sym (here count first small)) ∙ each 0 (omega arith))
+    ap (λ x. x ∷ entries_from bytes count (next_place count first) (length es)) (ap (λ p. number_at bytes (4 * p) 4) (sym (here count first small))
+    ∙ each 0 (omega arith))
     ∙ ap (λ xs. e ∷ xs) (entries_are bytes count (next_place count first) es (next_place-small count first small) (omega (arith, few)) (λ i less.
     ap (λ p. number_at bytes (4 * p) 4) (place_behind-next count first i small (omega (arith, few, less))) ∙ each (suc i) (omega (arith, less))))
 
@@ -74,7 +77,8 @@ module _ (count first used m n : ℕ) (small : first < count) (few : used + m < 
   ]
 
   -- the first n stand beside the entries
-  beside : (i : ℕ) → i < used → (place_behind count first i + 1 ≤ place_behind count first used) ⊎ (place_behind count first used + n ≤ place_behind count first i)
+  beside : (i : ℕ) → i < used → (place_behind count first i + 1 ≤ place_behind count first used)
+      ⊎ (place_behind count first used + n ≤ place_behind count first i)
   beside i less = elim (place_cases count first used) [
     | inl a ↦ elim (place_cases count first i) [
       | inl b ↦ inl (omega (arith, a.1, b.1, less))
@@ -89,7 +93,8 @@ module _ (count first used m n : ℕ) (small : first < count) (few : used + m < 
 -- ---- m numbers are stored behind the entries
 
 stored_length : (bytes : List ℕ) (count first used : ℕ) (values : List ℕ) → length (entries_from bytes count first used ++ values) ≡ used + length values
-stored_length bytes count first used values = length-append (entries_from bytes count first used) values ∙ ap (λ k. k + length values) (length_entries bytes count first used)
+stored_length bytes count first used values = length-append (entries_from bytes count first used) values
+    ∙ ap (λ k. k + length values) (length_entries bytes count first used)
 
 pub entries_stored : (count first used n : ℕ) (values old mid new : List ℕ) → first < count → used + length values < count → 4 * count ≤ length old
     → n ≤ length values → n ≤ count - place_behind count first used → (n ≡ length values) ⊎ (n ≡ count - place_behind count first used)
@@ -112,7 +117,8 @@ entries_stored count first used n values old mid new small few room most fits cu
       | inl yes' ↦
           let under = ltb-true i used yes' in
           let place = place_behind-small count first i small (omega (arith, under, few)) in
-          let off : (4 * place_behind count first i + 4 ≤ 4 * p) ⊎ (4 * (p + length (take n values)) ≤ 4 * place_behind count first i) = elim (beside count first used m n small few most fits cut i under) [
+          let off : (4 * place_behind count first i + 4 ≤ 4 * p) ⊎ (4 * (p + length (take n values)) ≤ 4 * place_behind count first i) =
+          elim (beside count first used m n small few most fits cut i under) [
             | inl a ↦ inl (omega (arith, a))
             | inr b ↦ inr (omega (arith, b, front_long))
           ] in
@@ -136,7 +142,8 @@ entries_stored count first used n values old mid new small few room most fits cu
             | inr far ↦
                 let over = ltb-false j n far in
                 let within : j < m = omega (arith, less, all, past) in
-                let at : place_behind count first i ≡ 0 + (j - n) = ap (place_behind count first) is ∙ (behind_turn count first used m n small few most fits cut j over within ∙ omega arith) in
+                let at : place_behind count first i ≡ 0 + (j - n) = ap (place_behind count first) is
+                ∙ (behind_turn count first used m n small few most fits cut j over within ∙ omega arith) in
                 let k : n + (j - n) ≡ j = omega (arith, over) in
                 ap (λ q. number_at new (4 * q) 4) at
                 ∙ (back.stored (j - n) (omega (arith, over, within, back_long))
@@ -168,18 +175,21 @@ entries_loaded count first used m n bytes front back small few all most fits cut
     elim (cases_Bool (ltb j n)) [
       | inl yes' ↦
           let under = ltb-true j n yes' in
-          let at : place_behind count first j ≡ first + j = ap (place_behind count first) (sym zero_more) ∙ (before_turn count first 0 m n small few' most fits' cut' j under ∙ ap (λ p. p + j) first_is) in
+          let at : place_behind count first j ≡ first + j = ap (place_behind count first) (sym zero_more)
+          ∙ (before_turn count first 0 m n small few' most fits' cut' j under ∙ ap (λ p. p + j) first_is) in
           get_or_append_left front back 0 j (omega (arith, under, front_long))
           ∙ (sym (near j (omega (arith, under, front_long))) ∙ (ap (λ q. number_at bytes (4 * q) 4) (sym at) ∙ sym entry))
       | inr no' ↦
           let over = ltb-false j n no' in
-          let at : place_behind count first j ≡ 0 + (j - n) = ap (place_behind count first) (sym zero_more) ∙ (behind_turn count first 0 m n small few' most fits' cut' j over within ∙ omega arith) in
+          let at : place_behind count first j ≡ 0 + (j - n) = ap (place_behind count first) (sym zero_more)
+          ∙ (behind_turn count first 0 m n small few' most fits' cut' j over within ∙ omega arith) in
           get_or-append_right front back n j 0 front_long over
           ∙ (sym (far (j - n) (omega (arith, over, within, back_long))) ∙ (ap (λ q. number_at bytes (4 * q) 4) (sym at) ∙ sym entry))
     ])
 
 -- further behind a place behind the first
-place_behind-twice : (count first m i : ℕ) → first < count → m + i < count → place_behind count (place_behind count first m) i ≡ place_behind count first (m + i)
+place_behind-twice : (count first m i : ℕ) → first < count → m + i < count → place_behind count (place_behind count first m) i
+    ≡ place_behind count first (m + i)
 place_behind-twice count first m i small few = elim (place_cases count first m) [
   | inl a ↦ elim (place_cases count (place_behind count first m) i) [
     | inl b ↦ elim (place_cases count first (m + i)) [
@@ -209,7 +219,8 @@ entries_left bytes count first used m small few all =
     let left = length-drop m es in
     let is : length (drop m es) ≡ used - m = omega (arith, left, es_long) in
     ap (λ k. entries_from bytes count (place_behind count first m) k) (sym is)
-    ∙ entries_are bytes count (place_behind count first m) (drop m es) (place_behind-small count first m small (omega (arith, few, all))) (omega (arith, is, few)) (λ i less.
+    ∙ entries_are bytes count (place_behind count first m) (drop m es) (place_behind-small count first m small (omega (arith, few, all)))
+    (omega (arith, is, few)) (λ i less.
     let within : m + i < used = omega (arith, less, is, all) in
     ap (λ q. number_at bytes (4 * q) 4) (place_behind-twice count first m i small (omega (arith, within, few)))
     ∙ (sym (entry_is bytes count first used (m + i) small few within) ∙ sym (get_or-drop m es i 0)))

@@ -13,7 +13,8 @@ use Rattle.dp_region.specs.Laws.{length-with_bytes, number_at-same, number_at-ot
 use Rattle.dp_ring.specs.Rings.{IsRun, Stores}
 
 -- a number of what was written
-number_at-inside : (xs : List ℕ) (p : ℕ) (ws : List ℕ) (q : ℕ) → p + length ws ≤ length xs → q + 4 ≤ length ws → number_at (with_bytes xs p ws) (p + q) 4 ≡ number_at ws q 4
+number_at-inside : (xs : List ℕ) (p : ℕ) (ws : List ℕ) (q : ℕ) → p + length ws ≤ length xs → q + 4 ≤ length ws → number_at (with_bytes xs p ws) (p + q) 4
+    ≡ number_at ws q 4
 number_at-inside xs p ws q fits room =
     let all = length-with_bytes xs p ws fits in
     let new = run_long (with_bytes xs p ws) (p + q) 4 (omega arith) in
@@ -44,11 +45,14 @@ pub run_more : (bytes numbers : List ℕ) (k : ℕ) → length bytes ≡ 4 * len
     → ((j : ℕ) → j < k → number_at bytes (4 * (0 + j)) 4 ≡ slice_index numbers j)
     → (j : ℕ) → j < k + 1 → number_at (with_number bytes (4 * k) 4 (slice_index numbers k)) (4 * (0 + j)) 4 ≡ slice_index numbers j
 run_more bytes numbers k long less fits before = below_more _ k
-    (λ j under. number_at-other bytes (4 * k) (slice_index numbers k) (omega (arith, long, less)) (4 * (0 + j)) (omega (arith, long, less, under)) (inl (omega (arith, under))) ∙ before j under)
-    (ap (λ p. number_at (with_number bytes (4 * k) 4 (slice_index numbers k)) p 4) (omega arith) ∙ number_at-same bytes (4 * k) (slice_index numbers k) (omega (arith, long, less)) fits)
+    (λ j under. number_at-other bytes (4 * k) (slice_index numbers k) (omega (arith, long, less)) (4 * (0 + j)) (omega (arith, long, less, under))
+    (inl (omega (arith, under))) ∙ before j under)
+    (ap (λ p. number_at (with_number bytes (4 * k) 4 (slice_index numbers k)) p 4) (omega arith)
+    ∙ number_at-same bytes (4 * k) (slice_index numbers k) (omega (arith, long, less)) fits)
 
 -- numbers that are written over a part of the bytes
-pub stores : (place : ℕ) (numbers old ws : List ℕ) → 4 * (place + length numbers) ≤ length old → length ws ≡ 4 * length numbers → IsRun ws 0 numbers → Stores place numbers old (with_bytes old (4 * place) ws)
+pub stores : (place : ℕ) (numbers old ws : List ℕ) → 4 * (place + length numbers) ≤ length old → length ws ≡ 4 * length numbers → IsRun ws 0 numbers →
+    Stores place numbers old (with_bytes old (4 * place) ws)
 stores place numbers old ws fits long run = record {
   long = length-with_bytes old (4 * place) ws (omega arith);
   stored = λ k less.

@@ -18,7 +18,8 @@ pub record RingView : Type 0 where
 -- it is stored as the tuple of its fields
 abbrev pub ring_code : Coded RingView
 ring_code =
-    code_by (ℕ × (List ℕ × (List ℕ × (Home × (ℕ × ℕ))))) (coded× coded_ℕ (coded× (coded_list coded_ℕ) (coded× (coded_list coded_ℕ) (coded× home_code (coded× coded_ℕ coded_ℕ)))))
+    code_by (ℕ × (List ℕ × (List ℕ × (Home × (ℕ × ℕ))))) (coded× coded_ℕ
+    (coded× (coded_list coded_ℕ) (coded× (coded_list coded_ℕ) (coded× home_code (coded× coded_ℕ coded_ℕ)))))
     (λ r. (r.count, (r.entries, (r.name, (r.home, (r.place, r.len))))))
     (λ p. record { count = p.0; entries = p.1.0; name = p.1.1.0; home = p.1.1.1.0; place = p.1.1.1.1.0; len = p.1.1.1.1.1 }) (λ _. refl)
 

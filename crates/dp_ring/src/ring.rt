@@ -1,6 +1,7 @@
 //! A ring of numbers.
 
-ghost use Rattle.std.specs.Prelude.{◌≡◌, ℕ, ◌+◌, ◌-◌, ◌*◌, ◌<◌, ◌≤◌, ◌⊎◌, ◌++◌, [], ◌∷◌, length, take, drop, min, nat_lt, nat_le, if◌then◌else◌, slice_get, Some, None, MatchOption, ◌==◌};
+ghost use Rattle.std.specs.Prelude.{◌≡◌, ℕ, ◌+◌, ◌-◌, ◌*◌, ◌<◌, ◌≤◌, ◌⊎◌, ◌++◌, [], ◌∷◌, length, take, drop, min, nat_lt, nat_le, if◌then◌else◌, slice_get};
+ghost use Rattle.std.specs.Prelude.{Some, None, MatchOption, ◌==◌};
 ghost use Rattle.std.specs.List.{list_any};
 ghost use Rattle.dp_ring.specs.Rings.{IsCount, empty_over, room_in, with_more, without_first, place_behind, next_place};
 
@@ -28,7 +29,14 @@ impl Model for Ring {
 
     ghost coded = { ring_code };
 
-    ghost view = { λ r. record { count = r.count; entries = entries_from r.zone.bytes r.count r.first r.used; name = r.zone.name; home = r.zone.home; place = r.zone.place; len = length r.zone.bytes } };
+    ghost view = { λ r. record {
+      count = r.count;
+      entries = entries_from r.zone.bytes r.count r.first r.used;
+      name = r.zone.name;
+      home = r.zone.home;
+      place = r.zone.place;
+      len = length r.zone.bytes;
+    } };
 
     ghost invariant = { λ r. (r.first < r.count) × (r.used < r.count) × (r.count ≤ 65536) × (4 * r.count ≤ length r.zone.bytes) };
 }
@@ -263,7 +271,8 @@ impl Ring {
     /// rest of the list stays.
     pub fn dequeue_burst(&mut self, values: &mut [u32]) -> usize
         ensures number { result ≡ min (length values.old) (length self.old.entries) }
-        ensures first { values.new ≡ take (min (length values.old) (length self.old.entries)) self.old.entries ++ drop (min (length values.old) (length self.old.entries)) values.old }
+        ensures first { values.new ≡ take (min (length values.old) (length self.old.entries)) self.old.entries
+            ++ drop (min (length values.old) (length self.old.entries)) values.old }
         ensures rest { self.new ≡ without_first self.old (min (length values.old) (length self.old.entries)) }
     {
         let number = values.len().min(self.count() as usize);

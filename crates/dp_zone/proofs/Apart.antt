@@ -10,14 +10,19 @@ use Rattle.dp_zone.specs.Zones.{Reserved, is_named, has_name, zone_named, withou
 use Rattle.dp_zone.specs.Entries.{entry_of, table_of}
 
 same_back : (a b : List ℕ) → same_name a b ≡ same_name b a
-same_back a b = same_from_decides (same_name a b) (same_name b a) (bytes_eq-Decides a b) (λ e. sym ((bytes_eq-Decides b a).0 e), λ e. (bytes_eq-Decides b a).1 (sym e))
+same_back a b = same_from_decides (same_name a b) (same_name b a) (bytes_eq-Decides a b) (
+  λ e. sym ((bytes_eq-Decides b a).0 e),
+  λ e.
+      (bytes_eq-Decides b a).1 (sym e),
+)
 
 none_of : (a b : Bool) → a ≡ false → b ≡ false → (a || b) ≡ false
 none_of true b is none = absurd (true≢false is)
 none_of false b is none = none
 
 -- a zone behind the others adds its name alone
-fresh_behind : (name : List ℕ) (table : List Reserved) (r : Reserved) → has_name name table ≡ false → same_name r.name name ≡ false → has_name name (table ++ r ∷ []) ≡ false
+fresh_behind : (name : List ℕ) (table : List Reserved) (r : Reserved) → has_name name table ≡ false → same_name r.name name ≡ false →
+    has_name name (table ++ r ∷ []) ≡ false
 fresh_behind name [] r none other = none_of (same_name r.name name) false other refl
 fresh_behind name (q ∷ table) r none other =
     let parts = or_parts (is_named name q) (has_name name table) none in
@@ -66,6 +71,8 @@ gone_without name (r ∷ table) apart = by (is_named name r) refl (gone_without 
 -- ---- what the entries say
 
 -- an entry of a new name may stand behind the others
-pub apart_entries : (entries : List Entry) (e : Entry) (name : List ℕ) → AreApart (table_of entries) → e.name.bytes ≡ name → has_name name (table_of entries) ≡ false → AreApart (table_of (entries ++ e ∷ []))
+pub apart_entries : (entries : List Entry) (e : Entry) (name : List ℕ) → AreApart (table_of entries) → e.name.bytes ≡ name → has_name name (table_of entries)
+    ≡ false → AreApart (table_of (entries ++ e ∷ []))
 apart_entries entries e name apart named fresh =
-    subst AreApart (sym (map-append entry_of entries (e ∷ []))) (apart_more (table_of entries) (entry_of e) apart (subst (λ n. has_name n (table_of entries) ≡ false) (sym named) fresh))
+    subst AreApart (sym (map-append entry_of entries (e ∷ []))) (apart_more (table_of entries) (entry_of e) apart
+    (subst (λ n. has_name n (table_of entries) ≡ false) (sym named) fresh))

@@ -18,4 +18,5 @@ missed false n is = refl
 
 -- where there is no first element that passes, none passes
 pub none_from_position : {X : Type 0} (p : X → Bool) (xs : List X) → position p xs ≡ None → list_any p xs ≡ false
-none_from_position p xs is = none_passes p xs (ltb-false (position_or_len p xs) (length xs) (missed (ltb (position_or_len p xs) (length xs)) (position_or_len p xs) is))
+none_from_position p xs is = none_passes p xs (ltb-false (position_or_len p xs) (length xs)
+    (missed (ltb (position_or_len p xs) (length xs)) (position_or_len p xs) is))

@@ -1,6 +1,7 @@
 //! The table of zones.
 
-ghost use Rattle.std.specs.Prelude.{◌≡◌, ◌+◌, ◌<◌, ◌≤◌, ◌&&◌, List, [], ◌∷◌, ◌++◌, length, Contains, IfOk, IfErr, IfSome, IfNone, OnOk, OnErr, MatchResult, find, position, option_map, None, true, false};
+ghost use Rattle.std.specs.Prelude.{◌≡◌, ◌+◌, ◌<◌, ◌≤◌, ◌&&◌, List, [], ◌∷◌, ◌++◌, length, Contains, IfOk, IfErr, IfSome, IfNone, OnOk, OnErr, MatchResult};
+ghost use Rattle.std.specs.Prelude.{find, position, option_map, None, true, false};
 ghost use Rattle.std.specs.List.{list_any};
 ghost use Rattle.dp_heap.specs.declared.elements.Element.{Element};
 ghost use Rattle.dp_heap.specs.Elements.{rounded, alignment, Taken, merged, IsOut, count_of, is_busy};
@@ -174,7 +175,8 @@ impl Zones {
         ensures home { heap.new.home ≡ heap.old.home }
         ensures refused { IfErr result (λ e. IsZoneRefused e name.now len align self.old heap.old.elements) }
         ensures kept { OnErr result ((self.new ≡ self.old) × (heap.new ≡ heap.old)) }
-        ensures counted { MatchResult result (λ _. count_of is_busy heap.new.elements ≡ count_of is_busy heap.old.elements + 1) (λ _. count_of is_busy heap.new.elements ≡ count_of is_busy heap.old.elements) }
+        ensures counted { MatchResult result (λ _. count_of is_busy heap.new.elements ≡ count_of is_busy heap.old.elements + 1)
+            (λ _. count_of is_busy heap.new.elements ≡ count_of is_busy heap.old.elements) }
     {
         if let Some(error) = self.refusal(name, len, align) {
             return Err(error);

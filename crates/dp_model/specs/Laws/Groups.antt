@@ -1,5 +1,6 @@
 -- Laws of groups of registers that share: who belongs to which, and what edits of a row leave.
-use Rattle.std.proofs.Common.{◌≡◌, ◌≢◌, ℕ, zero, suc, ◌+◌, Bool, true, false, List, [], ◌∷◌, length, Option, Some, None, refl, ◌∙◌, ap, subst, arith, ◌⊎◌, ◌-◌, cond, sym, inl, inr, ⊎_elim, ◌&&◌, get_or}
+use Rattle.std.proofs.Common.{◌≡◌, ◌≢◌, ℕ, zero, suc, ◌+◌, Bool, true, false, List, [], ◌∷◌, length, Option, Some, None, refl, ◌∙◌, ap, subst, arith, ◌⊎◌}
+use Rattle.std.proofs.Common.{◌-◌, cond, sym, inl, inr, ⊎_elim, ◌&&◌, get_or}
 use Rattle.std.specs.Prelude.{slice_get, slice_set, option_and_then, nat_le, ◌==◌, ◌≢◌}
 use Rattle.std.specs.Option.{option_map_or}
 use Rattle.std.proofs.lemmas.Option.{same_Some}
@@ -12,7 +13,8 @@ use Rattle.std.proofs.lemmas.List.Quantifiers.{position-Some}
 use Rattle.dp_model.specs.declared.row.Fact.{Fact}
 use Rattle.dp_model.specs.declared.row.Fact.TheVariants.{Empty, Held}
 use Rattle.dp_model.specs.declared.row.Row.{Row}
-use Rattle.dp_model.specs.Rows.{Holding, holding, group_at, with_shares, dissolved, is_well_formed_row, is_fact_of_row, held, held_at, with_fact, changed, emptied}
+use Rattle.dp_model.specs.Rows.{Holding, holding, group_at, with_shares, dissolved, is_well_formed_row, is_fact_of_row, held, held_at, with_fact, changed}
+use Rattle.dp_model.specs.Rows.{emptied}
 use Rattle.dp_model.specs.Groups.{group_of, is_in, size, share_of_group, belongs, reshared_fact, reshared, same_registers, least, is_group, are_groups}
 use Rattle.dp_model.specs.Laws.Lists.{get_set_other, get_set_same, all_at}
 use Rattle.dp_model.specs.Laws.Cases.{one_if, by_cases}

@@ -1,5 +1,6 @@
 -- Laws of the bytes of buffers, when one of them is written.
-use Rattle.std.proofs.Common.{◌≡◌, ◌≢◌, ℕ, zero, suc, ◌+◌, ◌-◌, ◌≤◌, true, List, [], ◌∷◌, ◌++◌, refl, ◌∙◌, ap, arith, ◌<◌, false, length, sym, subst, get_or, set, ⊎_elim, ◌⊎◌, take, drop, inl, inr, length-append, length-take, length-drop}
+use Rattle.std.proofs.Common.{◌≡◌, ◌≢◌, ℕ, zero, suc, ◌+◌, ◌-◌, ◌≤◌, true, List, [], ◌∷◌, ◌++◌, refl, ◌∙◌, ap, arith, ◌<◌, false, length, sym, subst, get_or}
+use Rattle.std.proofs.Common.{set, ⊎_elim, ◌⊎◌, take, drop, inl, inr, length-append, length-take, length-drop}
 use Rattle.std.proofs.lemmas.Bool.{eq-eqb, and_from, and_parts, eqb-true, cases_eq, cases_lt, both_ways, cases_Bool}
 use Rattle.std.proofs.Math.ListN.{get_or-append}
 use Rattle.std.specs.Prelude.{slice_range}
@@ -138,7 +139,8 @@ range_long xs offset len fits =
 pub range_overwritten : (old new : List ℕ) (offset len place : ℕ) → place + length new ≤ len → offset + len ≤ length old
     → slice_range (overwritten old (offset + place) new) offset (offset + len) ≡ overwritten (slice_range old offset (offset + len)) place new
 range_overwritten old new offset len place short long =
-    ext_get_or 0 (slice_range written offset (offset + len)) (overwritten part place new) (omega (arith, left, right, many)) (λ k h. each k (omega (arith, h, left)))
+    ext_get_or 0 (slice_range written offset (offset + len)) (overwritten part place new) (omega (arith, left, right, many))
+    (λ k h. each k (omega (arith, h, left)))
   where
     written : List ℕ
     written = overwritten old (offset + place) new

@@ -7,5 +7,6 @@ adj-requires c = front_long c.args.m.now.store c.prepend.new.self.store c.args.p
 
 pub returns : goal.returns
 returns c =
-    let back = front_back c.args.m.now.store c.prepend.new.self.store c.args.packet.now 16 (omega arith) c.requires c.prepend.ensures.packets c.adj.new.self.store c.adj.ensures.packets in
+    let back = front_back c.args.m.now.store c.prepend.new.self.store c.args.packet.now 16 (omega arith) c.requires c.prepend.ensures.packets
+    c.adj.new.self.store c.adj.ensures.packets in
     (back.0, back.1, c.adj.ensures.zones ∙ c.prepend.ensures.zones)

@@ -9,5 +9,12 @@ returns c e =
     let k = c.requires.0 in
     let has = c.requires.1 in
     let one : c.refs-sharers.result ≡ 1 = search rules in
-    let room = c.headroom.ensures k has in
-    (k, has, (omega (arith, room, leb-true 16 c.headroom.result e), head_sole (segments_of c.args.m.now.store) k c.refs-sharers.result (c.refs-sharers.ensures k has) one))
+    let room = c.headroom.ensures k has in (
+      k,
+      has,
+      (
+        omega (arith, room, leb-true 16 c.headroom.result e),
+        head_sole (segments_of c.args.m.now.store) k c.refs-sharers.result
+            (c.refs-sharers.ensures k has) one,
+      ),
+    )

@@ -14,5 +14,6 @@ free-requires c = receive_live c.args.m.now.store c.receive.new.self.store 0 c.i
 
 pub returns-in-Some : goal.returns-in-Some
 returns-in-Some c =
-    let back = receive_back c.args.m.now.store c.receive.new.self.store 0 c.in-Some.packet c.args.bytes.now c.in-Some.ensures.packets c.free.new.self.store c.free.ensures.packets in
+    let back = receive_back c.args.m.now.store c.receive.new.self.store 0 c.in-Some.packet c.args.bytes.now c.in-Some.ensures.packets c.free.new.self.store
+    c.free.ensures.packets in
     (back.0, back.1, c.free.ensures.zones ∙ c.receive.ensures.zones)

@@ -6,10 +6,12 @@ pub served_beside-served-requires-clause-live : goal.served_beside-served-requir
 served_beside-served-requires-clause-live c = alloc_live c.args.m.now.store c.alloc.new.self.store 0 c.in-Some.packet c.in-Some.ensures.packets
 
 pub served_beside-served-requires-clause-pools : goal.served_beside-served-requires-clause-pools
-served_beside-served-requires-clause-pools c = some_kept c.args.m.now.store c.alloc.new.self.store (alloc_pools c.args.m.now.store c.alloc.new.self.store 0 c.in-Some.packet c.in-Some.ensures.packets) c.requires.pools
+served_beside-served-requires-clause-pools c = some_kept c.args.m.now.store c.alloc.new.self.store
+    (alloc_pools c.args.m.now.store c.alloc.new.self.store 0 c.in-Some.packet c.in-Some.ensures.packets) c.requires.pools
 
 pub served_beside-served-requires-clause-room : goal.served_beside-served-requires-clause-room
-served_beside-served-requires-clause-room c = room_kept c.args.m.now.store c.alloc.new.self.store (alloc_pools c.args.m.now.store c.alloc.new.self.store 0 c.in-Some.packet c.in-Some.ensures.packets) c.requires.room
+served_beside-served-requires-clause-room c = room_kept c.args.m.now.store c.alloc.new.self.store
+    (alloc_pools c.args.m.now.store c.alloc.new.self.store 0 c.in-Some.packet c.in-Some.ensures.packets) c.requires.room
 
 pub free-requires : goal.free-requires
 free-requires c =
@@ -19,5 +21,6 @@ free-requires c =
 pub returns-clause-same : goal.returns-clause-same
 returns-clause-same c =
     let same = c.served_beside-served.ensures.same in
-    let back = returned c.args.m.now.store c.alloc.new.self.store c.served_beside-served.new.m.store c.free.new.self.store 0 c.in-Some.packet c.in-Some.ensures.packets same.0 same.1 c.free.ensures.packets in
+    let back = returned c.args.m.now.store c.alloc.new.self.store c.served_beside-served.new.m.store c.free.new.self.store 0 c.in-Some.packet
+    c.in-Some.ensures.packets same.0 same.1 c.free.ensures.packets in
     (back.0, back.1, c.free.ensures.zones ∙ (same.2 ∙ c.alloc.ensures.zones))

@@ -17,4 +17,5 @@ returns-in-Ok c =
     (rw (behind c.args.text.now) at c.in-Ok.ensures.exact) c.of_version.ensures.rows c.of_version.ensures.version
 
 pub returns-in-Err : goal.returns-in-Err
-returns-in-Err c = error_of c.args.n c.args.text.now c.in-Some.version c.in-Err.error (sym c.version_in.ensures ∙ c.in-Some.is) (rw (behind c.args.text.now) at c.in-Err.ensures.exact)
+returns-in-Err c = error_of c.args.n c.args.text.now c.in-Some.version c.in-Err.error (sym c.version_in.ensures
+    ∙ c.in-Some.is) (rw (behind c.args.text.now) at c.in-Err.ensures.exact)

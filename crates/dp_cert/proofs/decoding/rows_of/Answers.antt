@@ -23,7 +23,8 @@ loop-i-preserved c =
     let back : c.split_at.result.1.now ≡ drop 307 c.loop-i.rest.now = c.split_at.ensures.back ∙ rw c.min.ensures (drop_min 307 c.loop-i.rest.now) in
     let e : row_of c.args.version (take 307 c.loop-i.rest.now) ≡ Ok c.in-Ok.row = rw (← front) (sym c.in_ok-row.ensures ∙ c.in-Ok.is) in
     record {
-      told = rw (c.in_ok-push-in-Ok.ensures.items, back) (goes_on c.args.version c.loop-i.rows.items c.args.n c.loop-i.i c.loop-i.rest.now c.in-Ok.row _ c.loop-i-test.true some e c.loop-i.invariant.told);
+      told = rw (c.in_ok-push-in-Ok.ensures.items, back) (goes_on c.args.version c.loop-i.rows.items c.args.n c.loop-i.i c.loop-i.rest.now c.in-Ok.row _
+          c.loop-i-test.true some e c.loop-i.invariant.told);
       far = omega (arith, c.split_at.ensures.back_len, c.min.ensures, c.loop-i.invariant.far);
     }
 

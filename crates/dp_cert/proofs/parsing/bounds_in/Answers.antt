@@ -6,7 +6,8 @@ use Rattle.dp_cert.proofs.parsing.bounds_in.Goals as goal
 
 pub loop-i-preserved : goal.loop-i-preserved
 loop-i-preserved c = record {
-  told = parts_more bound_in 8 8 c.args.bytes.now c.loop-i.bounds c.loop-i.i c.bound_in.result _ c.loop-i-test.true (omega (arith, c.loop-i.invariant.eight)) c.bound_in.ensures c.loop-i.invariant.told;
+  told = parts_more bound_in 8 8 c.args.bytes.now c.loop-i.bounds c.loop-i.i c.bound_in.result _ c.loop-i-test.true (omega (arith, c.loop-i.invariant.eight))
+      c.bound_in.ensures c.loop-i.invariant.told;
   eight = simp length-set c.loop-i.invariant.eight;
 }
 

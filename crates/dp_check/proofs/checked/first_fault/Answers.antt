@@ -10,13 +10,15 @@ loop-label-preserved c =
     let same = c.rows-rows.ensures.same in
     let version = c.args.cert.now.version in
     let begins = begins_with c.args.program.now c.rows-rows.result.now c.args.cert.now c.args.env.now c.args.entry same (cc (c.begins_well.ensures version)) in
-    let here = fault_with c.args.program.now c.rows-rows.result.now c.args.cert.now c.args.env.now c.args.entry c.loop-label.label None same (cc (c.in_default.ensures version c.args.entry)) in
+    let here = fault_with c.args.program.now c.rows-rows.result.now c.args.cert.now c.args.env.now c.args.entry c.loop-label.label None same
+    (cc (c.in_default.ensures version c.args.entry)) in
     one_more (question c.args.program.now c.args.cert.now c.args.env.now c.args.entry) c.loop-label.label
     (omega (arith, ap length same)) begins c.loop-label.invariant here
 
 pub returns-clause-none : goal.returns-clause-none
 returns-clause-none c =
     let same = c.rows-rows.ensures.same in
-    let begins = begins_with c.args.program.now c.rows-rows.result.now c.args.cert.now c.args.env.now c.args.entry same (cc (c.begins_well.ensures c.args.cert.now.version)) in
+    let begins = begins_with c.args.program.now c.rows-rows.result.now c.args.cert.now c.args.env.now c.args.entry same
+    (cc (c.begins_well.ensures c.args.cert.now.version)) in
     none_left (question c.args.program.now c.args.cert.now c.args.env.now c.args.entry) c.loop-label.label
     (omega (arith, ap length same)) begins c.loop-label.invariant (omega arith)

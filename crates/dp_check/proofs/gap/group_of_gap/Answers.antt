@@ -7,4 +7,5 @@ use Rattle.dp_check.proofs.gap.group_of_gap.Goals as goal
 
 pub returns-clause-group : goal.returns-clause-group
 returns-clause-group c =
-    some_index (λ other. group_of other ≡ Some c.in_ok-group.group) c.args.others.now c.args.member Empty (grind arith) (sym c.group.ensures ∙ c.in_ok-group.was)
+    some_index (λ other. group_of other ≡ Some c.in_ok-group.group) c.args.others.now c.args.member Empty (grind arith) (sym c.group.ensures
+    ∙ c.in_ok-group.was)

@@ -7,9 +7,12 @@ use Rattle.dp_infer.proofs.inferring.spread.Goals as goal
 
 pub loop-label-preserved : goal.loop-label-preserved
 loop-label-preserved c =
-    let at_i : slice_get c.args.program.now c.loop-label.label ≡ Some c.index-program-label.result = slice_get_read c.args.program.now (length c.args.program.now) c.loop-label.label c.index-program-label.result refl (omega arith) c.index-program-label.is in
+    let at_i : slice_get c.args.program.now c.loop-label.label ≡ Some c.index-program-label.result =
+    slice_get_read c.args.program.now (length c.args.program.now) c.loop-label.label c.index-program-label.result refl
+    (omega arith) c.index-program-label.is in
     record {
-      told = rw c.pass_from.ensures.told (spread_more c.args.env.now c.args.program.now c.loop-label.label c.index-program-label.result c.loop-label.rows _ at_i c.loop-label.invariant.told);
+      told = rw c.pass_from.ensures.told (spread_more c.args.env.now c.args.program.now c.loop-label.label c.index-program-label.result c.loop-label.rows _
+          at_i c.loop-label.invariant.told);
       well_formed = c.pass_from.ensures.well_formed;
     }
 

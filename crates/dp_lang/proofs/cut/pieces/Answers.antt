@@ -7,7 +7,8 @@ use Rattle.std.proofs.lemmas.List.Splits.{length-slice_split}
 use Rattle.dp_lang.specs.Lines as spec
 use Rattle.dp_lang.proofs.cut.pieces.Goals as goal
 
-some : {E : Type 0} (p : ℕ → Bool) (bytes : List ℕ) (r : Result (Vec (Bor (List ℕ))) E) → IfOk r (λ v. map (λ part. part.now) v.items ≡ slice_split p bytes) → IfOk r (λ v. 0 < length v.items)
+some : {E : Type 0} (p : ℕ → Bool) (bytes : List ℕ) (r : Result (Vec (Bor (List ℕ))) E) → IfOk r (λ v. map (λ part. part.now) v.items ≡ slice_split p bytes) →
+    IfOk r (λ v. 0 < length v.items)
 some p bytes (Ok v) h = omega (arith, length-map v.items (λ (part : Bor (List ℕ)). part.now), ap length h, length-slice_split p bytes)
 some p bytes (Err e) h = tt
 

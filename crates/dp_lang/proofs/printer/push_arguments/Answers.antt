@@ -7,4 +7,5 @@ use Rattle.dp_lang.proofs.printer.push_arguments.Goals as goal
 pub returns : goal.returns
 returns c =
     let done : drop c.loop-argument.argument-index c.args.arguments.now ≡ [] = drop_all _ _ c.loop-argument-test.false in
-    rw (arguments_text-behind (map numbered c.args.arguments.now)) (sym (append-nil (string_bytes c.loop-argument.out)) ∙ (rw done at c.loop-argument.invariant))
+    rw (arguments_text-behind (map numbered c.args.arguments.now)) (sym (append-nil (string_bytes c.loop-argument.out))
+    ∙ (rw done at c.loop-argument.invariant))

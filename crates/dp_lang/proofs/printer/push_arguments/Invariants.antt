@@ -5,4 +5,5 @@ use Rattle.dp_lang.proofs.Joins.{behind}
 use Rattle.dp_lang.proofs.printer.push_arguments.Given as goal
 
 abbrev pub invariant-loop-argument : goal.invariant-loop-argument
-invariant-loop-argument l = string_bytes l.out ++ behind (encode_utf8 l.before) (map numbered (drop l.argument-index l.arguments)) ≡ string_bytes l.fn.out ++ behind (32 ∷ []) (map numbered l.arguments)
+invariant-loop-argument l = string_bytes l.out ++ behind (encode_utf8 l.before) (map numbered (drop l.argument-index l.arguments)) ≡ string_bytes l.fn.out
+    ++ behind (32 ∷ []) (map numbered l.arguments)

@@ -10,10 +10,12 @@ loop-piece-preserved c =
     elim c.match-label_fault.branch [
       | in-Err w ↦
           rw (w.fault-is, w.or_less.ensures, c.in_ok-insert.ensures)
-          (label_fault_goes_on c.args.number before c.args.pieces.now c.loop-piece.piece-index (record { ref_ptr = (0, 0); now = [] }) name c.loop-piece.fault w.in-Err.cause _
+          (label_fault_goes_on c.args.number before c.args.pieces.now c.loop-piece.piece-index (record { ref_ptr = (0, 0); now = [] }) name c.loop-piece.fault
+          w.in-Err.cause _
           c.loop-piece-test.true c.trim_start-name.ensures w.in-Err.ensures c.loop-piece.invariant)
       | in_default w ↦
           rw (w.fault-is, c.in_ok-insert.ensures)
-          (label_goes_on c.args.number before c.args.pieces.now c.loop-piece.piece-index (record { ref_ptr = (0, 0); now = [] }) name c.loop-piece.fault w.in_default.field-0 _
+          (label_goes_on c.args.number before c.args.pieces.now c.loop-piece.piece-index (record { ref_ptr = (0, 0); now = [] }) name c.loop-piece.fault
+          w.in_default.field-0 _
           c.loop-piece-test.true c.trim_start-name.ensures w.in_default.ensures c.loop-piece.invariant)
     ]

@@ -6,4 +6,5 @@ use Rattle.dp_lang.proofs.reader.add_labels.Given as goal
 
 abbrev pub invariant-loop-piece : goal.invariant-loop-piece
 invariant-loop-piece l =
-    noting l.fault (labels_after l.number l.labels (map (λ piece. trim_start piece.now) (drop l.piece-index l.pieces))) ≡ labels_after l.number l.fn.labels (map (λ piece. trim_start piece.now) l.pieces)
+    noting l.fault (labels_after l.number l.labels (map (λ piece. trim_start piece.now) (drop l.piece-index l.pieces)))
+    ≡ labels_after l.number l.fn.labels (map (λ piece. trim_start piece.now) l.pieces)

@@ -16,8 +16,10 @@ loop-i-preserved c =
     elim c.match-argument_of.branch [
       | in-Ok+in_ok-push-in-Ok w ↦
           rw (w.arguments-is, w.fault-is, w.in_ok-push-in-Ok.ensures.items, map_push argument c.loop-i.arguments.items w.in-Ok.argument)
-          (ok_goes_on ks ps i kinds.Packet (record { ref_ptr = (0, 0); now = [] }) c.loop-i.fault front (argument w.in-Ok.argument) _ c.loop-i-test.true lt (rw (← c.trim.ensures) w.in-Ok.ensures) c.loop-i.invariant)
+          (ok_goes_on ks ps i kinds.Packet (record { ref_ptr = (0, 0); now = [] }) c.loop-i.fault front (argument w.in-Ok.argument) _ c.loop-i-test.true lt
+          (rw (← c.trim.ensures) w.in-Ok.ensures) c.loop-i.invariant)
       | in-Err w ↦
           rw (w.arguments-is, w.fault-is, w.or_less.ensures)
-          (err_goes_on ks ps i kinds.Packet (record { ref_ptr = (0, 0); now = [] }) c.loop-i.fault front w.in-Err.cause _ c.loop-i-test.true lt (rw (← c.trim.ensures) w.in-Err.ensures) c.loop-i.invariant)
+          (err_goes_on ks ps i kinds.Packet (record { ref_ptr = (0, 0); now = [] }) c.loop-i.fault front w.in-Err.cause _ c.loop-i-test.true lt
+          (rw (← c.trim.ensures) w.in-Err.ensures) c.loop-i.invariant)
     ]

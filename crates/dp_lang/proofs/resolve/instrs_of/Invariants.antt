@@ -7,4 +7,6 @@ use Rattle.dp_lang.proofs.resolve.instrs_of.Given as goal
 
 abbrev pub invariant-loop-statement : goal.invariant-loop-statement
 invariant-loop-statement l =
-    prepend (map spelled l.instrs.items) (all_statements (target_in (view.source l.source)) (map view.with_line (drop l.statement-index l.source.statements.items))) ≡ all_statements (target_in (view.source l.source)) (map view.with_line l.source.statements.items)
+    prepend (map spelled l.instrs.items) (all_statements (target_in (view.source l.source))
+    (map view.with_line (drop l.statement-index l.source.statements.items)))
+    ≡ all_statements (target_in (view.source l.source)) (map view.with_line l.source.statements.items)

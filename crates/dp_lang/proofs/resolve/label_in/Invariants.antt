@@ -5,4 +5,5 @@ use Rattle.dp_lang.specs.Sources as view
 use Rattle.dp_lang.proofs.resolve.label_in.Given as goal
 
 abbrev pub invariant-loop-argument : goal.invariant-loop-argument
-invariant-loop-argument l = label_in (target_in (view.source l.source)) (drop l.argument-index l.arguments) ≡ label_in (target_in (view.source l.source)) l.arguments
+invariant-loop-argument l = label_in (target_in (view.source l.source)) (drop l.argument-index l.arguments)
+    ≡ label_in (target_in (view.source l.source)) l.arguments

@@ -7,7 +7,8 @@ use Rattle.dp_lpm.proofs.rule.+entry_within.Goals as goal
 
 pub returns-then-depth-eq0 : goal.returns-then-depth-eq0
 returns-then-depth-eq0 t c =
-    ap entry_of (sym (ap (λ n. deepest_within n (routes_of c.args.rules.now) c.args.ip) c.if-depth-eq0.true ∙ within_zero (routes_of c.args.rules.now) c.args.ip))
+    ap entry_of (sym (ap (λ n. deepest_within n (routes_of c.args.rules.now) c.args.ip) c.if-depth-eq0.true
+    ∙ within_zero (routes_of c.args.rules.now) c.args.ip))
 
 pub returns-in-Ok : goal.returns-in-Ok
 returns-in-Ok t c =

@@ -12,7 +12,8 @@ returns-clause-items c =
     let left = put_mid c.args.place (length was - c.args.place) was part in
     let there : c.args.place < length was = omega (arith, c.requires, ap length c.deref_mut.ensures.value) in
     c.pop.ensures.rest
-    ∙ (ap (take (c.args.rules.now.len - 1)) (with_items_is c.args.rules.now left (same_len_mid c.args.place (length was - c.args.place) was part c.let_first_go.ensures.len ∙ c.deref_mut.ensures.len))
+    ∙ (ap (take (c.args.rules.now.len - 1)) (with_items_is c.args.rules.now left
+    (same_len_mid c.args.place (length was - c.args.place) was part c.let_first_go.ensures.len ∙ c.deref_mut.ensures.len))
     ∙ (ap (λ n. take (n - 1) left) (sym c.deref_mut.ensures.len)
     ∙ (left_out c.args.place was part there c.let_first_go.ensures.len c.let_first_go.ensures.front
     ∙ ap (λ rules. take c.args.place rules ++ drop (suc c.args.place) rules) c.deref_mut.ensures.value)))

@@ -12,5 +12,6 @@ loop-low-preserved-then-is_before c =
 
 pub loop-low-preserved : goal.loop-low-preserved
 loop-low-preserved c =
-    between_below c.args.rules.now (rank c.args.depth c.args.prefix) c.loop-low.low c.loop-low.high _ c.requires c.loop-low.invariant (omega arith) (omega arith)
+    between_below c.args.rules.now (rank c.args.depth c.args.prefix) c.loop-low.low c.loop-low.high _ c.requires c.loop-low.invariant (omega arith)
+    (omega arith)
     (ltb-false _ _ (sym c.is_before.ensures ∙ c.if-is_before.false))

@@ -12,5 +12,6 @@ returns c k less =
     let m = 4 * length c.args.numbers.now in
     ap (λ p. number_at bytes p 4) (omega arith)
     ∙ (number_in_part bytes at m (4 * k) (omega (arith, less))
-    ∙ (ap (λ part. little_number 4 (drop (4 * k) part)) (ap (λ n. take n (drop at bytes)) (omega arith) ∙ ap (λ b. take (at + m - at) (drop at b)) (sym c.bytes.ensures))
+    ∙ (ap (λ part. little_number 4 (drop (4 * k) part)) (ap (λ n. take n (drop at bytes)) (omega arith)
+    ∙ ap (λ b. take (at + m - at) (drop at b)) (sym c.bytes.ensures))
     ∙ sym (c.read_u32_into.ensures k less)))

@@ -5,7 +5,8 @@ pub loop-class-init : goal.loop-class-init
 loop-class-init c = rw c.class_of-class.ensures (past_begins c.args.region.now.bytes c.args.len c.args.align)
 
 pub loop-class-preserved : goal.loop-class-preserved
-loop-class-preserved c = past_more c.args.region.now.bytes c.args.len c.args.align c.loop-class.class c.loop-class.invariant c.loop-class-test.true c.in_default.ensures
+loop-class-preserved c = past_more c.args.region.now.bytes c.args.len c.args.align c.loop-class.class c.loop-class.invariant c.loop-class-test.true
+    c.in_default.ensures
 
 pub returns : goal.returns
 returns c = past_all c.args.region.now.bytes c.args.len c.args.align c.loop-class.class c.loop-class.invariant c.loop-class-test.false

@@ -6,23 +6,27 @@ use Rattle.dp_heap.proofs.lists.Lists.leave.Goals as goal
 pub overflow_add-e : goal.overflow_add-e
 overflow_add-e c =
     let l = c.requires.laid in let most = l.0.0 in let w = c.requires.listed in
-    let o = (own c.args.region.now l.0 l.1.0 c.args.e.now l.1.1 l.1.2 (free_is c.args.e.now c.requires.free) c.args.self.now.heads w.0 w.1 w.2).room in record { fits = omega arith }
+    let o = (own c.args.region.now l.0 l.1.0 c.args.e.now l.1.1 l.1.2 (free_is c.args.e.now c.requires.free) c.args.self.now.heads w.0 w.1 w.2).room in
+    record { fits = omega arith }
 
 pub overflow_add-e-2 : goal.overflow_add-e-2
 overflow_add-e-2 c =
     let l = c.requires.laid in let most = l.0.0 in let w = c.requires.listed in
-    let o = (own c.args.region.now l.0 l.1.0 c.args.e.now l.1.1 l.1.2 (free_is c.args.e.now c.requires.free) c.args.self.now.heads w.0 w.1 w.2).room in record { fits = omega arith }
+    let o = (own c.args.region.now l.0 l.1.0 c.args.e.now l.1.1 l.1.2 (free_is c.args.e.now c.requires.free) c.args.self.now.heads w.0 w.1 w.2).room in
+    record { fits = omega arith }
 
 pub load_u32-next-requires : goal.load_u32-next-requires
 load_u32-next-requires c =
     let l = c.requires.laid in let w = c.requires.listed in
-    let o = own c.args.region.now l.0 l.1.0 c.args.e.now l.1.1 l.1.2 (free_is c.args.e.now c.requires.free) c.args.self.now.heads w.0 w.1 w.2 in let room = o.room in
+    let o = own c.args.region.now l.0 l.1.0 c.args.e.now l.1.1 l.1.2 (free_is c.args.e.now c.requires.free) c.args.self.now.heads w.0 w.1 w.2 in
+    let room = o.room in
     (omega arith, λ k p q. o.unlent k (omega arith) (omega arith))
 
 pub load_u32-before-requires : goal.load_u32-before-requires
 load_u32-before-requires c =
     let l = c.requires.laid in let w = c.requires.listed in
-    let o = own c.args.region.now l.0 l.1.0 c.args.e.now l.1.1 l.1.2 (free_is c.args.e.now c.requires.free) c.args.self.now.heads w.0 w.1 w.2 in let room = o.room in
+    let o = own c.args.region.now l.0 l.1.0 c.args.e.now l.1.1 l.1.2 (free_is c.args.e.now c.requires.free) c.args.self.now.heads w.0 w.1 w.2 in
+    let room = o.room in
     (omega arith, λ k p q. o.unlent k (omega arith) (omega arith))
 
 pub write_link-requires : goal.write_link-requires
@@ -36,7 +40,12 @@ write_link-requires-2 c =
     let l = c.requires.laid in let most = l.0.0 in let w = c.requires.listed in
     let v = v_header c.args.region.now l.0 l.1.0 c.args.e.now l.1.1 l.1.2 (free_is c.args.e.now c.requires.free) c.args.self.now.heads w.0 w.1 w.2 in
     let n = long1 c.args.region.now l.0 l.1.0 c.args.e.now l.1.1 l.1.2 (free_is c.args.e.now c.requires.free) c.args.self.now.heads w.0 w.1 w.2 in
-    rw (c.write_link.ensures, c.load_u32-before.ensures, c.load_u32-next.ensures) (λ lt. let h = v (omega arith) in let room = h.room in (omega arith, h.unlent), omega arith, omega arith)
+    rw (c.write_link.ensures, c.load_u32-before.ensures, c.load_u32-next.ensures) (
+      λ lt. let h = v (omega arith) in
+          let room = h.room in (omega arith, h.unlent),
+      omega arith,
+      omega arith,
+    )
 
 pub returns-then-before-clause-laid : goal.returns-then-before-clause-laid
 returns-then-before-clause-laid c =
@@ -72,4 +81,5 @@ pub returns-else-before-clause-off : goal.returns-else-before-clause-off
 returns-else-before-clause-off c off w none =
     let l = c.requires.laid in
     rw (c.write_link-2.ensures, c.write_link.ensures, c.load_u32-before.ensures, c.load_u32-next.ensures)
-    (left_later c.args.region.now l.0 l.1.0 c.args.e.now l.1.1 l.1.2 (free_is c.args.e.now c.requires.free) c.args.self.now.heads off w none (λ is. c.if-before.false (c.load_u32-before.ensures ∙ is)))
+    (left_later c.args.region.now l.0 l.1.0 c.args.e.now l.1.1 l.1.2 (free_is c.args.e.now c.requires.free) c.args.self.now.heads off w none
+    (λ is. c.if-before.false (c.load_u32-before.ensures ∙ is)))

@@ -27,18 +27,21 @@ close-requires-clause-can c =
 pub returns-then-depth-gt24-clause-kept : goal.returns-then-depth-gt24-clause-kept
 returns-then-depth-gt24-clause-kept c =
     let new : Store = record c.take_out.new.self { table = c.close.new.self } in
-    closed_keeps c.take_out.new.self new (routes_in c.args.self.now) (c.args.ip / 256) c.take_out.ensures.kept (c.take_out.ensures.here c.if-depth-gt24.true) (c.take_out.ensures.others c.if-depth-gt24.true) (omega arith) c.close.ensures refl refl
+    closed_keeps c.take_out.new.self new (routes_in c.args.self.now) (c.args.ip / 256) c.take_out.ensures.kept (c.take_out.ensures.here c.if-depth-gt24.true)
+    (c.take_out.ensures.others c.if-depth-gt24.true) (omega arith) c.close.ensures refl refl
 
 pub returns-then-depth-gt24-clause-ok : goal.returns-then-depth-gt24-clause-ok
 returns-then-depth-gt24-clause-ok c = (
-  closed_drops c.args.self.now c.take_out.new.self (record c.take_out.new.self { table = c.close.new.self }) c.args.ip c.args.depth c.take_out.ensures.drops refl refl c.close.ensures,
+  closed_drops c.args.self.now c.take_out.new.self (record c.take_out.new.self { table = c.close.new.self }) c.args.ip c.args.depth c.take_out.ensures.drops
+      refl refl c.close.ensures,
   delete_found c.args.self.now c.args.ip c.args.depth c.in-Ok.place c.if-depth-lt1.false c.if-depth-gt32.false
       (subst (λ p. IsFound c.args.self.now.rules.items c.args.depth p c.in-Ok.place) c.prefix_of.ensures
       (subst (λ rules. IsFound rules c.args.depth c.prefix_of.result c.in-Ok.place) c.deref.ensures.value c.in-Ok.ensures.found)),
 )
 
 pub returns-else-depth-gt24-clause-kept : goal.returns-else-depth-gt24-clause-kept
-returns-else-depth-gt24-clause-kept c = shallow_keeps c.take_out.new.self (routes_in c.args.self.now) c.take_out.ensures.kept (c.take_out.ensures.shallow c.if-depth-gt24.false)
+returns-else-depth-gt24-clause-kept c = shallow_keeps c.take_out.new.self (routes_in c.args.self.now) c.take_out.ensures.kept
+    (c.take_out.ensures.shallow c.if-depth-gt24.false)
 
 pub returns-else-depth-gt24-clause-ok : goal.returns-else-depth-gt24-clause-ok
 returns-else-depth-gt24-clause-ok c = (

@@ -10,9 +10,19 @@ use Rattle.dp_lpm.proofs.store.Store.lookup.Goals as goal
 pub returns-in-Hop : goal.returns-in-Hop
 returns-in-Hop c =
     let told = hop_told (routes_in c.args.self.now) c.args.ip c.in-Hop.hop c.in-Hop.depth (c.in-Hop.ensures ∙ c.requires.answers c.args.ip) in
-    record { value = sym told; deepest = subst (LooksUp (routes_in c.args.self.now) c.args.ip) told (looks_up (routes_in c.args.self.now) c.args.ip c.requires.each); low = subst (λ o. IfSome o (λ hop. hop ≤ 16777215)) told (low_hop (routes_in c.args.self.now) c.args.ip c.requires.each) }
+    record {
+      value = sym told;
+      deepest = subst (LooksUp (routes_in c.args.self.now) c.args.ip) told
+          (looks_up (routes_in c.args.self.now) c.args.ip c.requires.each);
+      low = subst (λ o. IfSome o (λ hop. hop ≤ 16777215)) told (low_hop (routes_in c.args.self.now) c.args.ip c.requires.each);
+    }
 
 pub returns-in_default : goal.returns-in_default
 returns-in_default c =
     let told = none_told (routes_in c.args.self.now) c.args.ip c.entry_for.result c.in_default.not-Hop (c.entry_for.ensures ∙ c.requires.answers c.args.ip) in
-    record { value = sym told; deepest = subst (LooksUp (routes_in c.args.self.now) c.args.ip) told (looks_up (routes_in c.args.self.now) c.args.ip c.requires.each); low = subst (λ o. IfSome o (λ hop. hop ≤ 16777215)) told (low_hop (routes_in c.args.self.now) c.args.ip c.requires.each) }
+    record {
+      value = sym told;
+      deepest = subst (LooksUp (routes_in c.args.self.now) c.args.ip) told
+          (looks_up (routes_in c.args.self.now) c.args.ip c.requires.each);
+      low = subst (λ o. IfSome o (λ hop. hop ≤ 16777215)) told (low_hop (routes_in c.args.self.now) c.args.ip c.requires.each);
+    }

@@ -32,8 +32,22 @@ returns c =
     let old = c.args.self.now in
     let mid = c.else-rule-gt24.self in
     let new : Store = record { rules = c.insert.new.rules; table = mid.table; max_rules = mid.max_rules } in
-    let rules : mid.rules ≡ old.rules = elim c.else-rule-gt24.branch [ else-rule-gt24-via-then-rule-gt24+else-not-open w ↦ ap (λ s. s.rules) w.self-is | else-rule-gt24-via-else-rule-gt24 w ↦ ap (λ s. s.rules) w.self-is ] in
-    let max : mid.max_rules ≡ old.max_rules = elim c.else-rule-gt24.branch [ else-rule-gt24-via-then-rule-gt24+else-not-open w ↦ ap (λ s. s.max_rules) w.self-is | else-rule-gt24-via-else-rule-gt24 w ↦ ap (λ s. s.max_rules) w.self-is ] in
-    let makes : Makes c.args.rule old.table mid.table = elim c.else-rule-gt24.branch [ else-rule-gt24-via-then-rule-gt24+else-not-open w ↦ inr (w.if-rule-gt24.true, subst (Opened (first_of (route_of c.args.rule)) c.args.self.now.table) (sym (ap (λ s. s.table) w.self-is)) w.if-not-open.ensures) | else-rule-gt24-via-else-rule-gt24 w ↦ inl (w.if-rule-gt24.false, ap (λ s. s.table) w.self-is) ] in
+    let rules : mid.rules ≡ old.rules = elim c.else-rule-gt24.branch [
+      | else-rule-gt24-via-then-rule-gt24+else-not-open w ↦ ap (λ s. s.rules) w.self-is
+      | else-rule-gt24-via-else-rule-gt24 w ↦ ap (λ s. s.rules) w.self-is
+    ] in
+    let max : mid.max_rules ≡ old.max_rules = elim c.else-rule-gt24.branch [
+      | else-rule-gt24-via-then-rule-gt24+else-not-open w ↦ ap (λ s. s.max_rules) w.self-is
+      | else-rule-gt24-via-else-rule-gt24 w ↦ ap
+          (λ s. s.max_rules) w.self-is
+    ] in
+    let makes : Makes c.args.rule old.table mid.table = elim c.else-rule-gt24.branch [
+      | else-rule-gt24-via-then-rule-gt24+else-not-open w ↦ inr (
+        w.if-rule-gt24.true,
+        subst (Opened (first_of (route_of c.args.rule)) c.args.self.now.table) (sym (ap (λ s. s.table) w.self-is)) w.if-not-open.ensures,
+      )
+      | else-rule-gt24-via-else-rule-gt24 w ↦ inl (w.if-rule-gt24.false, ap (λ s. s.table) w.self-is)
+    ] in
     let items = c.insert.ensures.items ∙ ap (λ v. take c.args.place v.items ++ c.args.rule ∷ drop c.args.place v.items) rules in
-    grown old new c.args.place c.args.rule c.requires.kept c.requires.rule c.requires.place (omega (arith, c.len.ensures)) items (omega (arith, ap vec_capacity rules, c.insert.ensures.capacity)) max makes
+    grown old new c.args.place c.args.rule c.requires.kept c.requires.rule c.requires.place (omega (arith, c.len.ensures)) items
+    (omega (arith, ap vec_capacity rules, c.insert.ensures.capacity)) max makes

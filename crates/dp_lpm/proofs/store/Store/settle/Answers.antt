@@ -16,13 +16,17 @@ settle-requires-clause-part c few =
     let size = one_shl (32 - c.args.depth) 32 (omega arith) in
     let deep = size_large c.args.depth (omega (arith, size, few)) in
     let first : (c.args.ip - c.args.ip % (1 * 2 ^ (32 - c.args.depth) % 4294967296)) / 256 ≡ c.args.ip / 256 =
-    ap (λ n. (c.args.ip - c.args.ip % n) / 256) size ∙ (ap (λ n. n / 256) (range_is c.args.ip c.args.depth) ∙ start_first c.args.ip c.args.depth deep c.requires.most) in
+    ap (λ n. (c.args.ip - c.args.ip % n) / 256) size ∙ (ap (λ n. n / 256) (range_is c.args.ip c.args.depth)
+    ∙ start_first c.args.ip c.args.depth deep c.requires.most) in
     subst (λ n. (g : ℕ) × (group_at c.args.self.now.table n ≡ Some g)) (sym first) (c.requires.deep deep)
 
 pub returns-clause-settled : goal.returns-clause-settled
 returns-clause-settled c =
     let size = one_shl (32 - c.args.depth) 32 (omega arith) in
-    let start : c.args.ip - c.args.ip % (1 * 2 ^ (32 - c.args.depth) % 4294967296) ≡ start_of c.args.ip c.args.depth = ap (λ n. c.args.ip - c.args.ip % n) size ∙ range_is c.args.ip c.args.depth in
+    let start : c.args.ip - c.args.ip % (1 * 2 ^ (32 - c.args.depth) % 4294967296) ≡ start_of c.args.ip c.args.depth =
+    ap (λ n. c.args.ip - c.args.ip % n) size ∙ range_is c.args.ip c.args.depth in
     subst (λ n. Settled n (2 ^ (32 - c.args.depth)) c.args.depth c.args.to c.args.self.now.table c.settle.new.self) start
-    (subst (λ n. Settled (c.args.ip - c.args.ip % (1 * 2 ^ (32 - c.args.depth) % 4294967296)) n c.args.depth c.args.to c.args.self.now.table c.settle.new.self) size
-    (subst (λ e. Settled (c.args.ip - c.args.ip % (1 * 2 ^ (32 - c.args.depth) % 4294967296)) (1 * 2 ^ (32 - c.args.depth) % 4294967296) c.args.depth e c.args.self.now.table c.settle.new.self) c.of.ensures c.settle.ensures))
+    (subst (λ n. Settled (c.args.ip - c.args.ip % (1 * 2 ^ (32 - c.args.depth) % 4294967296)) n c.args.depth c.args.to c.args.self.now.table
+    c.settle.new.self) size
+    (subst (λ e. Settled (c.args.ip - c.args.ip % (1 * 2 ^ (32 - c.args.depth) % 4294967296)) (1 * 2 ^ (32 - c.args.depth) % 4294967296) c.args.depth e
+    c.args.self.now.table c.settle.new.self) c.of.ensures c.settle.ensures))

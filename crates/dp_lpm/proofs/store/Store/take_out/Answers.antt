@@ -13,13 +13,15 @@ settle-requires-clause-deep c = deep_group c.args.self.now c.args.ip c.args.dept
 
 pub settle-requires-clause-storable : goal.settle-requires-clause-storable
 settle-requires-clause-storable c =
-    subst IsStorable (sym (c.entry_within-next.ensures ∙ ap (λ rules. entry_of (deepest_within (c.args.depth - 1) (routes_of rules) c.args.ip)) c.deref.ensures.value))
+    subst IsStorable (sym (c.entry_within-next.ensures ∙ ap (λ rules. entry_of (deepest_within (c.args.depth - 1) (routes_of rules) c.args.ip))
+    c.deref.ensures.value))
     (entry_fits (routes_in c.args.self.now) (c.args.depth - 1) c.args.ip c.requires.kept.each)
 
 pub returns : goal.returns
 returns c =
     let old = c.args.self.now in
     let mid : Store = record old { rules = c.remove.new.rules } in
-    taken_out old mid c.settle.new.self c.args.place c.args.ip c.args.depth c.entry_within-next.result c.requires.kept c.requires.found c.requires.some c.requires.most c.remove.ensures.items c.remove.ensures.capacity refl refl
+    taken_out old mid c.settle.new.self c.args.place c.args.ip c.args.depth c.entry_within-next.result c.requires.kept c.requires.found c.requires.some
+    c.requires.most c.remove.ensures.items c.remove.ensures.capacity refl refl
     (c.entry_within-next.ensures ∙ ap (λ rules. entry_of (deepest_within (c.args.depth - 1) (routes_of rules) c.args.ip)) c.deref.ensures.value)
     c.settle.ensures.settled c.settle.ensures.rules c.settle.ensures.max_rules

@@ -14,20 +14,27 @@ pub returns-then-index-eq0 : goal.returns-then-index-eq0
 returns-then-index-eq0 c =
     let old = c.args.self.now in
     let g = c.in-Group.group in
-    let new : Table = record { first = with_item old.first c.args.first c.index-then-index-eq0.result.now; cells = old.cells; counts = with_item old.counts g (c.index_mut.result.now - 1) } in
+    let new : Table = record {
+      first = with_item old.first c.args.first c.index-then-index-eq0.result.now;
+      cells = old.cells;
+      counts = with_item old.counts g (c.index_mut.result.now - 1);
+    } in
     let within = group_there old.first.items c.args.first c.requires.can.group c.requires.can.named in
     let named = grouped_by old c.args.first g c.index.result.now within c.index.ensures c.in-Group.ensures in
     let there = c.requires.table.named c.args.first g named in
     let some = c.requires.table.used c.args.first g named in
     let is = number_at old.counts.items g c.index_mut.result.now there c.index_mut.ensures.value in
     let len = length-set old.counts.items g (c.index_mut.result.now - 1) in
-    let now = number_at (slice_set old.counts.items g (c.index_mut.result.now - 1)) g c.index-in-Group.result.now (omega (arith, there, len)) c.index-in-Group.ensures in
+    let now = number_at (slice_set old.counts.items g (c.index_mut.result.now - 1)) g c.index-in-Group.result.now (omega (arith, there, len))
+    c.index-in-Group.ensures in
     let set = index_set_same old.counts.items g (c.index_mut.result.now - 1) there in
     let none : c.index_mut.result.now - 1 ≡ 0 = sym set ∙ (now ∙ c.if-index-eq0.true) in
     let same = same_Some c.requires.can.group g (sym c.requires.can.named ∙ named) in
-    let cell = entry_at old.cells.items (g * 256) c.index-then-index-eq0.result.now (omega (arith, group_fits old c.args.first g 0 c.requires.table named (omega arith))) c.index-then-index-eq0.ensures in
+    let cell = entry_at old.cells.items (g * 256) c.index-then-index-eq0.result.now
+    (omega (arith, group_fits old c.args.first g 0 c.requires.table named (omega arith))) c.index-then-index-eq0.ensures in
     closed_last old new c.args.first g c.index-then-index-eq0.result.now c.requires.table named (omega (arith, is, some, none))
-    (λ j lt. subst (λ h. at old.cells.items (h * 256 + j) ≡ at old.cells.items (h * 256)) same (c.requires.can.even (ap (slice_index old.counts.items) same ∙ omega (arith, is, some, none)) j lt))
+    (λ j lt. subst (λ h. at old.cells.items (h * 256 + j) ≡ at old.cells.items (h * 256)) same (c.requires.can.even (ap (slice_index old.counts.items) same
+    ∙ omega (arith, is, some, none)) j lt))
     (sym cell) refl refl (ap (slice_set old.counts.items g) none)
 
 pub returns-else-index-eq0 : goal.returns-else-index-eq0
@@ -40,6 +47,7 @@ returns-else-index-eq0 c =
     let there = c.requires.table.named c.args.first g named in
     let is = number_at old.counts.items g c.index_mut.result.now there c.index_mut.ensures.value in
     let len = length-set old.counts.items g (c.index_mut.result.now - 1) in
-    let now = number_at (slice_set old.counts.items g (c.index_mut.result.now - 1)) g c.index-in-Group.result.now (omega (arith, there, len)) c.index-in-Group.ensures in
+    let now = number_at (slice_set old.counts.items g (c.index_mut.result.now - 1)) g c.index-in-Group.result.now (omega (arith, there, len))
+    c.index-in-Group.ensures in
     let set = index_set_same old.counts.items g (c.index_mut.result.now - 1) there in
     closed_more old new c.args.first g c.index_mut.result.now c.requires.table named refl refl is (omega (arith, now, set, c.if-index-eq0.false)) refl

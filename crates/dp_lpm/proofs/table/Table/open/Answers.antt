@@ -37,7 +37,11 @@ pub returns : goal.returns
 returns c =
     let old = c.args.self.now in
     let g = c.in-Some.group in
-    let new : Table = record { first = with_item old.first c.args.first c.of.result; cells = with_items old.cells c.fill.new.cells; counts = with_item old.counts g 1 } in
+    let new : Table = record {
+      first = with_item old.first c.args.first c.of.result;
+      cells = with_items old.cells c.fill.new.cells;
+      counts = with_item old.counts g 1;
+    } in
     let none = plain_by old c.args.first c.index-cell.result.now (omega arith) c.index-cell.ensures (λ h e. c.in_default.not-Group h (c.entry.ensures ∙ e)) in
     let free = free_place old.counts.items g (ap (position (λ n. n == 0)) (sym c.deref.ensures.value) ∙ (sym c.free_group.ensures ∙ c.in-Some.is)) in
     let now = with_items_is old.cells c.fill.new.cells (c.fill.ensures.len ∙ c.deref_mut.ensures.len) in
@@ -46,4 +50,5 @@ returns c =
     record { inside = c.fill.ensures.inside; below = c.fill.ensures.below; above = c.fill.ensures.above } in
     opened_new old new c.args.first g c.of.result c.requires.table c.requires.there none free.0 free.1 c.of.ensures refl
     (ap length now ∙ (c.fill.ensures.len ∙ ap length c.deref_mut.ensures.value))
-    (filled_between (g * 256) (g * 256 + 256) _ _ _ _ _ c.deref_mut.ensures.value (sym now) (subst (λ e. FilledUpTo (g * 256) (g * 256 + 256) e c.deref_mut.result.now c.fill.new.cells) (sym first) so)) refl
+    (filled_between (g * 256) (g * 256 + 256) _ _ _ _ _ c.deref_mut.ensures.value (sym now)
+    (subst (λ e. FilledUpTo (g * 256) (g * 256 + 256) e c.deref_mut.result.now c.fill.new.cells) (sym first) so)) refl

@@ -17,7 +17,8 @@ loop-k-preserved c =
     let next : (c.args.start / 256 + c.loop-k.k) * 256 + 0 ≡ c.args.start + c.loop-k.k * 256 = omega (arith, whole) in
     let more : c.loop-k.k * 256 + 256 ≡ (c.loop-k.k + 1) * 256 = omega arith in
     subst (λ n. Settled c.args.start n c.args.depth (entry_in c.args.to) c.args.self.now c.settle_in-in-loop-k.new.self) more
-    (settled_joined c.args.start (c.loop-k.k * 256) 256 c.args.depth (entry_in c.args.to) c.args.self.now c.loop-k.self c.settle_in-in-loop-k.new.self c.loop-k.invariant
+    (settled_joined c.args.start (c.loop-k.k * 256) 256 c.args.depth (entry_in c.args.to) c.args.self.now c.loop-k.self c.settle_in-in-loop-k.new.self
+    c.loop-k.invariant
     (subst (λ n. Settled n 256 c.args.depth (entry_in c.args.to) c.loop-k.self c.settle_in-in-loop-k.new.self) next c.settle_in-in-loop-k.ensures))
 
 pub returns : goal.returns

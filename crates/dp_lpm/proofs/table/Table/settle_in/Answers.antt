@@ -19,7 +19,8 @@ returns-in-Group c =
     let now = with_items_is old.cells c.settle.new.cells (c.settle.ensures.len ∙ c.deref_mut.ensures.len) in
     let so : SettledUpTo from (from + c.args.count) c.args.depth (entry_in c.args.to) c.deref_mut.result.now c.settle.new.cells =
     record { inside = c.settle.ensures.inside; below = c.settle.ensures.below; above = c.settle.ensures.above } in
-    settled_group old new c.args.first c.args.low c.args.count c.args.depth c.in-Group.group (entry_in c.args.to) c.requires.table c.requires.order c.requires.to
+    settled_group old new c.args.first c.args.low c.args.count c.args.depth c.in-Group.group (entry_in c.args.to) c.requires.table c.requires.order
+    c.requires.to
     (named_group _ c.in-Group.group is) refl refl (ap length now ∙ (c.settle.ensures.len ∙ ap length c.deref_mut.ensures.value))
     (settled_between from (from + c.args.count) c.args.depth (entry_in c.args.to) _ _ _ _ c.deref_mut.ensures.value (sym now) so)
 
@@ -33,5 +34,6 @@ returns-in_default c =
     let so : SettledUpTo c.args.first (c.args.first + 1) c.args.depth (entry_in c.args.to) c.deref_mut-in_default.result.now c.settle-in_default.new.cells =
     record { inside = c.settle-in_default.ensures.inside; below = c.settle-in_default.ensures.below; above = c.settle-in_default.ensures.above } in
     settled_whole old new c.args.first c.args.low c.args.count c.args.depth (entry_in c.args.to) (c.requires.whole none)
-    (settled_plain old new c.args.first c.args.depth (entry_in c.args.to) c.requires.table c.requires.depth c.requires.to none refl refl (ap length now ∙ (c.settle-in_default.ensures.len ∙ ap length c.deref_mut-in_default.ensures.value))
+    (settled_plain old new c.args.first c.args.depth (entry_in c.args.to) c.requires.table c.requires.depth c.requires.to none refl refl (ap length now
+    ∙ (c.settle-in_default.ensures.len ∙ ap length c.deref_mut-in_default.ensures.value))
     (settled_between c.args.first (c.args.first + 1) c.args.depth (entry_in c.args.to) _ _ _ _ c.deref_mut-in_default.ensures.value (sym now) so))

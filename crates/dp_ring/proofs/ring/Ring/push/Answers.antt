@@ -27,10 +27,13 @@ invariant_of-self c = (c.self.invariant.0, few c, c.self.invariant.2, let is = l
 pub returns : goal.returns
 returns c =
     let bytes = c.self.inside.zone.bytes in
-    let stands : entries_from c.store_one.new.zone.bytes c.self.inside.count c.self.inside.first (c.self.inside.used + 1) ≡ entries_from bytes c.self.inside.count c.self.inside.first c.self.inside.used ++ c.args.value ∷ [] =
+    let stands : entries_from c.store_one.new.zone.bytes c.self.inside.count c.self.inside.first (c.self.inside.used + 1)
+    ≡ entries_from bytes c.self.inside.count c.self.inside.first c.self.inside.used ++ c.args.value ∷ [] =
     ap (λ z. entries_from z.bytes c.self.inside.count c.self.inside.first (c.self.inside.used + 1)) c.store_one.ensures
-    ∙ (ap (λ p. entries_from (with_number bytes (4 * p) 4 c.args.value) c.self.inside.count c.self.inside.first (c.self.inside.used + 1)) c.place_behind-place.ensures.value
-    ∙ entries_pushed bytes c.self.inside.count c.self.inside.first c.self.inside.used c.args.value c.self.invariant.0 (few c) c.self.invariant.3 c.ranges.value.fits) in
+    ∙ (ap (λ p. entries_from (with_number bytes (4 * p) 4 c.args.value) c.self.inside.count c.self.inside.first (c.self.inside.used + 1))
+    c.place_behind-place.ensures.value
+    ∙ entries_pushed bytes c.self.inside.count c.self.inside.first c.self.inside.used c.args.value c.self.invariant.0 (few c) c.self.invariant.3
+    c.ranges.value.fits) in
     let name = ap (λ z. z.name) c.store_one.ensures in
     let home = ap (λ z. z.home) c.store_one.ensures in
     let place = ap (λ z. z.place) c.store_one.ensures in

@@ -12,7 +12,8 @@ use Rattle.dp_ring.proofs.ring.Ring.push_all.Goals as goal
 few : (c : goal.After-self-1) → c.self.inside.used + length c.args.values.now < c.self.inside.count
 few c =
     let is = counted c.self.inside.zone.bytes c.self.inside.count c.self.inside.first c.self.inside.used in
-    let room : length c.args.values.now ≤ room_in (the_view c.self.inside) = subst (λ r. length c.args.values.now ≤ room_in r) (sym c.self.view_is) c.requires in
+    let room : length c.args.values.now ≤ room_in (the_view c.self.inside) =
+    subst (λ r. length c.args.values.now ≤ room_in r) (sym c.self.view_is) c.requires in
     omega (arith, is, room, c.self.invariant.1)
 
 long : (c : goal.After-self-1) → length c.store_run-2.new.zone.bytes ≡ length c.self.inside.zone.bytes
@@ -32,8 +33,10 @@ returns c =
     let back = subst (λ part. Stores 0 part c.store_run.new.zone.bytes c.store_run-2.new.zone.bytes) rest c.store_run-2.ensures.bytes in
     let fits = subst (λ place. n ≤ inside.count - place) p c.before_turn-number.ensures.most.1 in
     let cut = subst (λ place. (n ≡ length values) ⊎ (n ≡ inside.count - place)) p c.before_turn-number.ensures.cut in
-    let stands : entries_from c.store_run-2.new.zone.bytes inside.count inside.first (inside.used + length values) ≡ entries_from inside.zone.bytes inside.count inside.first inside.used ++ values =
-    entries_stored inside.count inside.first inside.used n values inside.zone.bytes c.store_run.new.zone.bytes c.store_run-2.new.zone.bytes c.self.invariant.0 (few c) c.self.invariant.3 c.before_turn-number.ensures.most.0 fits cut front back in
+    let stands : entries_from c.store_run-2.new.zone.bytes inside.count inside.first (inside.used + length values)
+    ≡ entries_from inside.zone.bytes inside.count inside.first inside.used ++ values =
+    entries_stored inside.count inside.first inside.used n values inside.zone.bytes c.store_run.new.zone.bytes c.store_run-2.new.zone.bytes c.self.invariant.0
+    (few c) c.self.invariant.3 c.before_turn-number.ensures.most.0 fits cut front back in
     let name = c.store_run-2.ensures.others.0 ∙ c.store_run.ensures.others.0 in
     let home = c.store_run-2.ensures.others.1 ∙ c.store_run.ensures.others.1 in
     let place = c.store_run-2.ensures.others.2 ∙ c.store_run.ensures.others.2 in

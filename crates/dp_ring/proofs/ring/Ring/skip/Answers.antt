@@ -31,8 +31,16 @@ returns c =
     let number = c.args.number in
     let is = counted inside.zone.bytes inside.count inside.first inside.used in
     let all : number ≤ length (the_view inside).entries = subst (λ r. number ≤ length r.entries) (sym c.self.view_is) c.requires in
-    let rest : entries_from inside.zone.bytes inside.count c.place_behind-self-inside.result (inside.used - number) ≡ drop number (entries_from inside.zone.bytes inside.count inside.first inside.used) =
+    let rest : entries_from inside.zone.bytes inside.count c.place_behind-self-inside.result (inside.used - number)
+    ≡ drop number (entries_from inside.zone.bytes inside.count inside.first inside.used) =
     ap (λ p. entries_from inside.zone.bytes inside.count p (inside.used - number)) c.place_behind-self-inside.ensures.value
     ∙ entries_left inside.zone.bytes inside.count inside.first inside.used number c.self.invariant.0 c.self.invariant.1 (omega (arith, is, all)) in
-    (λ i. record { count = inside.count; entries = rest i; name = inside.zone.name; home = inside.zone.home; place = inside.zone.place; len = length inside.zone.bytes })
+    (λ i. record {
+      count = inside.count;
+      entries = rest i;
+      name = inside.zone.name;
+      home = inside.zone.home;
+      place = inside.zone.place;
+      len = length inside.zone.bytes;
+    })
     ∙ ap (λ r. without_first r number) c.self.view_is

@@ -15,7 +15,8 @@ invariant_of-self c =
     let entries = c.self.inside.entries.items in
     let at : position (λ e. same_name e.name.bytes name) entries ≡ Some c.in-Some.place =
     ap (λ es. position (λ e. same_name e.name.bytes name) es) (sym c.as_slice.ensures.value) ∙ (sym c.place_of.ensures ∙ c.in-Some.is) in
-    subst AreApart (sym (table_removed name c.remove.result entries _ c.in-Some.place at c.remove.ensures.items)) (apart_without name (table_of entries) c.self.invariant)
+    subst AreApart (sym (table_removed name c.remove.result entries _ c.in-Some.place at c.remove.ensures.items))
+    (apart_without name (table_of entries) c.self.invariant)
 
 pub returns-in-Some : goal.returns-in-Some
 returns-in-Some c =

@@ -9,4 +9,5 @@ pub invariant_of-self : goal.invariant_of-self
 invariant_of-self c =
     let name = c.args.name.now in
     let fresh = subst (λ table. has_name name table ≡ false) (sym c.self.view_is) c.in_default.ensures.none.fresh in
-    subst (λ es. AreApart (table_of es)) (sym c.push.ensures.items) (apart_entries c.self.inside.entries.items _ name c.self.invariant (c.text.ensures ∙ c.in-Some-new.ensures.some.0) fresh)
+    subst (λ es. AreApart (table_of es)) (sym c.push.ensures.items) (apart_entries c.self.inside.entries.items _ name c.self.invariant (c.text.ensures
+    ∙ c.in-Some-new.ensures.some.0) fresh)

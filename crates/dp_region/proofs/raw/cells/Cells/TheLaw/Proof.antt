@@ -26,7 +26,8 @@ byte_shr false b o x = lent_at_shr_laws u8 byte_laws.shr_laws (block_ptr b o) x
 bytes_shr : (ls : List Span) (b o k : ℕ) (xs : List ℕ) → ShrLaws (unlent_shared ls b o k xs)
 bytes_shr ls b o k [] = nothing_shr_laws
 bytes_shr ls b o k (x ∷ xs) =
-    beside_shr_laws (shared_unless (is_lent ls k) (lent_at u8 (block_ptr b o) x)) (unlent_shared ls b (o + 1) (k + 1) xs) (byte_shr (is_lent ls k) b o x) (bytes_shr ls b (o + 1) (k + 1) xs)
+    beside_shr_laws (shared_unless (is_lent ls k) (lent_at u8 (block_ptr b o) x)) (unlent_shared ls b (o + 1) (k + 1) xs) (byte_shr (is_lent ls k) b o x)
+    (bytes_shr ls b (o + 1) (k + 1) xs)
 
 module _ {M : Type 1} {𝓤 : Ura M} (𝓛 : Logic 𝓤) (l : Lft) (s : Shares 𝓛 u8 l) where
   Lends-byte : (t : Bool) (b o x : ℕ) → Lends 𝓛 (unless t (part_at u8 full_share x b o)) (shared_unless t (lent_at u8 (block_ptr b o) x)) l
@@ -36,11 +37,13 @@ module _ {M : Type 1} {𝓤 : Ura M} (𝓛 : Logic 𝓤) (l : Lft) (s : Shares �
   Lends-bytes : (ls : List Span) (b o k : ℕ) (xs : List ℕ) → Lends 𝓛 (unlent ls b o k xs) (unlent_shared ls b o k xs) l
   Lends-bytes ls b o k [] = Lends-nothing 𝓛 ftrue l
   Lends-bytes ls b o k (x ∷ xs) =
-      Lends-both 𝓛 (unless (is_lent ls k) (part_at u8 full_share x b o)) (unlent ls b (o + 1) (k + 1) xs) (shared_unless (is_lent ls k) (lent_at u8 (block_ptr b o) x)) (unlent_shared ls b (o + 1) (k + 1) xs) l
+      Lends-both 𝓛 (unless (is_lent ls k) (part_at u8 full_share x b o)) (unlent ls b (o + 1) (k + 1) xs)
+      (shared_unless (is_lent ls k) (lent_at u8 (block_ptr b o) x)) (unlent_shared ls b (o + 1) (k + 1) xs) l
       (Lends-byte (is_lent ls k) b o x) (Lends-bytes ls b (o + 1) (k + 1) xs)
 
 pub shares : statement
 shares = of_Lends C.struct C.the_codes C.the_heap C.the_lent (λ d p. bytes_shr d.lent d.home.block d.home.start 0 d.bytes) tt
     (λ M 𝓤 𝓛 d p.
-    Lends-first 𝓛 (unlent d.lent d.home.block d.home.start 0 d.bytes) (tickets_but d.home d.lent) (unlent_shared d.lent d.home.block d.home.start 0 d.bytes) (C.the_row).lives
+    Lends-first 𝓛 (unlent d.lent d.home.block d.home.start 0 d.bytes) (tickets_but d.home d.lent) (unlent_shared d.lent d.home.block d.home.start 0 d.bytes)
+    (C.the_row).lives
     (Lends-bytes 𝓛 (C.the_row).lives (byte_laws.shares 𝓛) d.lent d.home.block d.home.start 0 d.bytes))

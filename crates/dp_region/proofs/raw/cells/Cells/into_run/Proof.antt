@@ -1,5 +1,7 @@
 -- `into_run`: with nothing lent, all the bytes are there. Assumes `Logic`.
-use Rattle.dp_region.proofs.Steps.{◌≡◌, [], ◌∷◌, refl, sym, ap, add-zero, ftrue, full_share, fact, ‵, raw, ◌⊛◌, ◌$◌, ◌∵◌, !, qed, done, move, keep, use1, split, join, fsplit, rewrite, suffices, group, agg, enter, returns, no_more, alloc_all, pass_all, free_all, look_at, sets, yes, block_ptr, bytes, plain, nothing, heard, Stays, stay_dropped, says, walk_of, ends_at, Goes-blank, proved}
+use Rattle.dp_region.proofs.Steps.{◌≡◌, [], ◌∷◌, refl, sym, ap, add-zero, ftrue, full_share, fact, ‵, raw, ◌⊛◌, ◌$◌, ◌∵◌, !, qed, done, move, keep, use1}
+use Rattle.dp_region.proofs.Steps.{split, join, fsplit, rewrite, suffices, group, agg, enter, returns, no_more, alloc_all, pass_all, free_all, look_at, sets}
+use Rattle.dp_region.proofs.Steps.{yes, block_ptr, bytes, plain, nothing, heard, Stays, stay_dropped, says, walk_of, ends_at, Goes-blank, proved}
 use Rattle.dp_region.specs.Ownership.{run_owns, cells_own}
 use Rattle.dp_region.proofs.Unlent.{run_in, whole_out}
 use Rattle.dp_region.proofs.Words.{bare, hold, release}
@@ -22,7 +24,8 @@ into_run_spec 𝓤 𝓛 𝓜 𝓡 wired =
     qed 𝓛 ((‵ ftrue ⊛ ‵ ((Cells.the_row).own_val a.0 (bare ∷ [])) ⊛ ‵ ftrue) ∷ raw (fact 𝓤 (a.0.lent ≡ [])) ∷ []) ∵
     move ! (1 ∷ []) $ heard ! _ (λ home. split ! $ move ! (1 ∷ []) $ split ! $ keep ! (0 ∷ []) $ release ! (cells_own h a.0.lent xs) $
     rewrite ! 0 (λ ls. ‵ (cells_own h ls xs)) home refl $ fsplit ! $ keep ! (0 ∷ []) $
-    use1 𝓛 (‵ (bytes full_share xs h.block h.start)) (whole_out 𝓛 h.block h.start xs) $ use1 𝓛 (‵ (run_owns p xs)) (run_in 𝓛 h.block h.start xs) $ hold ! (run_owns p xs) $
+    use1 𝓛 (‵ (bytes full_share xs h.block h.start)) (whole_out 𝓛 h.block h.start xs) $ use1 𝓛 (‵ (run_owns p xs)) (run_in 𝓛 h.block h.start xs) $ hold !
+    (run_owns p xs) $
     enter ! _ _ _ _ _ $ alloc_all ! (λ l. pass_all ! refl ((tt, tt), tt) $
     sets ! (agg ! (no_more !)) refl (tt, tt) $ returns ! (look_at ! 0 refl) $ free_all ! refl $
     suffices ! _ (ends_at 𝓛 f.ended stayed c y bare (record { start = p; bytes = xs }) (tt, tt) (tt, tt)) $

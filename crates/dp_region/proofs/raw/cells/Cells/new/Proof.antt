@@ -1,5 +1,8 @@
 -- `new`: no byte is lent, and all the rights are fresh. Assumes `Logic`.
-use Rattle.dp_region.proofs.Steps.{◌≡◌, ◌^◌, ◌<◌, [], ◌∷◌, length, refl, sym, ap, ◌∙◌, arith, add-zero, le-leb, ftrue, GName, fown, full_share, fact, ‵, raw, ◌⊛◌, some, given, later, ◌$◌, ◌∵◌, !, qed, done, move, keep, use0, use1, split, join, fjoin, pick, learn, await, suffices, group, agg, enter, returns, no_more, alloc_all, pass_all, free_all, look_at, sets, yes, block_ptr, block_of, count_of, bytes, plain, nothing, heard, Stays, stay_dropped, says, walk_of, ends_at, Goes-blank, proved}
+use Rattle.dp_region.proofs.Steps.{◌≡◌, ◌^◌, ◌<◌, [], ◌∷◌, length, refl, sym, ap, ◌∙◌, arith, add-zero, le-leb, ftrue, GName, fown, full_share, fact, ‵, raw}
+use Rattle.dp_region.proofs.Steps.{◌⊛◌, some, given, later, ◌$◌, ◌∵◌, !, qed, done, move, keep, use0, use1, split, join, fjoin, pick, learn, await, suffices}
+use Rattle.dp_region.proofs.Steps.{group, agg, enter, returns, no_more, alloc_all, pass_all, free_all, look_at, sets, yes, block_ptr, block_of, count_of}
+use Rattle.dp_region.proofs.Steps.{bytes, plain, nothing, heard, Stays, stay_dropped, says, walk_of, ends_at, Goes-blank, proved}
 use Rattle.dp_region.specs.Ownership.{Rights, Home, run_owns, unlent, cells_own}
 use Rattle.dp_region.proofs.Rights.{others, tickets_made}
 use Rattle.dp_region.proofs.Unlent.{run_out, whole_in}
@@ -29,5 +32,8 @@ new_spec 𝓤 𝓛 𝓜 𝓡 wired =
     let h : Home = record { block = b; start = o; rights = γ } in
     move ! (1 ∷ 0 ∷ []) $ fjoin ! $ hold ! (cells_own h [] xs) $
     sets ! (agg ! (no_more !)) refl (tt, tt) $ returns ! (look_at ! 0 refl) $ free_all ! refl $
-    suffices ! _ (ends_at 𝓛 f.ended stayed c y bare (record { home = h; bytes = xs; lent = []; ok = (le-leb 0 (length xs) (omega arith), small) }) (tt, tt) (tt, tt)) $
+    suffices ! _ (ends_at 𝓛 f.ended stayed c y bare (record { home = h; bytes = xs; lent = []; ok = (le-leb 0 (length xs) (omega arith), small) }) (
+      tt,
+      tt,
+    ) (tt, tt)) $
     says ! (placed ∙ ap (block_ptr b) (sym (add-zero o)), refl, refl) $ nothing ! $ nothing ! $ join ! $ nothing ! $ group ! 3 $ done !)))))

@@ -1,5 +1,8 @@
 -- `take`: a span of the bytes leaves, with the right to give it back. Assumes `Logic`.
-use Rattle.dp_region.proofs.Steps.{◌+◌, ◌<◌, ◌≤◌, [], ◌∷◌, length, refl, arith, w64, ftrue, full_share, fact, ‵, raw, ◌⊛◌, ◌$◌, ◌∵◌, !, qed, done, move, keep, use1, split, join, fsplit, fjoin, suffices, group, agg, enter, returns, and_then, no_more, alloc_all, pass_all, free_all, look_at, get, sets, yes, usize, uint_vals, uint_Tells, bytes, plain, nothing, heard, Stays, stay_dropped, says, walk_of, ends_at, Goes-blank, proved}
+use Rattle.dp_region.proofs.Steps.{◌+◌, ◌<◌, ◌≤◌, [], ◌∷◌, length, refl, arith, w64, ftrue, full_share, fact, ‵, raw, ◌⊛◌, ◌$◌, ◌∵◌, !, qed, done, move, keep}
+use Rattle.dp_region.proofs.Steps.{use1, split, join, fsplit, fjoin, suffices, group, agg, enter, returns, and_then, no_more, alloc_all, pass_all, free_all}
+use Rattle.dp_region.proofs.Steps.{look_at, get, sets, yes, usize, uint_vals, uint_Tells, bytes, plain, nothing, heard, Stays, stay_dropped, says, walk_of}
+use Rattle.dp_region.proofs.Steps.{ends_at, Goes-blank, proved}
 use Rattle.dp_region.specs.Spans.{IsUnlent, with_span, bytes_in}
 use Rattle.dp_region.specs.Ownership.{place_in, run_owns, unlent, tickets_but, ticket, cells_own}
 use Rattle.dp_region.proofs.Rights.{ticket_out}
@@ -21,14 +24,23 @@ stayed = (stay_dropped (plain (λ _. Cells.the_row)) yes, (stay_dropped (plain (
 pub take_spec : {M : Type 1} → statement M
 take_spec 𝓤 𝓛 𝓜 𝓡 wired =
     let c = f.clauses 𝓛 𝓜.mem 𝓡.returns in let plain_goes = Goes-blank 𝓛 0 (plain (λ _. usize)) yes (λ κs x z. tt) in
-    proved 𝓛 f.ended stayed c 𝓜 𝓡 (Goes-blank 𝓛 0 (plain (λ _. Cells.the_row)) yes (λ κs x z. tt), (plain_goes, (plain_goes, tt))) f.Key.name code.function (code.unfolded 𝓤 𝓛.H 𝓜 𝓡 wired)
-    (λ κs. ((λ d. cells_laws.lowered d ∷ []), (uint_vals w64, (uint_vals w64, tt)))) (λ κs. (cells_laws.lowers.val_is, (uint_Tells w64, (uint_Tells w64, tt)))) (λ κs qs bounds a g are.
-    let d = a.0 in let p = a.1.0 in let n = a.1.1.0 in let h = d.home in let xs = d.bytes in let ls = d.lent in let ls' = with_span (p, n) ls in let ys = bytes_in xs p n in
+    proved 𝓛 f.ended stayed c 𝓜 𝓡 (Goes-blank 𝓛 0 (plain (λ _. Cells.the_row)) yes (λ κs x z. tt), (plain_goes, (plain_goes, tt))) f.Key.name code.function
+    (code.unfolded 𝓤 𝓛.H 𝓜 𝓡 wired)
+    (λ κs. ((λ d. cells_laws.lowered d ∷ []), (uint_vals w64, (uint_vals w64, tt))))
+    (λ κs. (cells_laws.lowers.val_is, (uint_Tells w64, (uint_Tells w64, tt)))) (λ κs qs bounds a g are.
+    let d = a.0 in let p = a.1.0 in let n = a.1.1.0 in let h = d.home in let xs = d.bytes in let ls = d.lent in let ls' = with_span (p, n) ls in
+    let ys = bytes_in xs p n in
     let y : (walk_of 𝓛 f.ended stayed c).Ghost = ((κs, qs, bounds, a, (bare ∷ [], (uint_vals w64 p, (uint_vals w64 n, tt)))), g) in
     let word = vstruct (of_list (bare ∷ bare ∷ bare ∷ [])) in
-    qed 𝓛 ((‵ ftrue ⊛ ‵ ((Cells.the_row).own_val d (bare ∷ [])) ⊛ ‵ (usize.own_val p (uint_vals w64 p)) ⊛ ‵ (usize.own_val n (uint_vals w64 n)) ⊛ ‵ ftrue) ∷ raw (fact 𝓤 ((0 < n) × (p + n ≤ length xs) × IsUnlent ls p n)) ∷ []) ∵
+    qed 𝓛 ((‵ ftrue ⊛ ‵ ((Cells.the_row).own_val d (bare ∷ [])) ⊛ ‵ (usize.own_val p (uint_vals w64 p)) ⊛ ‵ (usize.own_val n (uint_vals w64 n)) ⊛ ‵ ftrue)
+    ∷ raw (fact 𝓤 ((0 < n) × (p + n ≤ length xs) × IsUnlent ls p n)) ∷ []) ∵
     move ! (1 ∷ []) $ heard ! _ (λ asked. let some = asked.0 in let fits = asked.1 in let free = asked.2 in
-    let kept : (Cells.the_row).Denot = record { home = h; bytes = xs; lent = ls'; ok = (spaced_with ls 0 (length xs) p n d.ok.0 (omega arith) some fits free, d.ok.1) } in
+    let kept : (Cells.the_row).Denot = record {
+      home = h;
+      bytes = xs;
+      lent = ls';
+      ok = (spaced_with ls 0 (length xs) p n d.ok.0 (omega arith) some fits free, d.ok.1);
+    } in
     let run : (Run.the_row).Denot = record { start = place_in h p; bytes = ys } in
     let right : (Ticket.the_row).Denot = record { home = h; place = p; len = n } in
     split ! $ move ! (1 ∷ []) $ split ! $ keep ! (0 ∷ []) $ release ! (cells_own h ls xs) $ fsplit ! $
@@ -42,5 +54,14 @@ take_spec 𝓤 𝓛 𝓜 𝓡 wired =
     sets ! (agg ! (no_more !)) refl (tt, tt) $ sets ! (agg ! (no_more !)) refl (tt, tt) $ sets ! (agg ! (no_more !)) refl (tt, tt) $
     sets ! (agg ! (and_then ! (get ! refl) (and_then ! (get ! refl) (and_then ! (get ! refl) (no_more !))))) refl (tt, (tt, (tt, (tt, tt)))) $
     returns ! (look_at ! 0 refl) $ free_all ! refl $
-    suffices ! _ (ends_at 𝓛 f.ended stayed c y word (kept, run, right) (tt, (tt, (tt, tt))) (tt, (tt, (tt, tt)))) $ says ! (refl, refl, refl, refl, refl, refl, refl, refl) $
+    suffices ! _ (ends_at 𝓛 f.ended stayed c y word (kept, run, right) (tt, (tt, (tt, tt))) (tt, (tt, (tt, tt)))) $ says ! (
+      refl,
+      refl,
+      refl,
+      refl,
+      refl,
+      refl,
+      refl,
+      refl,
+    ) $
     nothing ! $ nothing ! $ join ! $ nothing ! $ join ! $ nothing ! $ join ! $ nothing ! $ group ! 3 $ done !)))
