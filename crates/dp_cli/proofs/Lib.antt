@@ -3,3 +3,4 @@ pub mod Endings
 mod Lines
 mod Numbers
 pub mod Lowering
+pub mod Blocks

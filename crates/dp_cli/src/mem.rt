@@ -1,8 +1,13 @@
 //! `dpv mem`: heap scripts.
 
-ghost use Rattle.std.specs.Prelude.{◌≡◌, ℕ, ◌%◌, ◌≤◌, [], All, IfSome, IsTrue, ◌<◌, length};
-ghost use Rattle.dp_heap.specs.Elements.{count_of, is_busy};
+ghost use Rattle.std.specs.Prelude.{◌≡◌, ℕ, ◌+◌, ◌%◌, ◌≤◌, ◌<◌, ◌==◌, ◌⊎◌, ◌↔◌, [], All, IfSome, IfOk, IsTrue, MatchOption, MatchResult, length, position, false, true};
+ghost use Rattle.std.specs.Io.KnownBytes.{Appends};
+ghost use Rattle.dp_heap.specs.Elements.{alignment, count_of, is_busy, rounded, Taken};
+ghost use Rattle.dp_heap.specs.Refusals.{IsAlign, IsRefused};
 ghost use Rattle.dp_region.specs.Region.{IsRegionSize};
+ghost use Rattle.dp_cli.specs.Heaps as spec;
+ghost use Rattle.dp_cli.specs.Scripts.{IsDone, IsFilled, IsFreed, IsPrinted, IsRefusalTold, IsTaken, IsWrong, is_held, stage};
+ghost use Rattle.dp_cli.specs.Told.{IsTold};
 
 use crate::fault::{DONE, Fault, MEMORY, tell, tell_fault};
 use crate::script::{Command, command_of};
@@ -32,6 +37,11 @@ struct Session {
 struct ElementLine(Element);
 
 impl fmt::Display for ElementLine {
+    ghost use Rattle.std.specs.Prelude.{Some};
+    ghost use Rattle.dp_cli.specs.Heaps.{element_text};
+
+    ghost output = { λ line. Some (element_text line.0) };
+
     fn fmt<W: fmt::Write>(&self, f: &mut fmt::Formatter<W>) -> fmt::Result {
         let ElementLine(element) = self;
         match element.state {
@@ -46,17 +56,22 @@ impl fmt::Display for ElementLine {
 }
 
 /// The element of a heap in which a place lies.
-fn element_around(heap: &Heap, place: u32) -> Option<Element> {
+fn element_around(heap: &Heap, place: u32) -> Option<Element>
+    ensures { result ≡ spec.element_at heap.now.elements place }
+{
     heap.iter().find(|element| place >= element.place && place - element.place < element.size)
 }
 
 /// Prints what became of the block of a success.
-fn tell_block<O: Write>(heap: &Heap, number: u32, data: u32, out: &mut O) -> u8 {
-    match element_around(heap, data) {
+fn tell_block<O: Write>(heap: &Heap, number: u32, place: u32, out: &mut O) -> u8
+    ensures status { IsTold DONE result }
+    ensures printed { result ≡ DONE → IfSome (spec.element_at heap.now.elements place) (λ element. Appends (O.contents out.old) (O.contents out.new) (spec.block_line number place element)) }
+{
+    match element_around(heap, place) {
         Some(element) => tell(
             out,
             format_args!(
-                "{number} data {data} element {} + {}",
+                "{number} data {place} element {} + {}",
                 element.place, element.size
             ),
             DONE,
@@ -66,13 +81,30 @@ fn tell_block<O: Write>(heap: &Heap, number: u32, data: u32, out: &mut O) -> u8 
 }
 
 /// Prints a refusal.
-fn tell_refusal<O: Write>(error: HeapError, out: &mut O) -> u8 {
+fn tell_refusal<O: Write>(error: HeapError, out: &mut O) -> u8
+    ensures status { IsTold DONE result }
+    ensures printed { result ≡ DONE → Appends (O.contents out.old) (O.contents out.new) (spec.refusal_line error) }
+{
     let name = match error {
         HeapError::ZeroSize => "ZeroSize",
         HeapError::BadAlign => "BadAlign",
         HeapError::NoRoom => "NoRoom",
     };
     tell(out, format_args!("refused {} {name}", error.number()), DONE)
+}
+
+/// A block of these many bytes and this alignment, all its bytes 0 where that is asked for.
+fn request(heap: &mut Heap, size: u32, align: u32, zeros: bool) -> Result<Block, HeapError>
+    ensures block { IfOk result (λ b. (b.home ≡ heap.old.home) × IsFilled zeros size b.bytes × Taken heap.old.elements (rounded size) (alignment align) b.place heap.new.elements) }
+    ensures home { heap.new.home ≡ heap.old.home }
+    ensures refused { MatchResult result (λ _. (0 < size) × IsAlign align) (λ e. IsRefused e size align heap.old.elements × (heap.new ≡ heap.old)) }
+    ensures counted { MatchResult result (λ _. count_of is_busy heap.new.elements ≡ count_of is_busy heap.old.elements + 1) (λ _. count_of is_busy heap.new.elements ≡ count_of is_busy heap.old.elements) }
+{
+    if zeros {
+        heap.zmalloc(size, align)
+    } else {
+        heap.malloc(size, align)
+    }
 }
 
 impl Session {
@@ -105,23 +137,23 @@ impl Session {
     }
 
     /// `malloc` and `zmalloc`.
-    fn take<O: Write>(&mut self, size: u32, align: u32, zeros: bool, out: &mut O) -> u8 {
-        let answer = if zeros {
-            self.heap.zmalloc(size, align)
-        } else {
-            self.heap.malloc(size, align)
-        };
-        match answer {
+    fn take<O: Write>(&mut self, size: u32, align: u32, zeros: bool, out: &mut O) -> u8
+        ensures status { IsTold DONE result }
+        ensures answered { result ≡ DONE → IsPrinted (λ text. IsTaken zeros size align (stage self.old.heap.elements self.old.held.items self.old.taken) text (stage self.new.heap.elements self.new.held.items self.new.taken) ⊎ IsRefusalTold size align (stage self.old.heap.elements self.old.held.items self.old.taken) text (stage self.new.heap.elements self.new.held.items self.new.taken)) (O.contents out.old) (O.contents out.new) }
+    {
+        match request(&mut self.heap, size, align, zeros) {
             Ok(block) => {
-                let data = block.place();
+                let place = block.place();
                 self.taken = self.taken.saturating_add(1);
                 let number = self.taken;
-                if let Err(full) = self.held.push(Held { number, block }) {
-                    let Held { number: _, block } = full.value;
-                    self.heap.free(block);
-                    return MEMORY;
+                match self.held.push(Held { number, block }) {
+                    Ok(()) => tell_block(&self.heap, number, place, out),
+                    Err(full) => {
+                        let Held { number: _, block } = full.value;
+                        self.heap.free(block);
+                        MEMORY
+                    }
                 }
-                tell_block(&self.heap, number, data, out)
             }
             Err(error) => tell_refusal(error, out),
         }
@@ -129,21 +161,30 @@ impl Session {
 
     /// The place of a number in the list of blocks.
     fn place_of(&self, number: u32) -> Option<usize>
-        ensures { IfSome result (λ k. k < length self.now.held.items) }
+        ensures within { IfSome result (λ k. k < length self.now.held.items) }
+        ensures first { result ≡ position (λ held. held.number == number) self.now.held.items }
     {
         self.held.iter().position(|held| held.number == number)
     }
 
     /// `free`; `None` where the number is not held.
-    fn free<O: Write>(&mut self, number: u32, out: &mut O) -> Option<u8> {
-        let place = self.place_of(number)?;
+    fn free<O: Write>(&mut self, number: u32, out: &mut O) -> Option<u8>
+        ensures held { MatchOption result ((is_held number self.old.held.items ≡ false) × (self.new ≡ self.old) × (out.new ≡ out.old)) (λ status. (is_held number self.old.held.items ≡ true) × IsTold DONE status) }
+        ensures freed { result ≡ Some DONE → IsPrinted (λ text. IsFreed number (stage self.old.heap.elements self.old.held.items self.old.taken) text (stage self.new.heap.elements self.new.held.items self.new.taken)) (O.contents out.old) (O.contents out.new) }
+    {
+        let Some(place) = self.place_of(number) else {
+            return None;
+        };
         let Held { number: _, block } = self.held.remove(place);
         self.heap.free(block);
         Some(tell(out, format_args!("freed {number}"), DONE))
     }
 
     /// `list`.
-    fn list<O: Write>(&self, out: &mut O) -> u8 {
+    fn list<O: Write>(&self, out: &mut O) -> u8
+        ensures status { IsTold DONE result }
+        ensures printed { result ≡ DONE → Appends (O.contents out.old) (O.contents out.new) (spec.list_text self.now.heap.elements) }
+    {
         for element in self.heap.iter() {
             let status = tell(out, ElementLine(element), DONE);
             if status != DONE {
@@ -154,7 +195,10 @@ impl Session {
     }
 
     /// `stats`.
-    fn stats<O: Write>(&self, out: &mut O) -> u8 {
+    fn stats<O: Write>(&self, out: &mut O) -> u8
+        ensures status { IsTold DONE result }
+        ensures printed { result ≡ DONE → Appends (O.contents out.old) (O.contents out.new) (spec.stats_line self.now.heap.elements) }
+    {
         let all = self.heap.stats();
         tell(
             out,
@@ -167,7 +211,10 @@ impl Session {
     }
 
     /// A command; `None` where it is none here.
-    fn run<O: Write>(&mut self, command: Command, out: &mut O) -> Option<u8> {
+    fn run<O: Write>(&mut self, command: Command, out: &mut O) -> Option<u8>
+        ensures wrong { MatchOption result (IsWrong command (stage self.old.heap.elements self.old.held.items self.old.taken) × (self.new ≡ self.old) × (out.new ≡ out.old)) (λ status. ¬ IsWrong command (stage self.old.heap.elements self.old.held.items self.old.taken) × IsTold DONE status) }
+        ensures done { result ≡ Some DONE → IsPrinted (λ text. IsDone command (stage self.old.heap.elements self.old.held.items self.old.taken) text (stage self.new.heap.elements self.new.held.items self.new.taken)) (O.contents out.old) (O.contents out.new) }
+    {
         match command {
             Command::Region(_) => None,
             Command::Malloc { size, align } => Some(self.take(size, align, false, out)),
@@ -181,7 +228,7 @@ impl Session {
 
 /// Whether a region may have this size.
 fn is_region_size(size: u32) -> bool
-    ensures { IsTrue result → IsRegionSize size }
+    ensures { IsTrue result ↔ IsRegionSize size }
 {
     size >= 4_096 && size <= 1_073_741_824 && size % 64 == 0
 }
