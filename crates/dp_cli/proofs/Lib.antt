@@ -4,3 +4,4 @@ mod Lines
 mod Numbers
 pub mod Lowering
 pub mod Blocks
+pub mod Commands

@@ -1,3 +1,4 @@
+pub mod Commands
 pub mod Heaps
 pub mod Inferring
 pub mod Judging
