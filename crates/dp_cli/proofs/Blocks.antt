@@ -1,6 +1,6 @@
 -- The element around a block, and the blocks that are held.
-use Rattle.std.proofs.Common.{◌≡◌, ◌⊎◌, ℕ, zero, suc, ◌+◌, ◌-◌, ◌<◌, ◌≤◌, Bool, true, false, List, [], ◌∷◌, ◌++◌, length, get_or, take, drop, Option, Some, None, inl, inr, refl, sym, ◌∙◌, ap, subst, arith, append_assoc}
-use Rattle.std.specs.Prelude.{◌==◌, ◌&&◌, ◌||◌, IfSome, cond, find, nat_le, nat_lt, not}
+use Rattle.std.proofs.Common.{◌≡◌, ◌⊎◌, ℕ, zero, suc, ◌+◌, ◌-◌, ◌<◌, ◌≤◌, Bool, true, false, List, [], ◌∷◌, ◌++◌, length, get_or, take, drop, Option, Some, None, inl, refl, sym, ◌∙◌, ap, subst, arith, append_assoc}
+use Rattle.std.specs.Prelude.{◌==◌, ◌||◌, IfSome, cond, nat_lt, not}
 use Rattle.std.specs.Io.KnownBytes.{Appends}
 use Rattle.std.specs.List.{list_any, position, position_or_len, remove}
 use Rattle.std.proofs.lemmas.Bool.{and_from, eqb-true, le-leb, lt-ltb, ltb-false, ltb-true}
@@ -44,7 +44,7 @@ around old n a d new more taken =
     let high = spare (d + n) (end_of e - (d + n)) in
     let here = found d (before ++ low) (busy e n d) (high ++ after) (busy_around e n d more taken.1.0.2) in
     let lies : new ≡ (before ++ low) ++ busy e n d ∷ (high ++ after) =
-        taken.2.3 ∙ ap (λ rest. before ++ rest) (append_assoc low (busy e n d ∷ high) after) ∙ sym (append_assoc before low (busy e n d ∷ (high ++ after))) in
+    taken.2.3 ∙ ap (λ rest. before ++ rest) (append_assoc low (busy e n d ∷ high) after) ∙ sym (append_assoc before low (busy e n d ∷ (high ++ after))) in
     (here.0, ap (λ es. element_at es d) lies ∙ here.1)
 
 -- ---- a block that is taken
@@ -58,7 +58,7 @@ is_taken zeros n a old new block place before after own_place asked filled taken
     let own : 0 < rounded n = omega arith in
     let here = around old.elements (rounded n) (alignment a) block.place new.elements own taken in
     let at : IfSome (element_at new.elements block.place) (λ e. Appends before after (block_line new.taken block.place e)) =
-        subst (λ (p : ℕ). IfSome (element_at new.elements p) (λ e. Appends before after (block_line new.taken p e))) own_place told in
+    subst (λ (p : ℕ). IfSome (element_at new.elements p) (λ e. Appends before after (block_line new.taken p e))) own_place told in
     record {
       text = block_line new.taken block.place here.0;
       done = inl (record {

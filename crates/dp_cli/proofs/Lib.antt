@@ -5,3 +5,4 @@ mod Numbers
 pub mod Lowering
 pub mod Blocks
 pub mod Commands
+pub mod Playing

@@ -1,5 +1,5 @@
 -- The words come one after another.
-use Rattle.std.proofs.Common.{◌∷◌, [], ◌∙◌, ap, refl, lit<, sym}
+use Rattle.std.proofs.Common.{◌∷◌, [], ◌∙◌, ap, refl, lit<}
 use Rattle.std.proofs.lemmas.Iterator.Consumers.{YieldsList-end, YieldsList-turn}
 use Rattle.std.proofs.lemmas.Iterator.Splits.{YieldsList-from_str_split}
 use Rattle.dp_cli.specs.Commands.{command_of_words}
