@@ -20,7 +20,8 @@ found_here : (place : ℕ) (b : Bool) (e : Element) (rest : Option Element) → 
 found_here place true e rest h = (e, refl)
 found_here place false e rest h = h
 
-found : (place : ℕ) (before : List Element) (e : Element) (after : List Element) → lies_in place e ≡ true → (x : Element) × (element_at (before ++ e ∷ after) place ≡ Some x)
+found : (place : ℕ) (before : List Element) (e : Element) (after : List Element) → lies_in place e ≡ true
+    → (x : Element) × (element_at (before ++ e ∷ after) place ≡ Some x)
 found place [] e after h = (e, ap (λ b. cond b (Some e) (element_at after place)) h)
 found place (y ∷ before) e after h = found_here place (lies_in place y) y (element_at (before ++ e ∷ after) place) (found place before e after h)
 
@@ -49,10 +50,12 @@ around old n a d new more taken =
 
 -- ---- a block that is taken
 
-pub is_taken : (zeros : Bool) (n a : ℕ) (old new : Stage) (block : BlockView) (place : ℕ) (before after : Option (List ℕ)) → place ≡ block.place → (0 < n) × IsAlign a → IsFilled zeros n block.bytes
+pub is_taken : (zeros : Bool) (n a : ℕ) (old new : Stage) (block : BlockView) (place : ℕ) (before after : Option (List ℕ)) → place ≡ block.place
+    → (0 < n) × IsAlign a → IsFilled zeros n block.bytes
     → Taken old.elements (rounded n) (alignment a) block.place new.elements → new.taken ≡ next_number old.taken
     → new.held ≡ old.held ++ record { number = new.taken; block = block } ∷ []
-    → IfSome (element_at new.elements place) (λ e. Appends before after (block_line new.taken place e)) → IsPrinted (λ text. IsTaken zeros n a old text new ⊎ IsRefusalTold n a old text new) before after
+    → IfSome (element_at new.elements place) (λ e. Appends before after (block_line new.taken place e))
+    → IsPrinted (λ text. IsTaken zeros n a old text new ⊎ IsRefusalTold n a old text new) before after
 is_taken zeros n a old new block place before after own_place asked filled taken number held told =
     let more : 0 < n = asked.0 in
     let own : 0 < rounded n = omega arith in
@@ -126,20 +129,24 @@ any_after p (y ∷ before) x after is = ap (λ b. p y || b) (any_after p before 
 pub none_held : (number : ℕ) (held : List Held) → position (λ h. h.number == number) held ≡ None → is_held number held ≡ false
 none_held number held e = none_of (λ h. h.number == number) held (no_place_is _ (length held) (nat_lt _ (length held)) refl e)
 
-pub one_held : (number : ℕ) (held : List Held) (k : ℕ) (x : Held) → position (λ h. h.number == number) held ≡ Some k → x ≡ get_or held k x → is_held number held ≡ true
+pub one_held : (number : ℕ) (held : List Held) (k : ℕ) (x : Held) → position (λ h. h.number == number) held ≡ Some k → x ≡ get_or held k x
+    → is_held number held ≡ true
 one_held number held k x e here =
-    let at = place_is (position_or_len (λ (h : Held). h.number == number) held) (length held) k (nat_lt (position_or_len (λ (h : Held). h.number == number) held) (length held)) refl e in
+    let at = place_is (position_or_len (λ (h : Held). h.number == number) held) (length held) k
+    (nat_lt (position_or_len (λ (h : Held). h.number == number) held) (length held)) refl e in
     let found = parts (λ h. h.number == number) held k x at.0 at.1 here in
     ap (is_held number) found.whole ∙ any_after (λ h. h.number == number) (take k held) x (drop (suc k) held) found.is
 
 same_stage : (es fs : List Element) (hs ks : List Held) (n m : ℕ) → es ≡ fs → hs ≡ ks → n ≡ m → stage es hs n ≡ stage fs ks m
 same_stage es fs hs ks n m a b c = cc
 
-pub is_freed : (number : ℕ) (old new : Stage) (k : ℕ) (x : Held) (before after : Option (List ℕ)) → position (λ h. h.number == number) old.held ≡ Some k → x ≡ get_or old.held k x
+pub is_freed : (number : ℕ) (old new : Stage) (k : ℕ) (x : Held) (before after : Option (List ℕ)) → position (λ h. h.number == number) old.held ≡ Some k
+    → x ≡ get_or old.held k x
     → new.held ≡ remove old.held k → new.elements ≡ merged x.block.place old.elements → new.taken ≡ old.taken
     → Appends before after (freed_line number) → IsPrinted (λ text. IsFreed number old text new) before after
 is_freed number old new k x before after e here held elements taken told =
-    let at = place_is (position_or_len (λ (h : Held). h.number == number) old.held) (length old.held) k (nat_lt (position_or_len (λ (h : Held). h.number == number) old.held) (length old.held)) refl e in
+    let at = place_is (position_or_len (λ (h : Held). h.number == number) old.held) (length old.held) k
+    (nat_lt (position_or_len (λ (h : Held). h.number == number) old.held) (length old.held)) refl e in
     let found = parts (λ h. h.number == number) old.held k x at.0 at.1 here in
     let same : x.number ≡ number = eqb-true x.number number found.is in
     record {

@@ -72,7 +72,8 @@ digit_low b e = grind (arith, nat_tests)
 
 ascii_digits : (bs : List ℕ) → list_all is_ascii_digit bs ≡ true → IsAscii bs
 ascii_digits [] e = IsAscii-nil
-ascii_digits (b ∷ bs) e = let parts = and_parts (is_ascii_digit b) (list_all is_ascii_digit bs) e in IsAscii-cons b bs (digit_low b parts.0) (ascii_digits bs parts.1)
+ascii_digits (b ∷ bs) e = let parts = and_parts (is_ascii_digit b) (list_all is_ascii_digit bs) e in IsAscii-cons b bs (digit_low b parts.0)
+    (ascii_digits bs parts.1)
 
 same_bytes : (xs ys : List ℕ) (b : Bool) → Decides b (xs ≡ ys) → b ≡ true → xs ≡ ys
 same_bytes xs ys true d e = d.0 e
@@ -105,7 +106,8 @@ words_ascii (a ∷ []) x e = one_of a (codes "list") (codes "stats") _ _ x (byte
 words_ascii (a ∷ b ∷ []) x e =
     let at = then_parts (number_in b) (with_number a) x e in
     spaced a b
-    (one_of a (codes "region") (codes "free") _ _ x (bytes_eq a (codes "region")) (bytes_eq a (codes "free")) refl refl refl refl at.2) (number_ascii b at.0 at.1)
+    (one_of a (codes "region") (codes "free") _ _ x (bytes_eq a (codes "region")) (bytes_eq a (codes "free")) refl refl refl refl at.2)
+    (number_ascii b at.0 at.1)
 words_ascii (a ∷ b ∷ d ∷ []) x e =
     let at = then_parts (number_in b) (λ n. option_and_then (with_numbers a n) (number_in d)) x e in
     let more = then_parts (number_in d) (with_numbers a at.0) x at.2 in

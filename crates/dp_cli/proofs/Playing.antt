@@ -61,11 +61,13 @@ place_within xs k e = (place_is (position_or_len newline xs) (length xs) k (nat_
 pub take_rest : (xs : List ℕ) (n : ℕ) → take (length xs - n) (drop n xs) ≡ drop n xs
 take_rest xs n = take_all (length xs - n) (drop n xs) (omega (arith, length-drop n xs))
 
-pub cut_at : (xs line more : List ℕ) (k : ℕ) → position newline xs ≡ Some k → line ≡ take k xs → more ≡ drop (k + 1) xs → script_lines xs ≡ line ∷ script_lines more
+pub cut_at : (xs line more : List ℕ) (k : ℕ) → position newline xs ≡ Some k → line ≡ take k xs → more ≡ drop (k + 1) xs
+    → script_lines xs ≡ line ∷ script_lines more
 cut_at xs line more k e front back =
     let at = place_is (position_or_len newline xs) (length xs) k (nat_lt (position_or_len newline xs) (length xs)) refl e in
     let next : k + 1 ≡ suc k = omega arith in
-    two_lines xs k at.0 at.1 ∙ ap (λ l. l ∷ script_lines (drop (suc k) xs)) (sym front) ∙ ap (λ m. line ∷ script_lines m) (ap (λ n. drop n xs) (sym next) ∙ sym back)
+    two_lines xs k at.0 at.1 ∙ ap (λ l. l ∷ script_lines (drop (suc k) xs)) (sym front) ∙ ap (λ m. line ∷ script_lines m)
+    (ap (λ n. drop n xs) (sym next) ∙ sym back)
 
 pub uncut : (xs : List ℕ) → position newline xs ≡ None → script_lines xs ≡ xs ∷ []
 uncut xs e = one_line xs (no_place_is (position_or_len newline xs) (length xs) (nat_lt (position_or_len newline xs) (length xs)) refl e)
@@ -81,7 +83,8 @@ first_here k [] rest some = absurd (omega arith)
 first_here k (b ∷ bs) rest some = refl
 
 -- an empty line
-pub first_blank : (k n : ℕ) (lines rest : List (List ℕ)) (line : List ℕ) (o : Option (ℕ × (List ℕ × List (List ℕ)))) → n ≡ suc k → lines ≡ line ∷ rest → length line ≡ 0
+pub first_blank : (k n : ℕ) (lines rest : List (List ℕ)) (line : List ℕ) (o : Option (ℕ × (List ℕ × List (List ℕ)))) → n ≡ suc k → lines ≡ line ∷ rest
+    → length line ≡ 0
     → first_from k lines ≡ o → first_from n rest ≡ o
 first_blank k n lines rest line o next is none so_far =
     ap (λ m. first_from m rest) next ∙ sym (ap (first_from k) (is ∙ ap (λ l. l ∷ rest) (empty_is line none))) ∙ so_far
@@ -98,7 +101,8 @@ runs_none k [] e = (refl, refl)
 runs_none k ([] ∷ lines) e = runs_none (suc k) lines e
 runs_none k ((b ∷ bs) ∷ lines) e = cc
 
-pub runs_wrong : (k n : ℕ) (lines rest : List (List ℕ)) (line : List ℕ) → first_from k lines ≡ Some (n, (line, rest)) → IsNoRegion line → Runs k lines [] (Some n)
+pub runs_wrong : (k n : ℕ) (lines rest : List (List ℕ)) (line : List ℕ) → first_from k lines ≡ Some (n, (line, rest)) → IsNoRegion line
+    → Runs k lines [] (Some n)
 runs_wrong k n [] rest line e bad = cc
 runs_wrong k n ([] ∷ lines) rest line e bad = runs_wrong (suc k) n lines rest line e bad
 runs_wrong k n ((b ∷ bs) ∷ lines) rest line e bad =
@@ -115,7 +119,8 @@ runs_on k n ((b ∷ bs) ∷ lines) rest line size text fault e is fits plays =
       size,
       ap (λ t. command_in t.1.0) same ∙ is,
       fits,
-      subst (λ ls. Plays (suc k) ls (fresh size) text fault) (sym (ap (λ t. t.1.1) same)) (subst (λ m. Plays (suc m) rest (fresh size) text fault) (sym (ap (λ t. t.0) same)) plays),
+      subst (λ ls. Plays (suc k) ls (fresh size) text fault) (sym (ap (λ t. t.1.1) same))
+          (subst (λ m. Plays (suc m) rest (fresh size) text fault) (sym (ap (λ t. t.0) same)) plays),
     )
 
 -- ---- lines that are played
@@ -133,7 +138,8 @@ appends_none (Some xs) = sym (append-nil xs)
 pub played_none : (n : ℕ) (all : List (List ℕ)) (s : Stage) (a : Option (List ℕ)) → Played (suc n) all s n all s a a
 played_none n all s a = record { so_far = []; goes_on = λ text fault p. p; printed = appends_none a }
 
-pub played_blank : (base : ℕ) (all : List (List ℕ)) (s : Stage) (k n : ℕ) (lines rest : List (List ℕ)) (line : List ℕ) (t : Stage) (a b : Option (List ℕ)) → n ≡ suc k → lines ≡ line ∷ rest → length line ≡ 0
+pub played_blank : (base : ℕ) (all : List (List ℕ)) (s : Stage) (k n : ℕ) (lines rest : List (List ℕ)) (line : List ℕ) (t : Stage) (a b : Option (List ℕ))
+    → n ≡ suc k → lines ≡ line ∷ rest → length line ≡ 0
     → Played base all s k lines t a b → Played base all s n rest t a b
 played_blank base all s k n lines rest line t a b e is none played = record {
   so_far = played.so_far;
@@ -142,12 +148,14 @@ played_blank base all s k n lines rest line t a b e is none played = record {
   printed = played.printed;
 }
 
-goes : (k : ℕ) (line : List ℕ) (rest : List (List ℕ)) (s t : Stage) (head tail : List ℕ) (fault : Option ℕ) → 0 < length line → IsLineDone line s head t → Plays (suc k) rest t tail fault
+goes : (k : ℕ) (line : List ℕ) (rest : List (List ℕ)) (s t : Stage) (head tail : List ℕ) (fault : Option ℕ) → 0 < length line → IsLineDone line s head t
+    → Plays (suc k) rest t tail fault
     → Plays k (line ∷ rest) s (head ++ tail) fault
 goes k [] rest s t head tail fault some done p = absurd (omega arith)
 goes k (b ∷ bs) rest s t head tail fault some done p = inr (head, tail, t, done, p, refl)
 
-pub played_line : (base : ℕ) (all : List (List ℕ)) (s : Stage) (k n : ℕ) (lines rest : List (List ℕ)) (line : List ℕ) (t u : Stage) (a b d : Option (List ℕ)) → n ≡ suc k → lines ≡ line ∷ rest → 0 < length line
+pub played_line : (base : ℕ) (all : List (List ℕ)) (s : Stage) (k n : ℕ) (lines rest : List (List ℕ)) (line : List ℕ) (t u : Stage) (a b d : Option (List ℕ))
+    → n ≡ suc k → lines ≡ line ∷ rest → 0 < length line
     → IsPrinted (λ text. IsLineDone line t text u) b d → Played base all s k lines t a b → Played base all s n rest u a d
 played_line base all s k n lines rest line t u a b d e is some done played = record {
   so_far = played.so_far ++ done.text;
@@ -161,7 +169,8 @@ stops : (k : ℕ) (line : List ℕ) (rest : List (List ℕ)) (s : Stage) → 0 <
 stops k [] rest s some bad = absurd (omega arith)
 stops k (b ∷ bs) rest s some bad = inl (bad, refl, refl)
 
-pub played_bad : (base : ℕ) (all : List (List ℕ)) (s : Stage) (k n : ℕ) (lines rest : List (List ℕ)) (line : List ℕ) (t : Stage) (a b d : Option (List ℕ)) → n ≡ suc k → lines ≡ line ∷ rest → 0 < length line → IsBad line t → b ≡ d
+pub played_bad : (base : ℕ) (all : List (List ℕ)) (s : Stage) (k n : ℕ) (lines rest : List (List ℕ)) (line : List ℕ) (t : Stage) (a b d : Option (List ℕ))
+    → n ≡ suc k → lines ≡ line ∷ rest → 0 < length line → IsBad line t → b ≡ d
     → Played base all s k lines t a b → IsPrinted (λ text. Plays base all s text (Some n)) a d
 played_bad base all s k n lines rest line t a b d e is some bad same played = record {
   text = played.so_far;
@@ -175,7 +184,8 @@ played_bad base all s k n lines rest line t a b d e is some bad same played = re
 abbrev left : Option (Bor (List ℕ)) → List (List ℕ)
 left rest = lines_left (option_map (λ more. more.now) rest)
 
-pub played_end : (base : ℕ) (all : List (List ℕ)) (s : Stage) (k : ℕ) (rest : Option (Bor (List ℕ))) (t : Stage) (a b : Option (List ℕ)) → rest ≡ None → Played base all s k (left rest) t a b
+pub played_end : (base : ℕ) (all : List (List ℕ)) (s : Stage) (k : ℕ) (rest : Option (Bor (List ℕ))) (t : Stage) (a b : Option (List ℕ)) → rest ≡ None
+    → Played base all s k (left rest) t a b
     → IsPrinted (λ text. Plays base all s text None) a b
 played_end base all s k rest t a b e played = record {
   text = played.so_far;
@@ -187,15 +197,18 @@ played_end base all s k rest t a b e played = record {
 pub left_is : (rest : Option (Bor (List ℕ))) (text : Bor (List ℕ)) → rest ≡ Some text → left rest ≡ script_lines text.now
 left_is rest text e = ap left e
 
-pub some_fits : (rest : Option (Bor (List ℕ))) (text : Bor (List ℕ)) (n : ℕ) → rest ≡ Some text → IfSome rest (λ t. n + length t.now < 2 ^ 64) → n + length text.now < 2 ^ 64
+pub some_fits : (rest : Option (Bor (List ℕ))) (text : Bor (List ℕ)) (n : ℕ) → rest ≡ Some text → IfSome rest (λ t. n + length t.now < 2 ^ 64)
+    → n + length text.now < 2 ^ 64
 some_fits rest text n e fits = subst (λ o. IfSome o (λ t. n + length t.now < 2 ^ 64)) e fits
 
-pub next_fits : (n m : ℕ) (text : List ℕ) (behind : Option (Bor (List ℕ))) → m ≡ suc n → n + length text < 2 ^ 64 → IfSome behind (λ more. length more.now < length text)
+pub next_fits : (n m : ℕ) (text : List ℕ) (behind : Option (Bor (List ℕ))) → m ≡ suc n → n + length text < 2 ^ 64
+    → IfSome behind (λ more. length more.now < length text)
     → IfSome behind (λ more. m + length more.now < 2 ^ 64)
 next_fits n m text None e fits less = tt
 next_fits n m text (Some more) e fits less = omega arith
 
-pub next_is : (n m : ℕ) (text line : List ℕ) → m ≡ min (n + 1) 18446744073709551615 → n + length text < 2 ^ 64 → length line ≤ length text → 0 < length line → m ≡ suc n
+pub next_is : (n m : ℕ) (text line : List ℕ) → m ≡ min (n + 1) 18446744073709551615 → n + length text < 2 ^ 64 → length line ≤ length text → 0 < length line
+    → m ≡ suc n
 next_is n m text line e fits le some = omega arith
 
 pub some_line : (line : List ℕ) (b : Bool) → b ≡ (length line == 0) → b ≡ false → 0 < length line
@@ -211,16 +224,20 @@ pub ends_wrong : (n : ℕ) (lines rest : List (List ℕ)) (line : List ℕ) (a :
     → IsPrinted (λ text. Runs 1 lines text (Some n)) a a
 ends_wrong n lines rest line a e bad = record { text = []; done = runs_wrong 1 n lines rest line (sym e) bad; printed = appends_none a }
 
-ends_printed : (n : ℕ) (lines rest : List (List ℕ)) (line : List ℕ) (size : ℕ) (s : Stage) (a b : Option (List ℕ)) (fault : Option ℕ) → first_from 1 lines ≡ Some (n, (line, rest))
-    → command_in line ≡ Some (Region size) → IsRegionSize size → s ≡ fresh size → IsPrinted (λ text. Plays (suc n) rest s text fault) a b → IsPrinted (λ text. Runs 1 lines text fault) a b
+ends_printed : (n : ℕ) (lines rest : List (List ℕ)) (line : List ℕ) (size : ℕ) (s : Stage) (a b : Option (List ℕ)) (fault : Option ℕ)
+    → first_from 1 lines ≡ Some (n, (line, rest))
+    → command_in line ≡ Some (Region size) → IsRegionSize size → s ≡ fresh size → IsPrinted (λ text. Plays (suc n) rest s text fault) a b
+    → IsPrinted (λ text. Runs 1 lines text fault) a b
 ends_printed n lines rest line size s a b fault e is fits new h = record {
   text = h.text;
   done = runs_on 1 n lines rest line size h.text fault e is fits (subst (λ t. Plays (suc n) rest t h.text fault) new h.done);
   printed = h.printed;
 }
 
-pub ends : (n : ℕ) (lines rest : List (List ℕ)) (line : List ℕ) (size : ℕ) (s : Stage) (bytes : List ℕ) (a b : Option (List ℕ)) (last : Ending) → Some (n, (line, rest)) ≡ first_from 1 lines
-    → (command_in line ≡ Some (Region size)) × IsRegionSize size → bytes ≡ replicate size 0 → s ≡ fresh (length bytes) → IsEnding (Plays (suc n) rest s) a b last → IsEnding (Runs 1 lines) a b last
+pub ends : (n : ℕ) (lines rest : List (List ℕ)) (line : List ℕ) (size : ℕ) (s : Stage) (bytes : List ℕ) (a b : Option (List ℕ)) (last : Ending)
+    → Some (n, (line, rest)) ≡ first_from 1 lines
+    → (command_in line ≡ Some (Region size)) × IsRegionSize size → bytes ≡ replicate size 0 → s ≡ fresh (length bytes)
+    → IsEnding (Plays (suc n) rest s) a b last → IsEnding (Runs 1 lines) a b last
 ends n lines rest line size s bytes a b ending.Done e is zeros new h =
     ends_printed n lines rest line size s a b None (sym e) is.0 is.1 (new ∙ ap (λ l. fresh l) (ap length zeros ∙ length-replicate size 0)) h
 ends n lines rest line size s bytes a b (ending.Line k) e is zeros new h =

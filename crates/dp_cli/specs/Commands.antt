@@ -9,7 +9,8 @@ use Rattle.dp_cli.specs.declared.script.Command.TheVariants.{Region, Malloc, Zma
 
 -- the number that a word is: one decimal digit or more, and below 2^32
 abbrev pub number_in : List ℕ → Option ℕ
-number_in word = if list_all is_ascii_digit word && (nat_lt 0 (length word) && nat_lt (digits_value 10 word) (2 ^ 32)) then Some (digits_value 10 word) else None
+number_in word = if list_all is_ascii_digit word && (nat_lt 0 (length word) && nat_lt (digits_value 10 word) (2 ^ 32)) then Some (digits_value 10 word) else
+    None
 
 -- a command of one word
 abbrev pub alone : List ℕ → Option Command

@@ -12,7 +12,8 @@ decreases-loop-rest g l = option_map_or (λ text. suc (length text.now)) l.rest 
 abbrev pub invariant-loop-rest : goal.invariant-loop-rest
 invariant-loop-rest g l = record {
   fits : IfSome l.rest (λ text. l.number + length text.now < 2 ^ 64);
-  played : Played (suc l.initial.number) (lines_left (option_map (λ more. more.now) l.initial.rest)) (stage l.initial.session.heap.elements l.initial.session.held.items l.initial.session.taken)
+  played : Played (suc l.initial.number) (lines_left (option_map (λ more. more.now) l.initial.rest))
+      (stage l.initial.session.heap.elements l.initial.session.held.items l.initial.session.taken)
       l.number (lines_left (option_map (λ more. more.now) l.rest)) (stage l.session.heap.elements l.session.held.items l.session.taken)
       (g.O.Write.contents l.initial.out) (g.O.Write.contents l.out);
 }
