@@ -1,9 +1,12 @@
+pub mod Commands
+pub mod Heaps
 pub mod Inferring
 pub mod Judging
 pub mod One
 pub mod Pipe
 pub mod Report
 pub mod Run
+pub mod Scripts
 pub mod Told
 pub mod Tracing
 pub mod Why

@@ -1,10 +1,16 @@
 //! `dpv mem`: heap scripts.
 
-ghost use Rattle.std.specs.Prelude.{◌≡◌, ℕ, ◌%◌, ◌≤◌, [], All, IfSome, IsTrue, ◌<◌, length};
-ghost use Rattle.dp_heap.specs.Elements.{count_of, is_busy};
+ghost use Rattle.std.specs.Prelude.{◌≡◌, ℕ, suc, ◌∷◌, ◌+◌, ◌^◌, ◌%◌, ◌≤◌, ◌<◌, ◌==◌, ◌⊎◌, ◌↔◌, [], All, IfSome, IfOk, IsTrue, MatchOption, MatchResult, length, option_map, position, false, true};
+ghost use Rattle.std.specs.Io.KnownBytes.{Appends};
+ghost use Rattle.dp_heap.specs.Elements.{alignment, count_of, is_busy, rounded, Taken};
+ghost use Rattle.dp_heap.specs.Refusals.{IsAlign, IsRefused};
 ghost use Rattle.dp_region.specs.Region.{IsRegionSize};
+ghost use Rattle.dp_cli.specs.Commands.{command_in};
+ghost use Rattle.dp_cli.specs.Heaps as spec;
+ghost use Rattle.dp_cli.specs.Scripts.{IsBad, IsDone, IsEnding, IsFilled, IsFreed, IsLineDone, IsNoRegion, IsPrinted, IsRefusalTold, IsScriptTold, IsTaken, IsWrong, Plays, Runs, first_from, fresh, is_held, lines_left, script_lines, stage, status_of_ending};
+ghost use Rattle.dp_cli.specs.Told.{IsTold, TellsMemory};
 
-use crate::fault::{DONE, Fault, MEMORY, tell, tell_fault};
+use crate::fault::{DONE, FAULT, Fault, MEMORY, tell, tell_fault};
 use crate::script::{Command, command_of};
 use dp_heap::{Element, Heap, HeapError, State};
 use dp_region::{Block, Region};
@@ -32,6 +38,11 @@ struct Session {
 struct ElementLine(Element);
 
 impl fmt::Display for ElementLine {
+    ghost use Rattle.std.specs.Prelude.{Some};
+    ghost use Rattle.dp_cli.specs.Heaps.{element_text};
+
+    ghost output = { λ line. Some (element_text line.0) };
+
     fn fmt<W: fmt::Write>(&self, f: &mut fmt::Formatter<W>) -> fmt::Result {
         let ElementLine(element) = self;
         match element.state {
@@ -46,17 +57,22 @@ impl fmt::Display for ElementLine {
 }
 
 /// The element of a heap in which a place lies.
-fn element_around(heap: &Heap, place: u32) -> Option<Element> {
+fn element_around(heap: &Heap, place: u32) -> Option<Element>
+    ensures { result ≡ spec.element_at heap.now.elements place }
+{
     heap.iter().find(|element| place >= element.place && place - element.place < element.size)
 }
 
 /// Prints what became of the block of a success.
-fn tell_block<O: Write>(heap: &Heap, number: u32, data: u32, out: &mut O) -> u8 {
-    match element_around(heap, data) {
+fn tell_block<O: Write>(heap: &Heap, number: u32, place: u32, out: &mut O) -> u8
+    ensures status { IsTold DONE result }
+    ensures printed { result ≡ DONE → IfSome (spec.element_at heap.now.elements place) (λ element. Appends (O.contents out.old) (O.contents out.new) (spec.block_line number place element)) }
+{
+    match element_around(heap, place) {
         Some(element) => tell(
             out,
             format_args!(
-                "{number} data {data} element {} + {}",
+                "{number} data {place} element {} + {}",
                 element.place, element.size
             ),
             DONE,
@@ -66,7 +82,10 @@ fn tell_block<O: Write>(heap: &Heap, number: u32, data: u32, out: &mut O) -> u8 
 }
 
 /// Prints a refusal.
-fn tell_refusal<O: Write>(error: HeapError, out: &mut O) -> u8 {
+fn tell_refusal<O: Write>(error: HeapError, out: &mut O) -> u8
+    ensures status { IsTold DONE result }
+    ensures printed { result ≡ DONE → Appends (O.contents out.old) (O.contents out.new) (spec.refusal_line error) }
+{
     let name = match error {
         HeapError::ZeroSize => "ZeroSize",
         HeapError::BadAlign => "BadAlign",
@@ -75,10 +94,25 @@ fn tell_refusal<O: Write>(error: HeapError, out: &mut O) -> u8 {
     tell(out, format_args!("refused {} {name}", error.number()), DONE)
 }
 
+/// A block of these many bytes and this alignment, all its bytes 0 where that is asked for.
+fn request(heap: &mut Heap, size: u32, align: u32, zeros: bool) -> Result<Block, HeapError>
+    ensures block { IfOk result (λ b. (b.home ≡ heap.old.home) × IsFilled zeros size b.bytes × Taken heap.old.elements (rounded size) (alignment align) b.place heap.new.elements) }
+    ensures home { heap.new.home ≡ heap.old.home }
+    ensures refused { MatchResult result (λ _. (0 < size) × IsAlign align) (λ e. IsRefused e size align heap.old.elements × (heap.new ≡ heap.old)) }
+    ensures counted { MatchResult result (λ _. count_of is_busy heap.new.elements ≡ count_of is_busy heap.old.elements + 1) (λ _. count_of is_busy heap.new.elements ≡ count_of is_busy heap.old.elements) }
+{
+    if zeros {
+        heap.zmalloc(size, align)
+    } else {
+        heap.malloc(size, align)
+    }
+}
+
 impl Session {
     /// A heap over a region, with no block out.
     fn over(alloc: Global, region: Region) -> Session
         requires { region.lent ≡ [] }
+        ensures { stage result.heap.elements result.held.items result.taken ≡ fresh (length region.bytes) }
     {
         Session {
             heap: Heap::new(region),
@@ -105,23 +139,23 @@ impl Session {
     }
 
     /// `malloc` and `zmalloc`.
-    fn take<O: Write>(&mut self, size: u32, align: u32, zeros: bool, out: &mut O) -> u8 {
-        let answer = if zeros {
-            self.heap.zmalloc(size, align)
-        } else {
-            self.heap.malloc(size, align)
-        };
-        match answer {
+    fn take<O: Write>(&mut self, size: u32, align: u32, zeros: bool, out: &mut O) -> u8
+        ensures status { IsTold DONE result }
+        ensures answered { result ≡ DONE → IsPrinted (λ text. IsTaken zeros size align (stage self.old.heap.elements self.old.held.items self.old.taken) text (stage self.new.heap.elements self.new.held.items self.new.taken) ⊎ IsRefusalTold size align (stage self.old.heap.elements self.old.held.items self.old.taken) text (stage self.new.heap.elements self.new.held.items self.new.taken)) (O.contents out.old) (O.contents out.new) }
+    {
+        match request(&mut self.heap, size, align, zeros) {
             Ok(block) => {
-                let data = block.place();
+                let place = block.place();
                 self.taken = self.taken.saturating_add(1);
                 let number = self.taken;
-                if let Err(full) = self.held.push(Held { number, block }) {
-                    let Held { number: _, block } = full.value;
-                    self.heap.free(block);
-                    return MEMORY;
+                match self.held.push(Held { number, block }) {
+                    Ok(()) => tell_block(&self.heap, number, place, out),
+                    Err(full) => {
+                        let Held { number: _, block } = full.value;
+                        self.heap.free(block);
+                        MEMORY
+                    }
                 }
-                tell_block(&self.heap, number, data, out)
             }
             Err(error) => tell_refusal(error, out),
         }
@@ -129,21 +163,30 @@ impl Session {
 
     /// The place of a number in the list of blocks.
     fn place_of(&self, number: u32) -> Option<usize>
-        ensures { IfSome result (λ k. k < length self.now.held.items) }
+        ensures within { IfSome result (λ k. k < length self.now.held.items) }
+        ensures first { result ≡ position (λ held. held.number == number) self.now.held.items }
     {
         self.held.iter().position(|held| held.number == number)
     }
 
     /// `free`; `None` where the number is not held.
-    fn free<O: Write>(&mut self, number: u32, out: &mut O) -> Option<u8> {
-        let place = self.place_of(number)?;
+    fn free<O: Write>(&mut self, number: u32, out: &mut O) -> Option<u8>
+        ensures held { MatchOption result ((is_held number self.old.held.items ≡ false) × (self.new ≡ self.old) × (out.new ≡ out.old)) (λ status. (is_held number self.old.held.items ≡ true) × IsTold DONE status) }
+        ensures freed { result ≡ Some DONE → IsPrinted (λ text. IsFreed number (stage self.old.heap.elements self.old.held.items self.old.taken) text (stage self.new.heap.elements self.new.held.items self.new.taken)) (O.contents out.old) (O.contents out.new) }
+    {
+        let Some(place) = self.place_of(number) else {
+            return None;
+        };
         let Held { number: _, block } = self.held.remove(place);
         self.heap.free(block);
         Some(tell(out, format_args!("freed {number}"), DONE))
     }
 
     /// `list`.
-    fn list<O: Write>(&self, out: &mut O) -> u8 {
+    fn list<O: Write>(&self, out: &mut O) -> u8
+        ensures status { IsTold DONE result }
+        ensures printed { result ≡ DONE → Appends (O.contents out.old) (O.contents out.new) (spec.list_text self.now.heap.elements) }
+    {
         for element in self.heap.iter() {
             let status = tell(out, ElementLine(element), DONE);
             if status != DONE {
@@ -154,7 +197,10 @@ impl Session {
     }
 
     /// `stats`.
-    fn stats<O: Write>(&self, out: &mut O) -> u8 {
+    fn stats<O: Write>(&self, out: &mut O) -> u8
+        ensures status { IsTold DONE result }
+        ensures printed { result ≡ DONE → Appends (O.contents out.old) (O.contents out.new) (spec.stats_line self.now.heap.elements) }
+    {
         let all = self.heap.stats();
         tell(
             out,
@@ -167,7 +213,10 @@ impl Session {
     }
 
     /// A command; `None` where it is none here.
-    fn run<O: Write>(&mut self, command: Command, out: &mut O) -> Option<u8> {
+    fn run<O: Write>(&mut self, command: Command, out: &mut O) -> Option<u8>
+        ensures wrong { MatchOption result (IsWrong command (stage self.old.heap.elements self.old.held.items self.old.taken) × (self.new ≡ self.old) × (out.new ≡ out.old)) (λ status. ¬ IsWrong command (stage self.old.heap.elements self.old.held.items self.old.taken) × IsTold DONE status) }
+        ensures done { result ≡ Some DONE → IsPrinted (λ text. IsDone command (stage self.old.heap.elements self.old.held.items self.old.taken) text (stage self.new.heap.elements self.new.held.items self.new.taken)) (O.contents out.old) (O.contents out.new) }
+    {
         match command {
             Command::Region(_) => None,
             Command::Malloc { size, align } => Some(self.take(size, align, false, out)),
@@ -181,66 +230,181 @@ impl Session {
 
 /// Whether a region may have this size.
 fn is_region_size(size: u32) -> bool
-    ensures { IsTrue result → IsRegionSize size }
+    ensures { IsTrue result ↔ IsRegionSize size }
 {
     size >= 4_096 && size <= 1_073_741_824 && size % 64 == 0
 }
 
-/// The first line of a script that is not empty, and how many stand before it.
-fn first_line(script: &[u8]) -> Option<(u64, &[u8])> {
-    let mut before = 0u64;
-    for line in script.split(|b| *b == b'\n') {
+/// The first line of a text, and what stands behind its newline, where it has one.
+struct Cut<'a> {
+    line: &'a [u8],
+    behind: Option<&'a [u8]>,
+}
+
+/// The place of the first newline.
+fn newline_in(text: &[u8]) -> Option<usize>
+    ensures { result ≡ position (λ b. b == 10) text.now }
+{
+    text.iter().position(|b| *b == b'\n')
+}
+
+/// The first line of a text.
+fn cut_line<'a>(text: &'a [u8]) -> Cut<'a>
+    ensures lines { script_lines text.now ≡ result.line.now ∷ lines_left (option_map (λ more. more.now) result.behind) }
+    ensures shorter { IfSome result.behind (λ more. length more.now < length text.now) }
+    ensures within { length result.line.now ≤ length text.now }
+{
+    match newline_in(text) {
+        Some(place) => Cut {
+            line: &text[..place],
+            behind: Some(&text[place + 1..]),
+        },
+        None => Cut {
+            line: text,
+            behind: None,
+        },
+    }
+}
+
+/// A line of a script, its number, and what stands behind it.
+struct Numbered<'a> {
+    number: usize,
+    line: &'a [u8],
+    behind: Option<&'a [u8]>,
+}
+
+/// The first line of a script that is not empty.
+fn first_line<'a>(script: &'a [u8]) -> Option<Numbered<'a>>
+    ensures first { option_map (λ found. (found.number, (found.line.now, lines_left (option_map (λ more. more.now) found.behind)))) result ≡ first_from 1 (script_lines script.now) }
+    ensures within { IfSome result (λ found. IfSome found.behind (λ more. found.number + length more.now < 2 ^ 64)) }
+{
+    let mut number = 0usize;
+    let mut rest = Some(script);
+    while let Some(text) = rest {
+        let Cut { line, behind } = cut_line(text);
+        number = number.saturating_add(1);
         if !line.is_empty() {
-            return Some((before, line));
+            return Some(Numbered {
+                number,
+                line,
+                behind,
+            });
         }
-        before = before.saturating_add(1);
+        rest = behind;
     }
     None
 }
 
-/// The lines of a script behind the first that is not empty, up to the first that is at fault or cannot be told of.
-fn run_lines<O: Write, E: Write>(
+/// The size of the region that a line asks for, where a region may have it.
+fn region_size(line: &[u8]) -> Option<u32>
+    ensures { MatchOption result (IsNoRegion line.now) (λ size. (command_in line.now ≡ Some (Command.Region size)) × IsRegionSize size) }
+{
+    match command_of(line) {
+        Some(Command::Region(size)) if is_region_size(size) => Some(size),
+        _ => None,
+    }
+}
+
+/// Plays a line that is not empty; `None` where it is no command there.
+fn play_line<O: Write>(session: &mut Session, line: &[u8], out: &mut O) -> Option<u8>
+    ensures bad { MatchOption result (IsBad line.now (stage session.old.heap.elements session.old.held.items session.old.taken) × (session.new ≡ session.old) × (out.new ≡ out.old)) (λ status. ¬ IsBad line.now (stage session.old.heap.elements session.old.held.items session.old.taken) × IsTold DONE status) }
+    ensures done { result ≡ Some DONE → IsPrinted (λ text. IsLineDone line.now (stage session.old.heap.elements session.old.held.items session.old.taken) text (stage session.new.heap.elements session.new.held.items session.new.taken)) (O.contents out.old) (O.contents out.new) }
+{
+    match command_of(line) {
+        Some(command) => session.run(command, out),
+        None => None,
+    }
+}
+
+/// How a script ended.
+#[derive(Clone, Copy, Debug, PartialEq, Eq, Drop)]
+enum Ending {
+    /// All its commands were done.
+    Done,
+    /// There was not enough memory.
+    Memory,
+    /// What a command prints could not be written.
+    Unwritten,
+    /// This line is at fault.
+    Line(u64),
+}
+
+/// Plays what is left of a script behind the line of this number, up to the first line that is at fault or cannot be told of.
+fn play<O: Write>(
     session: &mut Session,
-    script: &[u8],
-    first: u64,
+    behind: Option<&[u8]>,
+    number: usize,
     out: &mut O,
-    err: &mut E,
-) -> u8 {
-    let mut number = 0u64;
-    for line in script.split(|b| *b == b'\n') {
+) -> Ending
+    requires { IfSome behind (λ more. number + length more.now < 2 ^ 64) }
+    ensures { IsEnding (Plays (suc number) (lines_left (option_map (λ more. more.now) behind.entry)) (stage session.old.heap.elements session.old.held.items session.old.taken)) (O.contents out.old) (O.contents out.new) result }
+{
+    let mut number = number;
+    let mut rest = behind;
+    while let Some(text) = rest {
+        let Cut { line, behind } = cut_line(text);
         number = number.saturating_add(1);
-        if number <= first.saturating_add(1) || line.is_empty() {
+        rest = behind;
+        if line.is_empty() {
             continue;
         }
-        let status = match command_of(line) {
-            Some(command) => session.run(command, out),
-            None => None,
-        };
-        match status {
+        match play_line(session, line, out) {
             Some(DONE) => {}
-            Some(MEMORY) => return tell_fault(err, Fault::Memory),
-            Some(status) => return status,
-            None => return tell_fault(err, Fault::Line(number)),
+            Some(MEMORY) => return Ending::Memory,
+            Some(_) => return Ending::Unwritten,
+            None => return Ending::Line(number as u64),
         }
     }
-    DONE
+    Ending::Done
+}
+
+/// Plays a script.
+fn ending_of<O: Write>(alloc: Global, script: &[u8], out: &mut O) -> Ending
+    ensures { IsEnding (Runs 1 (script_lines script.now)) (O.contents out.old) (O.contents out.new) result }
+{
+    let Some(
+        Numbered {
+            number,
+            line,
+            behind,
+        },
+    ) = first_line(script)
+    else {
+        return Ending::Done;
+    };
+    let Some(size) = region_size(line) else {
+        return Ending::Line(number as u64);
+    };
+    let Ok(region) = Region::new(alloc, size) else {
+        return Ending::Memory;
+    };
+    let mut session = Session::over(alloc, region);
+    let ending = play(&mut session, behind, number, out);
+    session.end();
+    ending
+}
+
+/// Tells how a script ended, where it did not come to its end, and answers the status.
+fn tell_ending<E: Write>(ending: Ending, err: &mut E) -> u8
+    ensures status { IsTold (status_of_ending ending) result }
+    ensures silent { result ≡ DONE → err.new ≡ err.old }
+    ensures memory { result ≡ MEMORY → TellsMemory (E.contents err.old) (E.contents err.new) }
+{
+    match ending {
+        Ending::Done => DONE,
+        Ending::Memory => tell_fault(err, Fault::Memory),
+        Ending::Unwritten => FAULT,
+        Ending::Line(line) => tell_fault(err, Fault::Line(line)),
+    }
 }
 
 /// Runs a heap script, and answers the status: 0, 3 with a line on a fault of the script, 4 for want of memory. What the
 /// commands before a fault print stands in `out`.
-pub fn mem_line<O: Write, E: Write>(alloc: Global, script: &[u8], out: &mut O, err: &mut E) -> u8 {
-    let Some((before, line)) = first_line(script) else {
-        return DONE;
-    };
-    let size = match command_of(line) {
-        Some(Command::Region(size)) if is_region_size(size) => size,
-        _ => return tell_fault(err, Fault::Line(before.saturating_add(1))),
-    };
-    let Ok(region) = Region::new(alloc, size) else {
-        return tell_fault(err, Fault::Memory);
-    };
-    let mut session = Session::over(alloc, region);
-    let status = run_lines(&mut session, script, before, out, err);
-    session.end();
-    status
+pub fn mem_line<O: Write, E: Write>(alloc: Global, script: &[u8], out: &mut O, err: &mut E) -> u8
+    ensures told { IsScriptTold script.now (O.contents out.old) (O.contents out.new) result }
+    ensures silent { result ≡ DONE → err.new ≡ err.old }
+    ensures memory { result ≡ MEMORY → TellsMemory (E.contents err.old) (E.contents err.new) }
+{
+    let ending = ending_of(alloc, script, out);
+    tell_ending(ending, err)
 }

@@ -1,5 +1,10 @@
 //! The commands of heap scripts.
 
+ghost use Rattle.std.specs.Prelude.{◌≡◌, option_and_then};
+ghost use Rattle.std.specs.Char.{is_ascii_digit};
+ghost use Rattle.std.specs.List.{list_all};
+ghost use Rattle.dp_cli.specs.Commands as spec;
+
 use std::str;
 
 /// A command of a heap script.
@@ -19,52 +24,104 @@ pub enum Command {
     Stats,
 }
 
-/// The number of a word: decimal digits, at most 4,294,967,295.
-fn number(word: &str) -> Option<u32> {
-    if !word.bytes().all(|b| b.is_ascii_digit()) {
-        return None;
-    }
-    word.parse().ok()
+/// Whether a word has decimal digits alone.
+fn are_digits(word: &str) -> bool
+    ensures { result ≡ list_all is_ascii_digit word.now }
+{
+    word.as_bytes().iter().all(|b| b.is_ascii_digit())
 }
 
-/// The command of one word and its operands.
-fn of_words(word: &str, first: Option<&str>, second: Option<&str>) -> Option<Command> {
-    match first {
-        None => match word {
-            "list" => Some(Command::List),
-            "stats" => Some(Command::Stats),
-            _ => None,
+/// The number of a word: decimal digits, at most 4,294,967,295.
+fn number(word: &str) -> Option<u32>
+    ensures { result ≡ spec.number_in word.now }
+{
+    if are_digits(word) {
+        word.parse().ok()
+    } else {
+        None
+    }
+}
+
+/// The command of one word.
+fn alone(word: &str) -> Option<Command>
+    ensures { result ≡ spec.alone word.now }
+{
+    match word {
+        "list" => Some(Command::List),
+        "stats" => Some(Command::Stats),
+        _ => None,
+    }
+}
+
+/// The command of a word and a number.
+fn with_number(word: &str, number: u32) -> Option<Command>
+    ensures { result ≡ spec.with_number word.now number }
+{
+    match word {
+        "region" => Some(Command::Region(number)),
+        "free" => Some(Command::Free(number)),
+        _ => None,
+    }
+}
+
+/// The command of a word, a size and an alignment.
+fn with_numbers(word: &str, size: u32, align: u32) -> Option<Command>
+    ensures { result ≡ spec.with_numbers word.now size align }
+{
+    match word {
+        "malloc" => Some(Command::Malloc { size, align }),
+        "zmalloc" => Some(Command::Zmalloc { size, align }),
+        _ => None,
+    }
+}
+
+/// The command of two words.
+fn of_two(word: &str, first: &str) -> Option<Command>
+    ensures { result ≡ option_and_then (spec.with_number word.now) (spec.number_in first.now) }
+{
+    match number(first) {
+        Some(number) => with_number(word, number),
+        None => None,
+    }
+}
+
+/// The command of three words.
+fn of_three(word: &str, first: &str, second: &str) -> Option<Command>
+    ensures { result ≡ option_and_then (λ n. option_and_then (spec.with_numbers word.now n) (spec.number_in second.now)) (spec.number_in first.now) }
+{
+    match number(first) {
+        Some(size) => match number(second) {
+            Some(align) => with_numbers(word, size, align),
+            None => None,
         },
-        Some(first) => match second {
-            None => {
-                let number = number(first)?;
-                match word {
-                    "region" => Some(Command::Region(number)),
-                    "free" => Some(Command::Free(number)),
-                    _ => None,
-                }
-            }
-            Some(second) => {
-                let (size, align) = (number(first)?, number(second)?);
-                match word {
-                    "malloc" => Some(Command::Malloc { size, align }),
-                    "zmalloc" => Some(Command::Zmalloc { size, align }),
-                    _ => None,
-                }
-            }
-        },
+        None => None,
+    }
+}
+
+/// The command of words that are parted by one space.
+fn of_text(text: &str) -> Option<Command>
+    ensures { result ≡ spec.command_in text.now }
+{
+    let mut words = text.split(' ');
+    let word = words.next()?;
+    let Some(first) = words.next() else {
+        return alone(word);
+    };
+    let Some(second) = words.next() else {
+        return of_two(word, first);
+    };
+    match words.next() {
+        Some(_) => None,
+        None => of_three(word, first, second),
     }
 }
 
 /// The command that a line is, its words parted by one space; `None` where it is none.
-pub fn command_of(line: &[u8]) -> Option<Command> {
-    let text = str::from_utf8(line).ok()?;
-    let mut words = text.split(' ');
-    let word = words.next()?;
-    let first = words.next();
-    let second = words.next();
-    match words.next() {
-        Some(_) => None,
-        None => of_words(word, first, second),
+pub fn command_of(line: &[u8]) -> Option<Command>
+    ensures { result ≡ spec.command_in line.now }
+{
+    match str::from_utf8(line) {
+        Ok(text) => of_text(text),
+        Err(_) => None,
     }
 }
