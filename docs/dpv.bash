@@ -49,7 +49,8 @@ _dpv() {
     done
     case "$command $word" in
         trace\ -*) mapfile -t COMPREPLY < <(compgen -W "--records --port --refuse --help" -- "$word") ;;
-        run\ -*) mapfile -t COMPREPLY < <(compgen -W "--refuse --help" -- "$word") ;;
+        run\ -*) mapfile -t COMPREPLY < <(compgen -W "--refuse --progress --help" -- "$word") ;;
+        one\ -*) mapfile -t COMPREPLY < <(compgen -W "--progress --help" -- "$word") ;;
         show\ -* | show-one\ -*) mapfile -t COMPREPLY < <(compgen -W "--dot --help" -- "$word") ;;
         help\ *) mapfile -t COMPREPLY < <(compgen -W "$commands" -- "$word") ;;
         *\ -*) mapfile -t COMPREPLY < <(compgen -W "--help" -- "$word") ;;

@@ -3,8 +3,9 @@
 
 Usage: tests/told.py [PROGRAM]   (the built program; by default the one that ./dpv builds and runs)
 Files that are missing, folders, too long, not to be read or written; captures with each cause, and in another format; pipelines with each
-cause; full disks; outputs that are inputs by the same name, by another name, by a link and from standard input. The words are those of the
-system as this host says them (os.strerror), or stand here.
+cause; full disks; outputs that are inputs by the same name, by another name, by a link and from standard input; words of `dpv trace` that name
+no port. The words are those of the system as this host says them (os.strerror), or stand here. Then what `--progress` tells, of captures of
+both byte orders and of runs that stop, and that nothing is told without it.
 Prints a line for each case that went another way, and a count; exits with 1 where there is such a case.
 """
 import errno
@@ -23,6 +24,7 @@ from program import built
 
 PCAPNG = "it is a pcapng file, of which editcap -F pcap IN OUT makes a capture"
 NOBODY = 65_534
+MILLION = 1_000_000
 
 
 class Case(NamedTuple):
@@ -167,6 +169,36 @@ def same_files() -> Iterator[Case]:
     yield Case(["run", "crossed.toml"], 3, file("kept.pcap", same))
 
 
+def traces() -> Iterator[Case]:
+    """Words of `dpv trace` that are no port or no number of records, before any file is read; and ports that the pipeline lacks."""
+    for port in ("8", "256", "", "+1", "-1", "port0"):
+        yield Case(["trace", "none", f"--port={port}"], 2, f"error: '{port}' is no port: a number from 0 to 7\n")
+    for count in ("0", "134217729", "", "+1", "-1", "ten"):
+        yield Case(["trace", "none", f"--records={count}"], 2, f"error: '{count}' is no number of records: from 1 to 134217728\n")
+    for port in ("2", "7"):
+        yield Case(["trace", "none", "--port", port], 3, file("none", system(errno.ENOENT)))
+        yield Case(["trace", "both.toml", "--port", port], 2, f"error: the pipeline has no port {port}\n")
+    yield Case(["trace", "both.toml", "--port", "1", "--records", "1"], 0, "")
+
+
+def in_all(*counts: int) -> str:
+    """What is told at the end of a run that tells how far it is."""
+    return "".join(f"progress: port {port}: {count} records read in all\n" for port, count in enumerate(counts))
+
+
+def progress() -> Iterator[Case]:
+    """Runs that tell how far they are, also of those that stop; where the captures are not there nothing is read."""
+    one, step = ["one", "--progress", "strip.dpv", "strip.cert"], f"progress: port 0: {MILLION} records read\n"
+    yield Case([*one, "many.pcap", "out"], 0, in_all(2000))
+    for name in ("little.pcap", "big.pcap"):
+        yield Case([*one, name, "/dev/null"], 0, step + in_all(MILLION + 1))
+        yield Case(["one", *one[2:], name, "/dev/null"], 0, "")
+    yield Case([*one, "link.pcap", "out"], 3, in_all(0) + of_input(0, 3, "link.pcap", "the link type is not 1"))
+    yield Case([*one, "none", "out"], 3, file("none", system(errno.ENOENT)))
+    yield Case(["run", "--progress", "both.toml"], 0, in_all(1, 2))
+    yield Case(["run", "late_full.toml", "--progress"], 3, in_all(1, 2) + of_output(1, "/dev/full", system(errno.ENOSPC)))
+
+
 def nothing_told() -> Iterator[Case]:
     """Runs that have nothing to tell; devices are no files that are emptied."""
     yield Case(["one", "strip.dpv", "strip.cert", "in.pcap", "out"], 0, "")
@@ -193,6 +225,8 @@ def make_more(folder: pathlib.Path) -> None:
         "time.pcap": HEADER + struct.pack("<IIII", 1, 1_000_000, 4, 4) + b"data",
         "large.pcap": HEADER + struct.pack("<IIII", 1, 2, 262_145, 262_145),
         "many.pcap": capture(*(2000 * [bytes(60)])),
+        "little.pcap": HEADER + (MILLION + 1) * struct.pack("<IIII", 1, 2, 0, 0),
+        "big.pcap": struct.pack(">IHHIIII", 0xA1B2C3D4, 2, 4, 0, 0, 262144, 1) + (MILLION + 1) * struct.pack(">IIII", 1, 2, 0, 0),
         "kept.pcap": ONE,
         "closed": ONE,
     }
@@ -225,6 +259,17 @@ def as_nobody(program: str, folder: pathlib.Path) -> list[bool]:
     return [ends_so(near, case, folder, user) for case in closed()]
 
 
+def goes_on(program: str, folder: pathlib.Path) -> bool:
+    """Whether a run that cannot tell how far it is comes to its end."""
+    words = [program, "one", "--progress", "strip.dpv", "strip.cert", "little.pcap", "out"]
+    with open("/dev/full", "wb") as full:
+        run = subprocess.run(words, cwd=folder, stdout=subprocess.PIPE, stderr=full, text=True, timeout=60)
+    passed = run.returncode == 0 and run.stdout.startswith(f"port 0 received {MILLION + 1} ")
+    if not passed:
+        print(f"dpv one --progress to a full disk: status {run.returncode}, printed {run.stdout!r}")
+    return passed
+
+
 def main() -> int:
     """All of it."""
     program = str(pathlib.Path(sys.argv[1]).resolve() if len(sys.argv) > 1 else built())
@@ -233,8 +278,9 @@ def main() -> int:
         folder.mkdir()
         make_files(folder)
         make_more(folder)
-        kinds = (files, captures, full_disks, pipelines, same_files, nothing_told)
+        kinds = (files, captures, full_disks, pipelines, same_files, traces, progress, nothing_told)
         passed = [ends_so(program, case, folder) for kind in kinds for case in kind()]
+        passed.append(goes_on(program, folder))
         passed += as_nobody(program, folder)
     print(f"told: {len(passed)} cases, {passed.count(False)} went another way")
     return 0 if all(passed) else 1

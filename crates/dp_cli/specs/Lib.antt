@@ -4,6 +4,7 @@ pub mod Inferring
 pub mod Judging
 pub mod One
 pub mod Pipe
+pub mod Progress
 pub mod Report
 pub mod Run
 pub mod Scripts

@@ -8,6 +8,7 @@ use crate::fault::Fault;
 use crate::files::ReadFault;
 use crate::guarded::Guarded;
 use crate::one::Naming;
+use crate::progress::{Progress, Telling, ToStderr};
 use crate::watched::{Seen, Watched};
 use dp_engine::{PortReport, Report};
 use dp_pcap::{OfBufReader, OfBufWriter};
@@ -21,7 +22,7 @@ use std::rt::Files;
 const BUFFER: usize = 65_536;
 
 /// A capture that is read.
-pub type Input<F> = OfBufReader<Watched<F>>;
+pub type Input<F> = OfBufReader<Watched<F, ToStderr>>;
 
 /// A capture that is written.
 pub type Output<F> = OfBufWriter<Guarded<F>>;
@@ -31,9 +32,10 @@ fn open_input<'a, R: Files>(
     rt: &R,
     alloc: Global,
     name: &'a str,
+    progress: Progress<ToStderr>,
 ) -> Result<Input<R::File>, Fault<'a>> {
     let file = fs::open(rt, name).map_err(|error| ReadFault::from(error).of_file(name))?;
-    match BufReader::with_capacity(alloc, BUFFER, Watched::new(file)) {
+    match BufReader::with_capacity(alloc, BUFFER, Watched::new(file, progress)) {
         Ok(reader) => Ok(OfBufReader::new(reader)),
         Err(_) => Err(Fault::Memory),
     }
@@ -58,12 +60,14 @@ pub fn open_inputs<'a, R: Files>(
     alloc: Global,
     pipeline: &'a Pipeline,
     naming: Naming<'a>,
+    telling: Telling,
 ) -> Result<Vec<Input<R::File>>, Fault<'a>>
     ensures { IfOk result (λ inputs. length inputs.items ≡ length pipeline.now.env.ports) }
 {
     let mut inputs = Vec::new(alloc);
     for port in 0..pipeline.ports() {
-        let input = open_input(rt, alloc, naming.file(pipeline.input(port)))?;
+        let progress = Progress::new(telling.to, port, telling.is_on);
+        let input = open_input(rt, alloc, naming.file(pipeline.input(port)), progress)?;
         if inputs.push(input).is_err() {
             return Err(Fault::Memory);
         }

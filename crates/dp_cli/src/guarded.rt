@@ -1,6 +1,7 @@
 //! Writers that are not asked again once they failed.
 
 ghost use Rattle.std.specs.Prelude.{◌≡◌, None, false};
+ghost use Rattle.dp_pcap.specs.declared.number.Order.TheVariants.{Little};
 ghost use Rattle.dp_pcap.specs.Counting.{none_yet, records_in};
 
 use dp_pcap::WholeRecords;
@@ -22,7 +23,7 @@ impl<W: Write> Guarded<W> {
         ensures inner { result.inner ≡ inner }
         ensures sound { result.has_failed ≡ false }
         ensures failure { result.failure ≡ None }
-        ensures none { result.records ≡ none_yet }
+        ensures none { result.records ≡ none_yet Little }
     {
         Guarded {
             inner,
@@ -75,6 +76,7 @@ impl<W: Write> Write for Guarded<W> {
         ensures full { IfOk result (λ n. n ≡ 0 → 0 < length buf.now → self.new.has_failed ≡ true) }
         ensures records { IfOk result (λ n. self.old.records.pieces + n < 2 ^ 64 →
             (before : List ℕ) → IsBehind self.old.records before → IsBehind self.new.records (before ++ take n buf.now)) }
+        ensures order { self.new.records.order ≡ self.old.records.order }
         ensures uncounted { OnErr result (self.new.records ≡ self.old.records) }
     {
         if self.has_failed {

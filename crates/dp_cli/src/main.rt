@@ -15,6 +15,7 @@ mod listing;
 mod mem;
 mod one;
 mod pipe;
+mod progress;
 mod reasons;
 mod report;
 mod rows;
@@ -45,6 +46,7 @@ use judged::Asked;
 use mem::mem_line;
 use one::{Naming, ONE_PORT, OneFiles, one_env};
 use pipe::{HostFiles, check_line, infer_line, load_line};
+use progress::{Telling, ToStderr, tell_totals};
 use run::tell_run;
 use show::{Form, show_line, show_node};
 use std::alloc::Global;
@@ -303,11 +305,12 @@ fn run_pipeline<R: Files + Print, E: io::Write>(
     pipeline: Pipeline,
     naming: Naming<'_>,
     pattern: Vec<u64>,
+    telling: Telling,
     err: &mut E,
 ) -> u8
     requires { IsAscending 0 pattern.items }
 {
-    let mut inputs = match open_inputs(rt, alloc, &pipeline, naming) {
+    let mut inputs = match open_inputs(rt, alloc, &pipeline, naming, telling) {
         Ok(inputs) => inputs,
         Err(fault) => return tell_fault(err, fault),
     };
@@ -329,6 +332,8 @@ fn run_pipeline<R: Files + Print, E: io::Write>(
         pattern,
     );
     let Settled { answer, failure } = settle(outputs, answer);
+    // Where that cannot be written, what follows is told all the same.
+    let _written = tell_totals(telling.is_on, &answer, err);
     let found = match &answer {
         Ok(_) => None,
         Err(fault) => finding_of(names.as_slice(), inputs, fault.cause, failure),
@@ -336,19 +341,29 @@ fn run_pipeline<R: Files + Print, E: io::Write>(
     tell_run(answer, found, &mut io::writer(rt), err)
 }
 
+/// Whether it is to be told how far a run is.
+fn telling_in(words: &ArgMatches<'_>, to: ToStderr) -> Telling {
+    Telling {
+        is_on: words.get_flag("progress"),
+        to,
+    }
+}
+
 /// Runs the pipeline of a file.
 fn run_file<R: Files + Print, E: io::Write>(
     rt: &R,
     alloc: Global,
     words: &ArgMatches<'_>,
+    to: ToStderr,
     err: &mut E,
 ) -> u8 {
     let pattern = match refused_in(alloc, words.get_str("refuse"), err) {
         Ok(pattern) => pattern,
         Err(status) => return status,
     };
+    let (naming, telling) = (Naming::AsTheyStand, telling_in(words, to));
     match load_file(rt, alloc, word(words, "FILE"), How::Given, err) {
-        Ok(pipeline) => run_pipeline(rt, alloc, pipeline, Naming::AsTheyStand, pattern, err),
+        Ok(pipeline) => run_pipeline(rt, alloc, pipeline, naming, pattern, telling, err),
         Err(status) => status,
     }
 }
@@ -389,6 +404,7 @@ fn trace_pipeline<R: Files + Print, E: io::Write>(
     pipeline: Pipeline,
     pattern: Vec<u64>,
     which: Traced,
+    to: ToStderr,
     err: &mut E,
 ) -> u8
     requires pattern { IsAscending 0 pattern.items }
@@ -400,7 +416,8 @@ fn trace_pipeline<R: Files + Print, E: io::Write>(
         }
         _ => {}
     }
-    let mut inputs = match open_inputs(rt, alloc, &pipeline, Naming::AsTheyStand) {
+    let telling = Telling { is_on: false, to };
+    let mut inputs = match open_inputs(rt, alloc, &pipeline, Naming::AsTheyStand, telling) {
         Ok(inputs) => inputs,
         Err(fault) => return tell_fault(err, fault),
     };
@@ -423,6 +440,7 @@ fn trace_file<R: Files + Print, E: io::Write>(
     rt: &R,
     alloc: Global,
     words: &ArgMatches<'_>,
+    to: ToStderr,
     err: &mut E,
 ) -> u8 {
     let which = match traced_in(words, err) {
@@ -434,7 +452,7 @@ fn trace_file<R: Files + Print, E: io::Write>(
         Err(status) => return status,
     };
     match load_file(rt, alloc, word(words, "FILE"), How::Given, err) {
-        Ok(pipeline) => trace_pipeline(rt, alloc, pipeline, pattern, which, err),
+        Ok(pipeline) => trace_pipeline(rt, alloc, pipeline, pattern, which, to, err),
         Err(status) => status,
     }
 }
@@ -444,6 +462,7 @@ fn run_one_port<R: Files + Print, E: io::Write>(
     rt: &R,
     alloc: Global,
     words: &ArgMatches<'_>,
+    to: ToStderr,
     err: &mut E,
 ) -> u8 {
     let naming = Naming::One(OneFiles {
@@ -452,8 +471,9 @@ fn run_one_port<R: Files + Print, E: io::Write>(
         input: word(words, "IN"),
         output: word(words, "OUT"),
     });
+    let telling = telling_in(words, to);
     match load_text(rt, alloc, ONE_PORT.as_bytes(), naming, How::Given, err) {
-        Ok(pipeline) => run_pipeline(rt, alloc, pipeline, naming, Vec::new(alloc), err),
+        Ok(pipeline) => run_pipeline(rt, alloc, pipeline, naming, Vec::new(alloc), telling, err),
         Err(status) => status,
     }
 }
@@ -463,10 +483,11 @@ fn run_command<R: Files + Print, E: io::Write>(
     rt: &R,
     alloc: Global,
     matches: &ArgMatches<'_>,
+    to: ToStderr,
     err: &mut E,
 ) -> u8 {
     match matches.subcommand() {
-        Some(("one", words)) => run_one_port(rt, alloc, words, err),
+        Some(("one", words)) => run_one_port(rt, alloc, words, to, err),
         Some(("check", words)) => check_file(rt, alloc, words, err),
         Some(("infer", words)) => infer_file(rt, alloc, words, err),
         Some(("infer-one", words)) => infer_program(rt, alloc, words, err),
@@ -474,8 +495,8 @@ fn run_command<R: Files + Print, E: io::Write>(
         Some(("explain-one", words)) => explain_one(rt, alloc, words, err),
         Some(("show", words)) => show_file(rt, alloc, words, err),
         Some(("show-one", words)) => show_one(rt, alloc, words, err),
-        Some(("run", words)) => run_file(rt, alloc, words, err),
-        Some(("trace", words)) => trace_file(rt, alloc, words, err),
+        Some(("run", words)) => run_file(rt, alloc, words, to, err),
+        Some(("trace", words)) => trace_file(rt, alloc, words, to, err),
         Some(("mem", words)) => run_script(rt, alloc, word(words, "FILE"), err),
         _ => USAGE,
     }
@@ -498,7 +519,7 @@ fn main(rt: HostRuntime) -> ExitCode {
         return ExitCode::from(tell_fault(&mut err, Fault::Memory));
     };
     let status = match command.try_get_matches_from(words.as_slice()) {
-        Ok(matches) => run_command(&rt, alloc, &matches, &mut err),
+        Ok(matches) => run_command(&rt, alloc, &matches, ToStderr(stderr), &mut err),
         Err(error) => wrong_words(&rt, &error, &mut err),
     };
     ExitCode::from(status)

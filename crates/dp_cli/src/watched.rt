@@ -1,9 +1,10 @@
-//! Readers that keep what their failure was.
+//! Readers that keep what their failure was, and tell how far they are.
 
 ghost use Rattle.std.specs.Prelude.{◌≡◌, ◌==◌, ◌∷◌, [], None, false};
 ghost use Rattle.std.specs.List.{starts_with};
 
-use std::io::{Error, ErrorKind, Read, Result};
+use crate::progress::Progress;
+use std::io::{Error, ErrorKind, Read, Result, Write};
 
 /// How a pcapng file begins.
 const PCAPNG: [u8; 4] = [0x0a, 0x0d, 0x0d, 0x0a];
@@ -24,18 +25,21 @@ pub struct Seen {
     pub is_pcapng: bool,
 }
 
-/// A reader that keeps the error of a read that failed, and whether its first bytes are those of a pcapng file.
+/// A reader that keeps the error of a read that failed, and whether its first bytes are those of a pcapng file. What is read goes by
+/// a count of records that tells how far it is.
 #[derive(Drop)]
-pub struct Watched<R> {
+pub struct Watched<R, P> {
     inner: R,
     is_begun: bool,
     seen: Seen,
+    progress: Progress<P>,
 }
 
-impl<R: Read> Watched<R> {
+impl<R: Read, P: Write> Watched<R, P> {
     /// Watches a reader from its start.
-    pub fn new(inner: R) -> Watched<R>
+    pub fn new(inner: R, progress: Progress<P>) -> Watched<R, P>
         ensures inner { result.inner ≡ inner }
+        ensures progress { result.progress ≡ progress }
         ensures begun { result.is_begun ≡ false }
         ensures failure { result.seen.failure ≡ None }
         ensures pcapng { result.seen.is_pcapng ≡ false }
@@ -47,6 +51,7 @@ impl<R: Read> Watched<R> {
                 failure: None,
                 is_pcapng: false,
             },
+            progress,
         }
     }
 
@@ -58,12 +63,17 @@ impl<R: Read> Watched<R> {
     }
 }
 
-impl<R: Read> Read for Watched<R> {
-    ghost use Rattle.std.specs.Prelude.{◌≡◌, ◌≢◌, ◌==◌, ◌∷◌, [], Some, false, take, IfOk, IfErr, OnOk};
+impl<R: Read, P: Write> Read for Watched<R, P> {
+    ghost use Rattle.std.specs.Prelude.{◌≡◌, ◌≢◌, ◌==◌, ◌+◌, ◌<◌, ◌^◌, ◌∷◌, ◌++◌, ℕ, [], List, Some, true, false, take, if◌then◌else◌, IfOk, IfErr, OnOk, OnErr};
     ghost use Rattle.std.specs.Io.{ReadsAtMost};
-    ghost use Rattle.std.specs.Io.KnownBytes.{ReadConsumes};
+    ghost use Rattle.std.specs.Io.KnownBytes.{Appends, ReadConsumes};
     ghost use Rattle.std.specs.IoError.{error_kind};
     ghost use Rattle.std.specs.List.{starts_with};
+    ghost use Rattle.dp_pcap.specs.declared.number.Order.{Order};
+    ghost use Rattle.dp_pcap.specs.declared.time.Unit.{Unit as TimeUnit};
+    ghost use Rattle.dp_pcap.specs.Capture.{IsHeader};
+    ghost use Rattle.dp_pcap.specs.Counting.{IsBehind, records_in};
+    ghost use Rattle.dp_cli.specs.Progress.{steps_text};
 
     ghost remaining = { λ r. R.remaining r.inner };
 
@@ -74,13 +84,23 @@ impl<R: Read> Read for Watched<R> {
         ensures pcapng { IfOk result (λ n. self.old.is_begun ≡ false →
             self.new.seen.is_pcapng ≡ starts_with (λ a b. a == b) (take n buf.new) (10 ∷ 13 ∷ 13 ∷ 10 ∷ [])) }
         ensures kept { OnOk result (self.new.seen.failure ≡ self.old.seen.failure) }
+        ensures begun { OnOk result (self.new.is_begun ≡ true) }
+        ensures off { self.old.progress.is_on ≡ false → self.new.progress.to ≡ self.old.progress.to }
+        ensures told { IfOk result (λ n. self.new.progress.is_on ≡ true →
+            Appends (P.contents self.old.progress.to) (P.contents self.new.progress.to) (steps_text self.old.progress.port
+            (if self.old.is_begun then records_in self.old.progress.records else 0) (records_in self.new.progress.records))) }
+        ensures counted { IfOk result (λ n. self.old.progress.is_on ≡ true → self.old.is_begun ≡ true →
+            self.old.progress.records.pieces + n < 2 ^ 64 → (before : List ℕ) → IsBehind self.old.progress.records before →
+            IsBehind self.new.progress.records (before ++ take n buf.new)) }
     {
         match self.inner.read(buf) {
             Ok(taken) => {
                 if !self.is_begun {
                     self.is_begun = true;
                     self.seen.is_pcapng = begins_as_pcapng(&buf[..taken]);
+                    self.progress.begin(&buf[..taken]);
                 }
+                self.progress.pass(&buf[..taken]);
                 Ok(taken)
             }
             Err(error) => {

@@ -20,7 +20,15 @@ const ONE: [(&str, &str); 4] = [
     ("OUT", "the capture to write"),
 ];
 
-/// `dpv one NODE CERT IN OUT`.
+/// The option `--progress`.
+fn progress<'a>(alloc: Global) -> Arg<'a> {
+    Arg::new(alloc, "progress")
+        .long("progress")
+        .action(ArgAction::SetTrue)
+        .help("says on standard error how many records were read, each million and at the end")
+}
+
+/// `dpv one NODE CERT IN OUT [--progress]`.
 fn one<'a>(alloc: Global) -> Result<Command<'a>, AllocError> {
     let mut one = Command::new(alloc, "one").about(
         "Runs one node program on one port, from a capture to a capture",
@@ -28,7 +36,7 @@ fn one<'a>(alloc: Global) -> Result<Command<'a>, AllocError> {
     for (name, help) in ONE {
         one = one.arg(Arg::new(alloc, name).required(true).help(help))?;
     }
-    Ok(one)
+    one.arg(progress(alloc))
 }
 
 /// The operand FILE.
@@ -123,24 +131,21 @@ fn show_one<'a>(alloc: Global) -> Result<Command<'a>, AllocError> {
     of_one(alloc, show)?.arg(dot(alloc))
 }
 
-/// `dpv run FILE [--refuse LIST]`.
-fn run<'a>(alloc: Global) -> Result<Command<'a>, AllocError> {
-    let refuse = Arg::new(alloc, "refuse")
-        .long("refuse")
-        .value_name("LIST")
-        .help("the allocation calls that are refused, as 3 or 1,5,9");
-    Command::new(alloc, "run")
-        .about("Runs a pipeline, from its captures to its captures")
-        .arg(file(alloc, "the pipeline file"))?
-        .arg(refuse)
-}
-
 /// The option `--refuse`.
 fn refuse<'a>(alloc: Global) -> Arg<'a> {
     Arg::new(alloc, "refuse")
         .long("refuse")
         .value_name("LIST")
         .help("the allocation calls that are refused, as 3 or 1,5,9")
+}
+
+/// `dpv run FILE [--refuse LIST] [--progress]`.
+fn run<'a>(alloc: Global) -> Result<Command<'a>, AllocError> {
+    Command::new(alloc, "run")
+        .about("Runs a pipeline, from its captures to its captures")
+        .arg(file(alloc, "the pipeline file"))?
+        .arg(refuse(alloc))?
+        .arg(progress(alloc))
 }
 
 /// `dpv trace FILE [--records N] [--port P] [--refuse LIST]`.

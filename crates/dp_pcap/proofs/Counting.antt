@@ -1,42 +1,56 @@
 -- Counting whole records: what more bytes make of a count.
-use Rattle.std.proofs.Common.{◌≡◌, ℕ, zero, suc, ◌+◌, ◌-◌, ◌^◌, ◌<◌, ◌≤◌, List, [], ◌++◌, length, take, refl, sym, ap, ◌∙◌, subst, inl, inr, arith, length-append, length-take, append_assoc, append-nil, take_all, drop}
+use Rattle.std.proofs.Common.{◌≡◌, ◌≢◌, ℕ, zero, suc, ◌+◌, ◌-◌, ◌^◌, ◌<◌, ◌≤◌, List, [], ◌++◌, length, take, refl, sym, ap, ◌∙◌, subst, inl, inr, arith, length-append, length-take, append_assoc, append-nil, take_all, drop}
 use Rattle.std.proofs.lemmas.List.{take-append-drop, take-take, length-take-le, length-drop}
 use Rattle.std.proofs.lemmas.Slice.{take-put_mid}
 use borrow.Rule.Slice.PartMut.{put_mid}
-use Rattle.dp_pcap.specs.declared.number.Order.TheVariants.{Little}
-use Rattle.dp_pcap.specs.Capture.{captured}
+use Rattle.dp_pcap.specs.declared.number.Order.{Order}
+use Rattle.dp_pcap.specs.declared.number.Order.TheVariants.{Little, Big}
+use Rattle.dp_pcap.specs.declared.time.Unit.{Unit as TimeUnit}
+use Rattle.dp_pcap.specs.Capture.{captured, number, IsHeader}
 use Rattle.dp_pcap.specs.Counting.{Counted, ArePieces, IsPart, IsBehind}
+
+-- ---- the order
+
+-- the version tells it
+pub version_big : (o : Order) (u : TimeUnit) (header : List ℕ) → number Big 2 (drop 4 header) ≡ 2 → IsHeader o u header → Big ≡ o
+unfolding number
+version_big Big u header two is = refl
+version_big Little u header two is = absurd (omega (arith, two, is.version.0))
+
+pub version_little : (o : Order) (u : TimeUnit) (header : List ℕ) → number Big 2 (drop 4 header) ≢ 2 → IsHeader o u header → Little ≡ o
+version_little Little u header other is = refl
+version_little Big u header other is = absurd (other is.version.0)
 
 -- ---- inside the header, or behind a record's head
 
-part_skipped : (n left : ℕ) (head part more : List ℕ) → length more < left → IsPart n left head part → IsPart n (left - length more) head (part ++ more)
-part_skipped zero left head part more less (none, some, all) = (none, omega (arith, less), omega (arith, less, all, length-append part more))
-part_skipped (suc n) left head part more less (inl (none, few, same)) = absurd (omega (arith, none, less))
-part_skipped (suc n) left head part more less (inr (some, none, (h, body, size, rest, split))) =
+part_skipped : (o : Order) (n left : ℕ) (head part more : List ℕ) → length more < left → IsPart o n left head part → IsPart o n (left - length more) head (part ++ more)
+part_skipped o zero left head part more less (none, some, all) = (none, omega (arith, less), omega (arith, less, all, length-append part more))
+part_skipped o (suc n) left head part more less (inl (none, few, same)) = absurd (omega (arith, none, less))
+part_skipped o (suc n) left head part more less (inr (some, none, (h, body, size, rest, split))) =
     inr (omega (arith, less), none, (h, body ++ more, size, omega (arith, rest, less, length-append body more), ap (λ l. l ++ more) split ∙ append_assoc h body more))
 
 -- a part of what is left
-pub skipped : (pieces left : ℕ) (head before more : List ℕ) → length more < left → IsBehind (record { pieces = pieces; left = left; head = head }) before
-    → IsBehind (record { pieces = pieces; left = left - length more; head = head }) (before ++ more)
-skipped pieces left head before more less b = record {
+pub skipped : (o : Order) (pieces left : ℕ) (head before more : List ℕ) → length more < left → IsBehind (record { order = o; pieces = pieces; left = left; head = head }) before
+    → IsBehind (record { order = o; pieces = pieces; left = left - length more; head = head }) (before ++ more)
+skipped o pieces left head before more less b = record {
   whole = b.whole;
   part = b.part ++ more;
   split = ap (λ l. l ++ more) b.split ∙ append_assoc b.whole b.part more;
   pieces = b.pieces;
-  is_part = part_skipped pieces left head b.part more less b.is_part;
+  is_part = part_skipped o pieces left head b.part more less b.is_part;
 }
 
-no_head : (n left : ℕ) (head part : List ℕ) → 0 < left → IsPart n left head part → [] ≡ head
-no_head zero left head part more (none, some, all) = sym none
-no_head (suc n) left head part more (inl (none, few, same)) = absurd (omega (arith, none, more))
-no_head (suc n) left head part more (inr (some, none, inside)) = sym none
+no_head : (o : Order) (n left : ℕ) (head part : List ℕ) → 0 < left → IsPart o n left head part → [] ≡ head
+no_head o zero left head part more (none, some, all) = sym none
+no_head o (suc n) left head part more (inl (none, few, same)) = absurd (omega (arith, none, more))
+no_head o (suc n) left head part more (inr (some, none, inside)) = sym none
 
-one_more : (n left : ℕ) (head whole part before more : List ℕ) → ArePieces n whole → IsPart n left head part → before ≡ whole ++ part → length more ≡ left → 0 < left
-    → ArePieces (suc n) (before ++ more)
-one_more zero left head whole part before more are (none, some, all) split size any =
+one_more : (o : Order) (n left : ℕ) (head whole part before more : List ℕ) → ArePieces o n whole → IsPart o n left head part → before ≡ whole ++ part → length more ≡ left → 0 < left
+    → ArePieces o (suc n) (before ++ more)
+one_more o zero left head whole part before more are (none, some, all) split size any =
     omega (arith, ap length split, length-append whole part, ap length are, all, length-append before more, size)
-one_more (suc n) left head whole part before more are (inl (none, few, same)) split size any = absurd (omega (arith, none, any))
-one_more (suc n) left head whole part before more are (inr (some, none, (h, body, full, rest, inside))) split size any = (
+one_more o (suc n) left head whole part before more are (inl (none, few, same)) split size any = absurd (omega (arith, none, any))
+one_more o (suc n) left head whole part before more are (inr (some, none, (h, body, full, rest, inside))) split size any = (
   whole,
   h,
   body ++ more,
@@ -46,63 +60,63 @@ one_more (suc n) left head whole part before more are (inr (some, none, (h, body
 )
 
 -- all that is left
-pub completed : (pieces left : ℕ) (head before more : List ℕ) → length more ≡ left → 0 < left → IsBehind (record { pieces = pieces; left = left; head = head }) before
-    → IsBehind (record { pieces = suc pieces; left = 0; head = head }) (before ++ more)
-completed pieces left head before more size any b = record {
+pub completed : (o : Order) (pieces left : ℕ) (head before more : List ℕ) → length more ≡ left → 0 < left → IsBehind (record { order = o; pieces = pieces; left = left; head = head }) before
+    → IsBehind (record { order = o; pieces = suc pieces; left = 0; head = head }) (before ++ more)
+completed o pieces left head before more size any b = record {
   whole = before ++ more;
   part = [];
   split = sym (append-nil (before ++ more));
-  pieces = one_more pieces left head b.whole b.part before more b.pieces b.is_part b.split size any;
-  is_part = inl (refl, omega (arith, ap length (no_head pieces left head b.part any b.is_part)), no_head pieces left head b.part any b.is_part);
+  pieces = one_more o pieces left head b.whole b.part before more b.pieces b.is_part b.split size any;
+  is_part = inl (refl, omega (arith, ap length (no_head o pieces left head b.part any b.is_part)), no_head o pieces left head b.part any b.is_part);
 }
 
 -- the same, with the numbers that a call leaves
-pub completes : (pieces left pieces' left' n : ℕ) (head before bytes : List ℕ) → pieces' ≡ suc pieces → left' ≡ 0 → n ≡ left → n ≤ length bytes → 0 < left
-    → IsBehind (record { pieces = pieces; left = left; head = head }) before → IsBehind (record { pieces = pieces'; left = left'; head = head }) (before ++ take n bytes)
-completes pieces left pieces' left' n head before bytes more none all within any b =
-    subst (λ m. IsBehind (record { pieces = m; left = left'; head = head }) (before ++ take n bytes)) (sym more)
-    (subst (λ m. IsBehind (record { pieces = suc pieces; left = m; head = head }) (before ++ take n bytes)) (sym none)
-    (completed pieces left head before (take n bytes) (omega (arith, all, within, length-take n bytes)) any b))
+pub completes : (o : Order) (pieces left pieces' left' n : ℕ) (head before bytes : List ℕ) → pieces' ≡ suc pieces → left' ≡ 0 → n ≡ left → n ≤ length bytes → 0 < left
+    → IsBehind (record { order = o; pieces = pieces; left = left; head = head }) before → IsBehind (record { order = o; pieces = pieces'; left = left'; head = head }) (before ++ take n bytes)
+completes o pieces left pieces' left' n head before bytes more none all within any b =
+    subst (λ m. IsBehind (record { order = o; pieces = m; left = left'; head = head }) (before ++ take n bytes)) (sym more)
+    (subst (λ m. IsBehind (record { order = o; pieces = suc pieces; left = m; head = head }) (before ++ take n bytes)) (sym none)
+    (completed o pieces left head before (take n bytes) (omega (arith, all, within, length-take n bytes)) any b))
 
 -- ---- inside a record's head
 
-part_grown : (n : ℕ) (head part more : List ℕ) → length head + length more < 16 → IsPart n 0 head part → IsPart n 0 (head ++ more) (part ++ more)
-part_grown zero head part more few (none, some, all) = absurd (omega (arith, some))
-part_grown (suc n) head part more few (inl (none, less, same)) = inl (refl, omega (arith, few, length-append head more), ap (λ l. l ++ more) same)
-part_grown (suc n) head part more few (inr (some, none, inside)) = absurd (omega (arith, some))
+part_grown : (o : Order) (n : ℕ) (head part more : List ℕ) → length head + length more < 16 → IsPart o n 0 head part → IsPart o n 0 (head ++ more) (part ++ more)
+part_grown o zero head part more few (none, some, all) = absurd (omega (arith, some))
+part_grown o (suc n) head part more few (inl (none, less, same)) = inl (refl, omega (arith, few, length-append head more), ap (λ l. l ++ more) same)
+part_grown o (suc n) head part more few (inr (some, none, inside)) = absurd (omega (arith, some))
 
 -- a part of it
-pub head_grown : (pieces : ℕ) (head before more : List ℕ) → length head + length more < 16 → IsBehind (record { pieces = pieces; left = 0; head = head }) before
-    → IsBehind (record { pieces = pieces; left = 0; head = head ++ more }) (before ++ more)
-head_grown pieces head before more few b = record {
+pub head_grown : (o : Order) (pieces : ℕ) (head before more : List ℕ) → length head + length more < 16 → IsBehind (record { order = o; pieces = pieces; left = 0; head = head }) before
+    → IsBehind (record { order = o; pieces = pieces; left = 0; head = head ++ more }) (before ++ more)
+head_grown o pieces head before more few b = record {
   whole = b.whole;
   part = b.part ++ more;
   split = ap (λ l. l ++ more) b.split ∙ append_assoc b.whole b.part more;
   pieces = b.pieces;
-  is_part = part_grown pieces head b.part more few b.is_part;
+  is_part = part_grown o pieces head b.part more few b.is_part;
 }
 
-part_begun : (n left : ℕ) (head part more : List ℕ) → length head + length more ≡ 16 → left ≡ captured Little (head ++ more) → 0 < left → IsPart n 0 head part → IsPart n left [] (part ++ more)
-part_begun zero left head part more full says any (none, some, all) = absurd (omega (arith, some))
-part_begun (suc n) left head part more full says any (inl (none, less, same)) =
+part_begun : (o : Order) (n left : ℕ) (head part more : List ℕ) → length head + length more ≡ 16 → left ≡ captured o (head ++ more) → 0 < left → IsPart o n 0 head part → IsPart o n left [] (part ++ more)
+part_begun o zero left head part more full says any (none, some, all) = absurd (omega (arith, some))
+part_begun o (suc n) left head part more full says any (inl (none, less, same)) =
     inr (any, refl, (head ++ more, [], omega (arith, full, length-append head more), omega (arith, says), ap (λ l. l ++ more) same ∙ sym (append-nil (head ++ more))))
-part_begun (suc n) left head part more full says any (inr (some, none, inside)) = absurd (omega (arith, some))
+part_begun o (suc n) left head part more full says any (inr (some, none, inside)) = absurd (omega (arith, some))
 
 -- all of it, and bytes are to follow
-pub head_whole : (pieces left : ℕ) (head before more : List ℕ) → length head + length more ≡ 16 → left ≡ captured Little (head ++ more) → 0 < left
-    → IsBehind (record { pieces = pieces; left = 0; head = head }) before → IsBehind (record { pieces = pieces; left = left; head = [] }) (before ++ more)
-head_whole pieces left head before more full says any b = record {
+pub head_whole : (o : Order) (pieces left : ℕ) (head before more : List ℕ) → length head + length more ≡ 16 → left ≡ captured o (head ++ more) → 0 < left
+    → IsBehind (record { order = o; pieces = pieces; left = 0; head = head }) before → IsBehind (record { order = o; pieces = pieces; left = left; head = [] }) (before ++ more)
+head_whole o pieces left head before more full says any b = record {
   whole = b.whole;
   part = b.part ++ more;
   split = ap (λ l. l ++ more) b.split ∙ append_assoc b.whole b.part more;
   pieces = b.pieces;
-  is_part = part_begun pieces left head b.part more full says any b.is_part;
+  is_part = part_begun o pieces left head b.part more full says any b.is_part;
 }
 
-one_empty : (n : ℕ) (head whole part before more : List ℕ) → ArePieces n whole → IsPart n 0 head part → before ≡ whole ++ part → length head + length more ≡ 16
-    → 0 ≡ captured Little (head ++ more) → ArePieces (suc n) (before ++ more)
-one_empty zero head whole part before more are (none, some, all) split full says = absurd (omega (arith, some))
-one_empty (suc n) head whole part before more are (inl (none, less, same)) split full says = (
+one_empty : (o : Order) (n : ℕ) (head whole part before more : List ℕ) → ArePieces o n whole → IsPart o n 0 head part → before ≡ whole ++ part → length head + length more ≡ 16
+    → 0 ≡ captured o (head ++ more) → ArePieces o (suc n) (before ++ more)
+one_empty o zero head whole part before more are (none, some, all) split full says = absurd (omega (arith, some))
+one_empty o (suc n) head whole part before more are (inl (none, less, same)) split full says = (
   whole,
   head ++ more,
   [],
@@ -110,25 +124,25 @@ one_empty (suc n) head whole part before more are (inl (none, less, same)) split
   (omega (arith, full, length-append head more), says),
   ap (λ l. l ++ more) split ∙ append_assoc whole part more ∙ ap (λ l. whole ++ l) (ap (λ l. l ++ more) same ∙ sym (append-nil (head ++ more))),
 )
-one_empty (suc n) head whole part before more are (inr (some, none, inside)) split full says = absurd (omega (arith, some))
+one_empty o (suc n) head whole part before more are (inr (some, none, inside)) split full says = absurd (omega (arith, some))
 
 -- all of it, of a record without bytes
-pub head_alone : (pieces : ℕ) (head before more : List ℕ) → length head + length more ≡ 16 → 0 ≡ captured Little (head ++ more)
-    → IsBehind (record { pieces = pieces; left = 0; head = head }) before → IsBehind (record { pieces = suc pieces; left = 0; head = [] }) (before ++ more)
-head_alone pieces head before more full says b = record {
+pub head_alone : (o : Order) (pieces : ℕ) (head before more : List ℕ) → length head + length more ≡ 16 → 0 ≡ captured o (head ++ more)
+    → IsBehind (record { order = o; pieces = pieces; left = 0; head = head }) before → IsBehind (record { order = o; pieces = suc pieces; left = 0; head = [] }) (before ++ more)
+head_alone o pieces head before more full says b = record {
   whole = before ++ more;
   part = [];
   split = sym (append-nil (before ++ more));
-  pieces = one_empty pieces head b.whole b.part before more b.pieces b.is_part b.split full says;
+  pieces = one_empty o pieces head b.whole b.part before more b.pieces b.is_part b.split full says;
   is_part = inl (refl, omega arith, refl);
 }
 
 -- ---- a record that stands whole
 
-one_record : (n : ℕ) (whole part before more : List ℕ) → ArePieces n whole → IsPart n 0 [] part → before ≡ whole ++ part → 16 ≤ length more
-    → length (drop 16 more) ≡ captured Little (take 16 more) → ArePieces (suc n) (before ++ more)
-one_record zero whole part before more are (none, some, all) split full says = absurd (omega (arith, some))
-one_record (suc n) whole part before more are (inl (none, less, same)) split full says = (
+one_record : (o : Order) (n : ℕ) (whole part before more : List ℕ) → ArePieces o n whole → IsPart o n 0 [] part → before ≡ whole ++ part → 16 ≤ length more
+    → length (drop 16 more) ≡ captured o (take 16 more) → ArePieces o (suc n) (before ++ more)
+one_record o zero whole part before more are (none, some, all) split full says = absurd (omega (arith, some))
+one_record o (suc n) whole part before more are (inl (none, less, same)) split full says = (
   whole,
   take 16 more,
   drop 16 more,
@@ -136,32 +150,32 @@ one_record (suc n) whole part before more are (inl (none, less, same)) split ful
   (length-take-le 16 more full, says),
   ap (λ l. l ++ more) (split ∙ (ap (λ l. whole ++ l) same ∙ append-nil whole)) ∙ ap (λ l. whole ++ l) (sym (take-append-drop 16 more)),
 )
-one_record (suc n) whole part before more are (inr (some, none, inside)) split full says = absurd (omega (arith, some))
+one_record o (suc n) whole part before more are (inr (some, none, inside)) split full says = absurd (omega (arith, some))
 
 -- its head and all that its head says
-pub record_whole : (pieces : ℕ) (before more : List ℕ) → 16 ≤ length more → length (drop 16 more) ≡ captured Little (take 16 more)
-    → IsBehind (record { pieces = pieces; left = 0; head = [] }) before → IsBehind (record { pieces = suc pieces; left = 0; head = [] }) (before ++ more)
-record_whole pieces before more full says b = record {
+pub record_whole : (o : Order) (pieces : ℕ) (before more : List ℕ) → 16 ≤ length more → length (drop 16 more) ≡ captured o (take 16 more)
+    → IsBehind (record { order = o; pieces = pieces; left = 0; head = [] }) before → IsBehind (record { order = o; pieces = suc pieces; left = 0; head = [] }) (before ++ more)
+record_whole o pieces before more full says b = record {
   whole = before ++ more;
   part = [];
   split = sym (append-nil (before ++ more));
-  pieces = one_record pieces b.whole b.part before more b.pieces b.is_part b.split full says;
+  pieces = one_record o pieces b.whole b.part before more b.pieces b.is_part b.split full says;
   is_part = inl (refl, omega arith, refl);
 }
 
 -- the same, with the numbers that a call leaves
-pub record_passed : (pieces none came pieces' size : ℕ) (xs before bytes : List ℕ) → none ≡ 0 → came ≡ 0 → pieces' ≡ suc pieces → size ≤ length bytes
-    → size ≡ 16 + captured Little (take 16 bytes) → IsBehind (record { pieces = pieces; left = none; head = take came xs }) before
-    → IsBehind (record { pieces = pieces'; left = none; head = take came xs }) (before ++ take size bytes)
-record_passed pieces none came pieces' size xs before bytes was begins more within says b =
+pub record_passed : (o : Order) (pieces none came pieces' size : ℕ) (xs before bytes : List ℕ) → none ≡ 0 → came ≡ 0 → pieces' ≡ suc pieces → size ≤ length bytes
+    → size ≡ 16 + captured o (take 16 bytes) → IsBehind (record { order = o; pieces = pieces; left = none; head = take came xs }) before
+    → IsBehind (record { order = o; pieces = pieces'; left = none; head = take came xs }) (before ++ take size bytes)
+record_passed o pieces none came pieces' size xs before bytes was begins more within says b =
     let front : take 16 (take size bytes) ≡ take 16 bytes = take-take 16 size bytes (omega (arith, says)) in
     let long : length (take size bytes) ≡ size = length-take-le size bytes within in
-    subst (λ n. IsBehind (record { pieces = pieces'; left = n; head = take came xs }) (before ++ take size bytes)) (sym was)
-    (subst (λ n. IsBehind (record { pieces = pieces'; left = 0; head = take n xs }) (before ++ take size bytes)) (sym begins)
-    (subst (λ n. IsBehind (record { pieces = n; left = 0; head = [] }) (before ++ take size bytes)) (sym more)
-    (record_whole pieces before (take size bytes) (omega (arith, long, says)) (omega (arith, length-drop 16 (take size bytes), long, says, ap (captured Little) front))
-    (subst (λ n. IsBehind (record { pieces = pieces; left = 0; head = take n xs }) before) begins
-    (subst (λ n. IsBehind (record { pieces = pieces; left = n; head = take came xs }) before) was b)))))
+    subst (λ n. IsBehind (record { order = o; pieces = pieces'; left = n; head = take came xs }) (before ++ take size bytes)) (sym was)
+    (subst (λ n. IsBehind (record { order = o; pieces = pieces'; left = 0; head = take n xs }) (before ++ take size bytes)) (sym begins)
+    (subst (λ n. IsBehind (record { order = o; pieces = n; left = 0; head = [] }) (before ++ take size bytes)) (sym more)
+    (record_whole o pieces before (take size bytes) (omega (arith, long, says)) (omega (arith, length-drop 16 (take size bytes), long, says, ap (captured o) front))
+    (subst (λ n. IsBehind (record { order = o; pieces = pieces; left = 0; head = take n xs }) before) begins
+    (subst (λ n. IsBehind (record { order = o; pieces = pieces; left = n; head = take came xs }) before) was b)))))
 
 -- the bytes of a head that is whole now, where those behind the first so many were written
 head_written : (came k n : ℕ) (xs ys bytes : List ℕ) → came + n ≡ 16 → n ≤ length bytes → came ≤ length xs → length (put_mid came k xs ys) ≡ 16 → ys ≡ take n bytes
@@ -172,33 +186,34 @@ head_written came k n xs ys bytes full within there long same =
     ∙ ap (λ l. take came xs ++ l) same
 
 -- a head is whole, with the numbers that a call leaves: of a record without bytes
-pub head_ends : (pieces none came k n pieces' left : ℕ) (head' xs ys bytes before : List ℕ) → none ≡ 0 → pieces' ≡ suc pieces → left ≡ 0 → head' ≡ []
-    → left ≡ captured Little (put_mid came k xs ys) → came + n ≡ 16 → n ≤ length bytes → came ≤ length xs → length (put_mid came k xs ys) ≡ 16 → ys ≡ take n bytes
-    → IsBehind (record { pieces = pieces; left = none; head = take came xs }) before → IsBehind (record { pieces = pieces'; left = left; head = head' }) (before ++ take n bytes)
-head_ends pieces none came k n pieces' left head' xs ys bytes before was more zero_left empty says full within there long same b =
+pub head_ends : (o : Order) (pieces none came k n pieces' left : ℕ) (head' xs ys bytes before : List ℕ) → none ≡ 0 → pieces' ≡ suc pieces → left ≡ 0 → head' ≡ []
+    → left ≡ captured o (put_mid came k xs ys) → came + n ≡ 16 → n ≤ length bytes → came ≤ length xs → length (put_mid came k xs ys) ≡ 16 → ys ≡ take n bytes
+    → IsBehind (record { order = o; pieces = pieces; left = none; head = take came xs }) before → IsBehind (record { order = o; pieces = pieces'; left = left; head = head' }) (before ++ take n bytes)
+head_ends o pieces none came k n pieces' left head' xs ys bytes before was more zero_left empty says full within there long same b =
     let whole = head_written came k n xs ys bytes full within there long same in
     let size : length (take came xs) + length (take n bytes) ≡ 16 = omega (arith, full, within, there, length-take came xs, length-take n bytes) in
-    subst (λ m. IsBehind (record { pieces = m; left = left; head = head' }) (before ++ take n bytes)) (sym more)
-    (subst (λ m. IsBehind (record { pieces = suc pieces; left = m; head = head' }) (before ++ take n bytes)) (sym zero_left)
-    (subst (λ h. IsBehind (record { pieces = suc pieces; left = 0; head = h }) (before ++ take n bytes)) (sym empty)
-    (head_alone pieces (take came xs) before (take n bytes) size (sym zero_left ∙ says ∙ ap (captured Little) whole)
-    (subst (λ m. IsBehind (record { pieces = pieces; left = m; head = take came xs }) before) was b))))
+    subst (λ m. IsBehind (record { order = o; pieces = m; left = left; head = head' }) (before ++ take n bytes)) (sym more)
+    (subst (λ m. IsBehind (record { order = o; pieces = suc pieces; left = m; head = head' }) (before ++ take n bytes)) (sym zero_left)
+    (subst (λ h. IsBehind (record { order = o; pieces = suc pieces; left = 0; head = h }) (before ++ take n bytes)) (sym empty)
+    (head_alone o pieces (take came xs) before (take n bytes) size (sym zero_left ∙ says ∙ ap (captured o) whole)
+    (subst (λ m. IsBehind (record { order = o; pieces = pieces; left = m; head = take came xs }) before) was b))))
 
 -- and of one with bytes
-pub head_goes_on : (pieces none came k n left : ℕ) (head' xs ys bytes before : List ℕ) → none ≡ 0 → 0 < left → head' ≡ []
-    → left ≡ captured Little (put_mid came k xs ys) → came + n ≡ 16 → n ≤ length bytes → came ≤ length xs → length (put_mid came k xs ys) ≡ 16 → ys ≡ take n bytes
-    → IsBehind (record { pieces = pieces; left = none; head = take came xs }) before → IsBehind (record { pieces = pieces; left = left; head = head' }) (before ++ take n bytes)
-head_goes_on pieces none came k n left head' xs ys bytes before was any empty says full within there long same b =
+pub head_goes_on : (o : Order) (pieces none came k n left : ℕ) (head' xs ys bytes before : List ℕ) → none ≡ 0 → 0 < left → head' ≡ []
+    → left ≡ captured o (put_mid came k xs ys) → came + n ≡ 16 → n ≤ length bytes → came ≤ length xs → length (put_mid came k xs ys) ≡ 16 → ys ≡ take n bytes
+    → IsBehind (record { order = o; pieces = pieces; left = none; head = take came xs }) before → IsBehind (record { order = o; pieces = pieces; left = left; head = head' }) (before ++ take n bytes)
+head_goes_on o pieces none came k n left head' xs ys bytes before was any empty says full within there long same b =
     let whole = head_written came k n xs ys bytes full within there long same in
     let size : length (take came xs) + length (take n bytes) ≡ 16 = omega (arith, full, within, there, length-take came xs, length-take n bytes) in
-    subst (λ h. IsBehind (record { pieces = pieces; left = left; head = h }) (before ++ take n bytes)) (sym empty)
-    (head_whole pieces left (take came xs) before (take n bytes) size (says ∙ ap (captured Little) whole) any
-    (subst (λ m. IsBehind (record { pieces = pieces; left = m; head = take came xs }) before) was b))
+    subst (λ h. IsBehind (record { order = o; pieces = pieces; left = left; head = h }) (before ++ take n bytes)) (sym empty)
+    (head_whole o pieces left (take came xs) before (take n bytes) size (says ∙ ap (captured o) whole) any
+    (subst (λ m. IsBehind (record { order = o; pieces = pieces; left = m; head = take came xs }) before) was b))
 
 -- ---- piece by piece
 
 -- so many of the bytes went by
 pub record Passing (old new : Counted) (bytes : List ℕ) (at : ℕ) : Type 0 where
   pub within : at ≤ length bytes
+  pub order : new.order ≡ old.order
   pub pieces : new.pieces ≤ old.pieces + at
   pub behind : old.pieces + length bytes < 2 ^ 64 → (before : List ℕ) → IsBehind old before → IsBehind new (before ++ take at bytes)

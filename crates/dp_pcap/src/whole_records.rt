@@ -1,9 +1,11 @@
 //! How many records of a capture are whole in the bytes that went by.
 ghost use Rattle.std.specs.Prelude.{◌≡◌, ◌+◌, ◌<◌, ◌≤◌, ◌^◌, ◌++◌, ℕ, List, length, take};
-ghost use Rattle.dp_pcap.specs.Capture.{captured};
+ghost use Rattle.dp_pcap.specs.declared.number.Order.{Order};
+ghost use Rattle.dp_pcap.specs.declared.time.Unit.{Unit as TimeUnit};
+ghost use Rattle.dp_pcap.specs.Capture.{captured, IsHeader};
 ghost use Rattle.dp_pcap.specs.Counting.{none_yet, records_in, IsBehind};
 
-use crate::number::{Order, long_number};
+use crate::number::{Order, long_number, short_number};
 use std::marker::Model;
 
 /// How many bytes the header of a capture has, and how many stand in front of a record's bytes.
@@ -11,10 +13,11 @@ const HEADER: usize = 24;
 
 const HEAD: usize = 16;
 
-/// Counts the records of a capture that are whole in its first bytes, as these go by in pieces of any size. The capture is one as
-/// this crate writes it.
+/// Counts the records of a capture that are whole in its first bytes, as these go by in pieces of any size.
 #[derive(Drop)]
 pub struct WholeRecords {
+    // The order of the bytes of its numbers.
+    order: Order,
     // How many pieces are whole: the header, and then records.
     pieces: u64,
     // How many bytes are left of the header or of a record's bytes.
@@ -30,30 +33,61 @@ impl Model for WholeRecords {
 
     ghost Value = { Counted };
 
-    ghost view = { λ c. record { pieces = c.pieces; left = c.left; head = take c.came c.head } };
+    ghost view = { λ c. record { order = c.order; pieces = c.pieces; left = c.left; head = take c.came c.head } };
 
     ghost invariant = { λ c. (c.came < 16) × (length c.head ≡ 16) };
 }
 
 // How many bytes stand behind a record's head.
-fn body_length(head: &[u8]) -> u32
+fn body_length(order: Order, head: &[u8]) -> u32
     requires { length head.now ≡ 16 }
-    ensures { result ≡ captured Order.Little head.now }
+    ensures { result ≡ captured order head.now }
 {
-    long_number(Order::Little, &head[8..])
+    long_number(order, &head[8..])
+}
+
+// The order of the numbers of a header: that in which its version is 2.
+#[tactic(auto, using(crate::proofs::Counting::version_little))]
+fn order_of(header: &[u8]) -> Order
+    requires { 6 ≤ length header.now }
+    ensures { (order : Order) (unit : TimeUnit) → IsHeader order unit header.now → result ≡ order }
+{
+    if short_number(Order::Big, &header[4..]) == 2 {
+        Order::Big
+    } else {
+        Order::Little
+    }
 }
 
 impl WholeRecords {
-    /// A count before the first byte.
-    pub fn new() -> WholeRecords
-        ensures { result ≡ none_yet }
+    // A count before the first byte.
+    fn before(order: Order) -> WholeRecords
+        ensures { result ≡ none_yet order }
     {
         WholeRecords {
+            order,
             pieces: 0,
             left: HEADER,
             head: [0; HEAD],
             came: 0,
         }
+    }
+
+    /// A count before the first byte of a capture that this crate writes.
+    pub fn new() -> WholeRecords
+        ensures { result ≡ none_yet Order.Little }
+    {
+        WholeRecords::before(Order::Little)
+    }
+
+    /// A count before the first byte of a capture, whose first bytes are shown to it: the version there tells the order of its numbers.
+    pub fn of_capture(front: &[u8]) -> WholeRecords
+        ensures { (order : Order) (unit : TimeUnit) → IsHeader order unit (take 24 front.now) → result ≡ none_yet order }
+    {
+        if front.len() < HEADER {
+            return WholeRecords::new();
+        }
+        WholeRecords::before(order_of(&front[..HEADER]))
     }
 
     /// How many records went by whole.
@@ -65,7 +99,8 @@ impl WholeRecords {
 
     /// More bytes of the capture go by.
     pub fn pass(&mut self, bytes: &[u8])
-        ensures { self.old.pieces + length bytes.now < 2 ^ 64 →
+        ensures order { self.new.order ≡ self.old.order }
+        ensures behind { self.old.pieces + length bytes.now < 2 ^ 64 →
             (before : List ℕ) → IsBehind self.old before → IsBehind self.new (before ++ bytes.now) }
     {
         let mut at = 0;
@@ -79,6 +114,7 @@ impl WholeRecords {
         requires { 0 < length bytes.now }
         ensures some { 0 < result }
         ensures most { result ≤ length bytes.now }
+        ensures order { self.new.order ≡ self.old.order }
         ensures pieces { self.new.pieces ≤ self.old.pieces + 1 }
         ensures behind { self.old.pieces + 1 < 2 ^ 64 →
             (before : List ℕ) → IsBehind self.old before → IsBehind self.new (before ++ take result bytes.now) }
@@ -96,6 +132,7 @@ impl WholeRecords {
         requires none { self.old.left ≡ 0 }
         ensures some { 0 < result }
         ensures most { result ≤ length bytes.now }
+        ensures order { self.new.order ≡ self.old.order }
         ensures pieces { self.new.pieces ≤ self.old.pieces + 1 }
         ensures behind { self.old.pieces + 1 < 2 ^ 64 →
             (before : List ℕ) → IsBehind self.old before → IsBehind self.new (before ++ take result bytes.now) }
@@ -103,7 +140,7 @@ impl WholeRecords {
         if self.came > 0 || bytes.len() < HEAD {
             return self.take_head(bytes);
         }
-        let size = HEAD + body_length(&bytes[..HEAD]) as usize;
+        let size = HEAD + body_length(self.order, &bytes[..HEAD]) as usize;
         if bytes.len() < size {
             return self.take_head(bytes);
         }
@@ -117,6 +154,7 @@ impl WholeRecords {
         requires left { 0 < self.old.left }
         ensures some { 0 < result }
         ensures most { result ≤ length bytes.now }
+        ensures order { self.new.order ≡ self.old.order }
         ensures pieces { self.new.pieces ≤ self.old.pieces + 1 }
         ensures behind { self.old.pieces + 1 < 2 ^ 64 →
             (before : List ℕ) → IsBehind self.old before → IsBehind self.new (before ++ take result bytes.now) }
@@ -135,6 +173,7 @@ impl WholeRecords {
         requires none { self.old.left ≡ 0 }
         ensures some { 0 < result }
         ensures most { result ≤ length bytes.now }
+        ensures order { self.new.order ≡ self.old.order }
         ensures pieces { self.new.pieces ≤ self.old.pieces + 1 }
         ensures behind { self.old.pieces + 1 < 2 ^ 64 →
             (before : List ℕ) → IsBehind self.old before → IsBehind self.new (before ++ take result bytes.now) }
@@ -144,7 +183,7 @@ impl WholeRecords {
         self.came += taken;
         if self.came == HEAD {
             self.came = 0;
-            self.left = long_number(Order::Little, &self.head[8..]) as usize;
+            self.left = body_length(self.order, &self.head) as usize;
             if self.left == 0 {
                 self.pieces = self.pieces.saturating_add(1);
             }

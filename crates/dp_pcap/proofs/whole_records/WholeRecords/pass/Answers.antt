@@ -1,4 +1,4 @@
-use Rattle.std.proofs.Common.{rules, ◌≡◌, ◌++◌, take, subst, sym, arith, append_assoc}
+use Rattle.std.proofs.Common.{rules, ◌≡◌, ◌++◌, take, subst, sym, ◌∙◌, arith, append_assoc}
 use Rattle.dp_pcap.specs.Counting.{IsBehind}
 use Rattle.dp_pcap.proofs.Pieces.{take_more-rest}
 use Rattle.dp_pcap.proofs.whole_records.WholeRecords.pass.Goals as goal
@@ -10,6 +10,7 @@ loop-at-preserved c =
     let bytes = c.args.bytes.now in
     record {
       within = search rules;
+      order = stepped.order ∙ c.loop-at.invariant.order;
       pieces = omega (arith, stepped.pieces, stepped.some, c.loop-at.invariant.pieces);
       behind = λ few before b. rw (take_more-rest at c.step-at.result bytes)
           (subst (λ l. IsBehind c.step-at.new.self l) (append_assoc before (take at bytes) _)

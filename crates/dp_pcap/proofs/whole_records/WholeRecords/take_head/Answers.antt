@@ -1,6 +1,5 @@
 use Rattle.std.proofs.Common.{rules, refl, ◌≡◌, ◌∙◌, ◌+◌, ◌<◌, ◌≤◌, ◌-◌, suc, length, take, subst, sym, ap, arith}
 use borrow.Rule.Slice.PartMut.{put_mid}
-use Rattle.dp_pcap.specs.declared.number.Order.TheVariants.{Little}
 use Rattle.dp_pcap.specs.Capture.{captured, number}
 use Rattle.dp_pcap.specs.Counting.{Counted, IsBehind}
 use Rattle.dp_pcap.proofs.Counting.{head_ends, head_goes_on}
@@ -18,9 +17,9 @@ returns-then-self-eq0-clause-behind c = λ few before b.
     let within : taken ≤ length c.args.bytes.now = search rules in
     let long : length head ≡ 16 = search rules in
     let written : c.copy_from_slice.new.self ≡ take taken c.args.bytes.now = search rules in
-    let says : c.long_number.result ≡ captured Little head = search rules in
+    let says : c.body_length.result ≡ captured inside.order head = c.body_length.ensures in
     let there : inside.came ≤ length inside.head = omega (arith, c.self.invariant.0, c.self.invariant.1) in
-    head_ends inside.pieces inside.left inside.came (inside.came + taken - inside.came) taken c.saturating_add-self-inside.result c.long_number.result (take 0 head)
+    head_ends inside.order inside.pieces inside.left inside.came (inside.came + taken - inside.came) taken c.saturating_add-self-inside.result c.body_length.result (take 0 head)
     inside.head c.copy_from_slice.new.self c.args.bytes.now before none (omega (arith, c.saturating_add-self-inside.ensures, few, same)) (search rules) refl says full within there long written
     (subst (λ v. IsBehind v before) (sym c.self.view_is) b)
 
@@ -36,8 +35,8 @@ returns-else-self-eq0-clause-behind c = λ few before b.
     let within : taken ≤ length c.args.bytes.now = search rules in
     let long : length head ≡ 16 = search rules in
     let written : c.copy_from_slice.new.self ≡ take taken c.args.bytes.now = search rules in
-    let says : c.long_number.result ≡ captured Little head = search rules in
+    let says : c.body_length.result ≡ captured inside.order head = c.body_length.ensures in
     let there : inside.came ≤ length inside.head = omega (arith, c.self.invariant.0, c.self.invariant.1) in
-    head_goes_on inside.pieces inside.left inside.came (inside.came + taken - inside.came) taken c.long_number.result (take 0 head)
+    head_goes_on inside.order inside.pieces inside.left inside.came (inside.came + taken - inside.came) taken c.body_length.result (take 0 head)
     inside.head c.copy_from_slice.new.self c.args.bytes.now before none (search rules) refl says full within there long written
     (subst (λ v. IsBehind v before) (sym c.self.view_is) b)
