@@ -35,8 +35,7 @@ impl Model for Objects {
     ghost invariant = { λ o. ArePlaces o.pools };
 }
 
-// The pool of this number. Control never comes to the second arm. There a place is read which lies beyond all pools, so the compiler knows
-// that too, and leaves out the test; `unreachable!()` alone is a trap, for which the test stays.
+// The pool of this number.
 #[inline(always)]
 fn pool_at(pools: &[Option<Pool>; 8], k: u16) -> &Pool
     requires first { PoolsFirst pools.now }
@@ -46,13 +45,7 @@ fn pool_at(pools: &[Option<Pool>; 8], k: u16) -> &Pool
 {
     match &pools[k as usize] {
         Some(pool) => pool,
-        None => {
-            let far = 64u32;
-            match &pools[1usize << far] {
-                Some(pool) => pool,
-                None => unreachable!(),
-            }
-        }
+        None => unreachable!(),
     }
 }
 
@@ -184,7 +177,6 @@ fn tell_pools(slots: &[Option<Pool>])
     }
 }
 
-// A call that changes an object asks for the room of its pool first: that tells the compiler that there is one, and no test is left.
 impl Objects {
     /// The objects of these pools.
     pub fn over(pools: [Option<Pool>; 8]) -> Objects
@@ -269,9 +261,7 @@ impl Objects {
         ensures long { 128 ≤ length (object_in (pool_in self.old n.pool) n.index) }
         ensures written { HeaderSet self.old n (header_with self.old n at bytes.now) self.new }
     {
-        let pool = n.pool();
-        let _room = self.room(pool);
-        write_in(&mut self.pools[pool as usize], n.index(), at, bytes);
+        write_in(&mut self.pools[n.pool() as usize], n.index(), at, bytes);
     }
 
     // Writes two numbers over some of an object's first bytes, one behind the other.
@@ -282,9 +272,7 @@ impl Objects {
         ensures long { 128 ≤ length (object_in (pool_in self.old n.pool) n.index) }
         ensures written { HeaderSet self.old n (header_with self.old n at (then_word x (then_word y []))) self.new }
     {
-        let pool = n.pool();
-        let _room = self.room(pool);
-        write_words_in(&mut self.pools[pool as usize], n.index(), at, x, y);
+        write_words_in(&mut self.pools[n.pool() as usize], n.index(), at, x, y);
     }
 
     /// Writes a header.
@@ -364,9 +352,7 @@ impl Objects {
         requires fits { at + bytes_in width ≤ room_at (specs_of self.old) n.pool }
         ensures { RoomWritten self.old n at (big_endian (bytes_in width) number) self.new }
     {
-        let pool = n.pool();
-        let _room = self.room(pool);
-        let slot = &mut self.pools[pool as usize];
+        let slot = &mut self.pools[n.pool() as usize];
         write_number_in(slot, n.index(), 128 + at as usize, width, number);
     }
 
@@ -387,7 +373,6 @@ impl Objects {
         requires { pool < length self.old }
         ensures { MatchOption result ((count_in self.old pool ≡ 0) × (self.new ≡ self.old)) (λ n. (n.pool ≡ pool) × Taken self.old n self.new) }
     {
-        let _room = self.room(pool);
         let index = get_in(&mut self.pools[pool as usize])?;
         Some(Place::new(pool, index))
     }
@@ -398,9 +383,7 @@ impl Objects {
         requires { is_out self.old n ≡ true }
         ensures { Given self.old n self.new }
     {
-        let pool = n.pool();
-        let _room = self.room(pool);
-        put_in(&mut self.pools[pool as usize], n.index());
+        put_in(&mut self.pools[n.pool() as usize], n.index());
     }
 
     /// The pools again.

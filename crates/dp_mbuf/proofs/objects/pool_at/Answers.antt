@@ -9,21 +9,16 @@ listed c = omega (arith, c.requires.there, present_below c.args.pools.now)
 pub bounds-pools-k : goal.bounds-pools-k
 bounds-pools-k c = omega (arith, c.requires.there, c.type_inv.pools, present_below c.args.pools.now)
 
-pub returns-in-Some-clause-value : goal.returns-in-Some-clause-value
-returns-in-Some-clause-value c =
+pub unreachable-requires : goal.unreachable-requires
+unreachable-requires c =
     let e = present_at c.args.pools.now c.args.k c.index-pools-k.result c.requires.there in cc
 
-pub returns-in-Some-clause-rooms : goal.returns-in-Some-clause-rooms
-returns-in-Some-clause-rooms c =
+pub returns-clause-value : goal.returns-clause-value
+returns-clause-value c =
+    let e = present_at c.args.pools.now c.args.k c.index-pools-k.result c.requires.there in cc
+
+pub returns-clause-rooms : goal.returns-clause-rooms
+returns-clause-rooms c =
     let some = present_at c.args.pools.now c.args.k c.index-pools-k.result c.requires.there in
     let e : c.in-Some.pool ≡ pool_in (present c.args.pools.now) c.args.k = cc in
     subst HasRooms (sym e) (first_at c.args.pools.now c.args.k c.requires.first c.requires.there)
-
--- the place has a pool, so the rest is never reached
-pub overflow_shl-far : goal.overflow_shl-far
-overflow_shl-far c =
-    let e = present_at c.args.pools.now c.args.k c.index-pools-k.result c.requires.there in cc
-
-pub returns-in-Some-pools-clause-value : goal.returns-in-Some-pools-clause-value
-returns-in-Some-pools-clause-value c =
-    let e = present_at c.args.pools.now c.args.k c.index-pools-k.result c.requires.there in cc

@@ -3,20 +3,20 @@ use Rattle.dp_mbuf.proofs.ObjectCalls.{out_pool, listed as pool_listed, is_out_t
 use Rattle.dp_mbuf.proofs.objects.Objects.give.Goals as goal
 
 pub listed : goal.listed
-listed c = omega (arith, c.pool-pool.ensures, (pool_listed _ _ c.self.view_is c.self.invariant c.args.n.pool (out_pool _ _ c.args.n.index c.requires)).0)
+listed c = omega (arith, c.pool.ensures, (pool_listed _ _ c.self.view_is c.self.invariant c.args.n.pool (out_pool _ _ c.args.n.index c.requires)).0)
 
 pub bounds-self-inside-pool : goal.bounds-self-inside-pool
 bounds-self-inside-pool c =
-    omega (arith, c.pool-pool.ensures, (pool_listed _ _ c.self.view_is c.self.invariant c.args.n.pool (out_pool _ _ c.args.n.index c.requires)).1)
+    omega (arith, c.pool.ensures, (pool_listed _ _ c.self.view_is c.self.invariant c.args.n.pool (out_pool _ _ c.args.n.index c.requires)).1)
 
 pub put_in-requires : goal.put_in-requires
 put_in-requires c =
-    is_out_there _ _ c.self.view_is c.self.invariant c.args.n _ _ _ c.pool-pool.ensures c.index.ensures c.requires
+    is_out_there _ _ c.self.view_is c.self.invariant c.args.n _ _ _ c.pool.ensures c.index.ensures c.requires
 
 pub invariant_of-self : goal.invariant_of-self
 invariant_of-self c =
-    (give_done _ _ c.self.view_is c.self.invariant c.args.n _ _ _ c.put_in.new.slot c.pool-pool.ensures c.index.ensures c.requires c.put_in.ensures).0
+    (give_done _ _ c.self.view_is c.self.invariant c.args.n _ _ _ c.put_in.new.slot c.pool.ensures c.index.ensures c.requires c.put_in.ensures).0
 
 pub returns : goal.returns
 returns c =
-    (give_done _ _ c.self.view_is c.self.invariant c.args.n _ _ _ c.put_in.new.slot c.pool-pool.ensures c.index.ensures c.requires c.put_in.ensures).1
+    (give_done _ _ c.self.view_is c.self.invariant c.args.n _ _ _ c.put_in.new.slot c.pool.ensures c.index.ensures c.requires c.put_in.ensures).1

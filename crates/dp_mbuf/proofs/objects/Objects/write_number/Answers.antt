@@ -6,26 +6,26 @@ use Rattle.dp_mbuf.proofs.ObjectLemmas.{object_pool}
 use Rattle.dp_mbuf.proofs.objects.Objects.write_number.Goals as goal
 
 pub listed : goal.listed
-listed c = omega (arith, c.pool-pool.ensures, (pool_listed _ _ c.self.view_is c.self.invariant c.args.n.pool (object_pool _ _ c.requires.object)).0)
+listed c = omega (arith, c.pool.ensures, (pool_listed _ _ c.self.view_is c.self.invariant c.args.n.pool (object_pool _ _ c.requires.object)).0)
 
 pub bounds-self-inside-pool : goal.bounds-self-inside-pool
 bounds-self-inside-pool c =
-    omega (arith, c.pool-pool.ensures, (pool_listed _ _ c.self.view_is c.self.invariant c.args.n.pool (object_pool _ _ c.requires.object)).1)
+    omega (arith, c.pool.ensures, (pool_listed _ _ c.self.view_is c.self.invariant c.args.n.pool (object_pool _ _ c.requires.object)).1)
 
 pub overflow_add-at : goal.overflow_add-at
 overflow_add-at c = omega (arith, c.requires.fits, room_small _ _ c.self.view_is c.self.invariant c.args.n c.requires.object)
 
 pub write_number_in-requires : goal.write_number_in-requires
 write_number_in-requires c =
-    fits _ _ c.self.view_is c.self.invariant c.args.n _ _ _ _ c.pool-pool.ensures c.index.ensures c.requires.object
+    fits _ _ c.self.view_is c.self.invariant c.args.n _ _ _ _ c.pool.ensures c.index.ensures c.requires.object
     (room_fits _ _ c.self.view_is c.self.invariant c.args.n c.args.at (bytes_in c.args.width) c.requires.object c.requires.fits)
 
 pub invariant_of-self : goal.invariant_of-self
 invariant_of-self c =
     let fit = room_fits _ _ c.self.view_is c.self.invariant c.args.n c.args.at (bytes_in c.args.width) c.requires.object c.requires.fits in
-    (room_done _ _ c.self.view_is c.self.invariant c.args.n _ _ c.args.at (big_endian (bytes_in c.args.width) c.args.number) _ c.write_number_in.new.slot c.pool-pool.ensures c.index.ensures (small_spelled (bytes_in c.args.width) c.args.number) c.requires.object (omega (arith, fit, length_spelled (bytes_in c.args.width) c.args.number)) c.write_number_in.ensures).0
+    (room_done _ _ c.self.view_is c.self.invariant c.args.n _ _ c.args.at (big_endian (bytes_in c.args.width) c.args.number) _ c.write_number_in.new.slot c.pool.ensures c.index.ensures (small_spelled (bytes_in c.args.width) c.args.number) c.requires.object (omega (arith, fit, length_spelled (bytes_in c.args.width) c.args.number)) c.write_number_in.ensures).0
 
 pub returns : goal.returns
 returns c =
     let fit = room_fits _ _ c.self.view_is c.self.invariant c.args.n c.args.at (bytes_in c.args.width) c.requires.object c.requires.fits in
-    (room_done _ _ c.self.view_is c.self.invariant c.args.n _ _ c.args.at (big_endian (bytes_in c.args.width) c.args.number) _ c.write_number_in.new.slot c.pool-pool.ensures c.index.ensures (small_spelled (bytes_in c.args.width) c.args.number) c.requires.object (omega (arith, fit, length_spelled (bytes_in c.args.width) c.args.number)) c.write_number_in.ensures).1
+    (room_done _ _ c.self.view_is c.self.invariant c.args.n _ _ c.args.at (big_endian (bytes_in c.args.width) c.args.number) _ c.write_number_in.new.slot c.pool.ensures c.index.ensures (small_spelled (bytes_in c.args.width) c.args.number) c.requires.object (omega (arith, fit, length_spelled (bytes_in c.args.width) c.args.number)) c.write_number_in.ensures).1
