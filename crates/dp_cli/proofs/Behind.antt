@@ -11,7 +11,8 @@ told_behind a b c front None p q = tt
 told_behind a b c front (Some line) p q = Appends-trans a b c front line p q
 
 -- two texts, and then another
-pub told_behind_both : (a b c d : Option (List ℕ)) (front middle : List ℕ) (behind : Option (List ℕ)) → Appends a b front → Appends b c middle → IfSome behind (Appends c d)
+pub told_behind_both : (a b c d : Option (List ℕ)) (front middle : List ℕ) (behind : Option (List ℕ)) → Appends a b front → Appends b c middle →
+    IfSome behind (Appends c d)
     → IfSome (option_map (λ line. front ++ (middle ++ line)) behind) (Appends a d)
 told_behind_both a b c d front middle None p q r = tt
 told_behind_both a b c d front middle (Some line) p q r = Appends-trans a b d front (middle ++ line) p (Appends-trans b c d middle line q r)

@@ -1,5 +1,6 @@
 -- Lines that are printed one after the other.
-use Rattle.std.proofs.Common.{◌≡◌, ℕ, zero, suc, ◌+◌, ◌<◌, List, [], ◌∷◌, ◌++◌, length, get_or, take, Option, Some, refl, sym, ◌∙◌, ap, subst, arith, append_assoc, append-nil, add-one}
+use Rattle.std.proofs.Common.{◌≡◌, ℕ, zero, suc, ◌+◌, ◌<◌, List, [], ◌∷◌, ◌++◌, length, get_or, take, Option, Some, refl, sym, ◌∙◌, ap, subst, arith}
+use Rattle.std.proofs.Common.{append_assoc, append-nil, add-one}
 use Rattle.std.specs.Prelude.{slice_get}
 use Rattle.std.specs.List.{flat_map}
 use Rattle.std.specs.Io.KnownBytes.{Appends}
@@ -31,7 +32,8 @@ pub appends_line : {A : Type 0} (a b d : Option (List ℕ)) (line : ℕ → A �
 appends_line a b d line xs i other lt before now =
     let x = get_or xs i other in
     let own : i ≡ 0 + i = omega arith in
-    subst (Appends a d) (ap (λ n. lines_from line 0 (take i xs) ++ line n x) own ∙ sym (lines_more line 0 xs i x (get_more xs i other lt)) ∙ ap (λ n. lines_from line 0 (take n xs)) (sym (add-one i)))
+    subst (Appends a d) (ap (λ n. lines_from line 0 (take i xs) ++ line n x) own ∙ sym (lines_more line 0 xs i x (get_more xs i other lt))
+    ∙ ap (λ n. lines_from line 0 (take n xs)) (sym (add-one i)))
     (Appends-trans a b d (lines_from line 0 (take i xs)) (line i x) before now)
 
 -- lines without numbers
@@ -43,7 +45,8 @@ map_more line (y ∷ xs) zero x e = append-nil (line y) ∙ ap line (same_Some y
 map_more line (y ∷ xs) (suc i) x e = ap (λ l. line y ++ l) (map_more line xs i x e) ∙ sym (append_assoc (line y) (flat_map line (take i xs)) (line x))
 
 -- one more of them
-pub appends_piece : {A : Type 0} (a b d : Option (List ℕ)) (line : A → List ℕ) (xs : List A) (i : ℕ) (x : A) (bytes : List ℕ) → slice_get xs i ≡ Some x → bytes ≡ line x
+pub appends_piece : {A : Type 0} (a b d : Option (List ℕ)) (line : A → List ℕ) (xs : List A) (i : ℕ) (x : A) (bytes : List ℕ) → slice_get xs i ≡ Some x →
+    bytes ≡ line x
     → Appends a b (flat_map line (take i xs)) → Appends b d bytes → Appends a d (flat_map line (take (i + 1) xs))
 appends_piece a b d line xs i x bytes here is before now =
     subst (Appends a d) (sym (map_more line xs i x here) ∙ ap (λ n. flat_map line (take n xs)) (sym (add-one i)))

@@ -1,5 +1,6 @@
 -- Numbers of the command line.
-use Rattle.std.proofs.Common.{Bor, ◌≡◌, ℕ, zero, suc, ◌+◌, ◌^◌, ◌<◌, ◌≤◌, Bool, true, false, List, [], ◌∷◌, ◌++◌, length, map, get_or, drop, Option, Some, None, Result, Ok, Err, refl, sym, ◌∙◌, ap, subst, arith, append_assoc, append-nil, add-one}
+use Rattle.std.proofs.Common.{Bor, ◌≡◌, ℕ, zero, suc, ◌+◌, ◌^◌, ◌<◌, ◌≤◌, Bool, true, false, List, [], ◌∷◌, ◌++◌, length, map, get_or, drop, Option, Some}
+use Rattle.std.proofs.Common.{None, Result, Ok, Err, refl, sym, ◌∙◌, ap, subst, arith, append_assoc, append-nil, add-one}
 use Rattle.std.specs.Prelude.{option_map, option_and_then, nat_lt, ◌&&◌, if◌then◌else◌, IfSome}
 use Rattle.std.specs.Char.{is_ascii_digit}
 use Rattle.std.specs.Global.{Vec}
@@ -74,7 +75,8 @@ onto front n (Some ns) = ap (λ (all : List ℕ). Some all) (append_assoc front 
 
 -- a number that is above the one before
 pub number_more : (words : List (Bor (List ℕ))) (i : ℕ) (w : Bor (List ℕ)) (last n : ℕ) (front : List ℕ) (all : Option (List ℕ)) → i < length words
-    → number_in (get_or words i w).now ≡ Some n → last < n → continued front (left last i words) ≡ all → continued (front ++ n ∷ []) (left n (i + 1) words) ≡ all
+    → number_in (get_or words i w).now ≡ Some n → last < n → continued front (left last i words) ≡ all → continued (front ++ n ∷ []) (left n (i + 1) words)
+    ≡ all
 number_more words i w last n front all lt e above so_far =
     let own : left last i words ≡ option_map (λ ns. n ∷ ns) (left n (i + 1) words) = step words i w last (Some n) lt e ∙ (rw (lt-ltb last n above) refl) in
     onto front n (left n (i + 1) words) ∙ ap (continued front) (sym own) ∙ so_far
@@ -97,9 +99,11 @@ drop_all (x ∷ xs) zero le = absurd (omega arith)
 drop_all (x ∷ xs) (suc i) le = drop_all xs i (omega arith)
 
 -- no word is left
-pub numbers_end : (words : List (Bor (List ℕ))) (i last : ℕ) (front : List ℕ) (all : Option (List ℕ)) → length words ≤ i → continued front (left last i words) ≡ all → Some front ≡ all
+pub numbers_end : (words : List (Bor (List ℕ))) (i last : ℕ) (front : List ℕ) (all : Option (List ℕ)) → length words ≤ i → continued front (left last i words)
+    ≡ all → Some front ≡ all
 numbers_end words i last front all le so_far =
-    ap (λ (ns : List ℕ). Some ns) (sym (append-nil front)) ∙ ap (λ (rest : List (Bor (List ℕ))). continued front (ascending_in last (map (λ word. word.now) rest))) (sym (drop_all words i le)) ∙ so_far
+    ap (λ (ns : List ℕ). Some ns) (sym (append-nil front)) ∙ ap (λ (rest : List (Bor (List ℕ))).
+    continued front (ascending_in last (map (λ word. word.now) rest))) (sym (drop_all words i le)) ∙ so_far
 
 -- ---- each is above the one before
 

@@ -1,5 +1,6 @@
 -- By which certificate a node's program is judged, and what is told of it.
-use Rattle.std.specs.Prelude.{◌≡◌, ℕ, ◌-◌, ◌<◌, nat_lt, if◌then◌else◌, IfSome, MatchOption, ◌⊎◌, List, [], ◌∷◌, ◌++◌, length, Option, Some, None, option_map, codes}
+use Rattle.std.specs.Prelude.{◌≡◌, ℕ, ◌-◌, ◌<◌, nat_lt, if◌then◌else◌, IfSome, MatchOption, ◌⊎◌, List, [], ◌∷◌, ◌++◌, length, Option, Some, None, option_map}
+use Rattle.std.specs.Prelude.{codes}
 use Rattle.dp_model.specs.declared.env.Entry.{Entry}
 use Rattle.dp_model.specs.declared.env.Entry.TheVariants.{Port, Ring}
 use Rattle.dp_model.specs.declared.instr.Instr.{Instr}

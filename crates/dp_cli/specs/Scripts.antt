@@ -1,5 +1,6 @@
 -- What the commands of a heap script do, and what they print.
-use Rattle.std.specs.Prelude.{◌≡◌, ℕ, suc, ◌+◌, ◌<◌, ◌⊎◌, min, MatchOption, Bool, true, false, List, [], ◌∷◌, ◌++◌, length, replicate, Option, Some, None, ◌==◌, ⊤}
+use Rattle.std.specs.Prelude.{◌≡◌, ℕ, suc, ◌+◌, ◌<◌, ◌⊎◌, min, MatchOption, Bool, true, false, List, [], ◌∷◌, ◌++◌, length, replicate, Option, Some, None}
+use Rattle.std.specs.Prelude.{◌==◌, ⊤}
 use Rattle.std.specs.List.{list_any, slice_split}
 use Rattle.std.specs.Io.KnownBytes.{Appends}
 use Rattle.dp_region.specs.Region.{BlockView, IsRegionSize}

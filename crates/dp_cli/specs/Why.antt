@@ -1,5 +1,6 @@
 -- What is told behind the line of a fault.
-use Rattle.std.specs.Prelude.{ℕ, List, [], ◌∷◌, ◌++◌, Option, Some, None, Bool, true, false, ◌==◌, ◌&&◌, codes, option_map, slice_get, if◌then◌else◌, string_bytes}
+use Rattle.std.specs.Prelude.{ℕ, List, [], ◌∷◌, ◌++◌, Option, Some, None, Bool, true, false, ◌==◌, ◌&&◌, codes, option_map, slice_get, if◌then◌else◌}
+use Rattle.std.specs.Prelude.{string_bytes}
 use Rattle.std.specs.Option.{option_map_or}
 use Rattle.std.specs.Fmt.{with_newline}
 use Rattle.std.specs.List.{list_any}
@@ -31,7 +32,8 @@ file_line (Some name) = codes "  file: " ++ (name ++ 10 ∷ [])
 
 -- the lines of a finding: the file's name, and the reason
 abbrev pub finding_lines : Finding → Option (List ℕ)
-finding_lines finding = option_map (λ words. file_line (option_map (λ name. name.now) finding.file) ++ (codes "  because: " ++ words)) (with_newline (reason_text finding.reason))
+finding_lines finding = option_map (λ words. file_line (option_map (λ name. name.now) finding.file)
+    ++ (codes "  because: " ++ words)) (with_newline (reason_text finding.reason))
 
 -- what is told of a pipeline's fault: its words, but of a file what the files themselves tell
 abbrev pub reason_of : PipeError → Option Reason

@@ -1,5 +1,6 @@
 -- Words of the command line.
-use Rattle.std.specs.Prelude.{ℕ, ◌+◌, ◌^◌, List, ◌∷◌, [], ◌++◌, ◌==◌, ◌&&◌, Option, Some, None, codes, length, nat_lt, option_map, option_and_then, if◌then◌else◌}
+use Rattle.std.specs.Prelude.{ℕ, ◌+◌, ◌^◌, List, ◌∷◌, [], ◌++◌, ◌==◌, ◌&&◌, Option, Some, None, codes, length, nat_lt, option_map, option_and_then}
+use Rattle.std.specs.Prelude.{if◌then◌else◌}
 use Rattle.std.specs.Char.{is_ascii_digit}
 use Rattle.std.specs.List.{list_all, slice_split}
 use Rattle.std.specs.Str.Parse.{digits_value}
@@ -18,7 +19,8 @@ word_of (Ring place) = codes "ring" ++ (48 + place) ∷ []
 
 -- the number that a word is: one decimal digit or more, and below 2^64
 abbrev pub number_in : List ℕ → Option ℕ
-number_in word = if list_all is_ascii_digit word && (nat_lt 0 (length word) && nat_lt (digits_value 10 word) (2 ^ 64)) then Some (digits_value 10 word) else None
+number_in word = if list_all is_ascii_digit word && (nat_lt 0 (length word) && nat_lt (digits_value 10 word) (2 ^ 64)) then Some (digits_value 10 word)
+    else None
 
 -- the number of records that a word is: from 1 to 134,217,728
 abbrev pub records_in : List ℕ → Option ℕ

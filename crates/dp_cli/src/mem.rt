@@ -1,13 +1,15 @@
 //! `dpv mem`: heap scripts.
 
-ghost use Rattle.std.specs.Prelude.{◌≡◌, ℕ, suc, ◌∷◌, ◌+◌, ◌^◌, ◌%◌, ◌≤◌, ◌<◌, ◌==◌, ◌⊎◌, ◌↔◌, [], All, IfSome, IfOk, IsTrue, MatchOption, MatchResult, length, option_map, position, false, true};
+ghost use Rattle.std.specs.Prelude.{◌≡◌, ℕ, suc, ◌∷◌, ◌+◌, ◌^◌, ◌%◌, ◌≤◌, ◌<◌, ◌==◌, ◌⊎◌, ◌↔◌, [], All, IfSome, IfOk, IsTrue, MatchOption, MatchResult};
+ghost use Rattle.std.specs.Prelude.{length, option_map, position, false, true};
 ghost use Rattle.std.specs.Io.KnownBytes.{Appends};
 ghost use Rattle.dp_heap.specs.Elements.{alignment, count_of, is_busy, rounded, Taken};
 ghost use Rattle.dp_heap.specs.Refusals.{IsAlign, IsRefused};
 ghost use Rattle.dp_region.specs.Region.{IsRegionSize};
 ghost use Rattle.dp_cli.specs.Commands.{command_in};
 ghost use Rattle.dp_cli.specs.Heaps as spec;
-ghost use Rattle.dp_cli.specs.Scripts.{IsBad, IsDone, IsEnding, IsFilled, IsFreed, IsLineDone, IsNoRegion, IsPrinted, IsRefusalTold, IsScriptTold, IsTaken, IsWrong, Plays, Runs, first_from, fresh, is_held, lines_left, script_lines, stage, status_of_ending};
+ghost use Rattle.dp_cli.specs.Scripts.{IsBad, IsDone, IsEnding, IsFilled, IsFreed, IsLineDone, IsNoRegion, IsPrinted, IsRefusalTold, IsScriptTold, IsTaken};
+ghost use Rattle.dp_cli.specs.Scripts.{IsWrong, Plays, Runs, first_from, fresh, is_held, lines_left, script_lines, stage, status_of_ending};
 ghost use Rattle.dp_cli.specs.Told.{IsTold, TellsMemory};
 
 use crate::fault::{DONE, FAULT, Fault, MEMORY, tell, tell_fault};
@@ -66,7 +68,8 @@ fn element_around(heap: &Heap, place: u32) -> Option<Element>
 /// Prints what became of the block of a success.
 fn tell_block<O: Write>(heap: &Heap, number: u32, place: u32, out: &mut O) -> u8
     ensures status { IsTold DONE result }
-    ensures printed { result ≡ DONE → IfSome (spec.element_at heap.now.elements place) (λ element. Appends (O.contents out.old) (O.contents out.new) (spec.block_line number place element)) }
+    ensures printed { result ≡ DONE → IfSome (spec.element_at heap.now.elements place)
+        (λ element. Appends (O.contents out.old) (O.contents out.new) (spec.block_line number place element)) }
 {
     match element_around(heap, place) {
         Some(element) => tell(
@@ -96,10 +99,12 @@ fn tell_refusal<O: Write>(error: HeapError, out: &mut O) -> u8
 
 /// A block of these many bytes and this alignment, all its bytes 0 where that is asked for.
 fn request(heap: &mut Heap, size: u32, align: u32, zeros: bool) -> Result<Block, HeapError>
-    ensures block { IfOk result (λ b. (b.home ≡ heap.old.home) × IsFilled zeros size b.bytes × Taken heap.old.elements (rounded size) (alignment align) b.place heap.new.elements) }
+    ensures block { IfOk result (λ b. (b.home ≡ heap.old.home) × IsFilled zeros size b.bytes
+        × Taken heap.old.elements (rounded size) (alignment align) b.place heap.new.elements) }
     ensures home { heap.new.home ≡ heap.old.home }
     ensures refused { MatchResult result (λ _. (0 < size) × IsAlign align) (λ e. IsRefused e size align heap.old.elements × (heap.new ≡ heap.old)) }
-    ensures counted { MatchResult result (λ _. count_of is_busy heap.new.elements ≡ count_of is_busy heap.old.elements + 1) (λ _. count_of is_busy heap.new.elements ≡ count_of is_busy heap.old.elements) }
+    ensures counted { MatchResult result (λ _. count_of is_busy heap.new.elements ≡ count_of is_busy heap.old.elements + 1)
+        (λ _. count_of is_busy heap.new.elements ≡ count_of is_busy heap.old.elements) }
 {
     if zeros {
         heap.zmalloc(size, align)
@@ -141,7 +146,10 @@ impl Session {
     /// `malloc` and `zmalloc`.
     fn take<O: Write>(&mut self, size: u32, align: u32, zeros: bool, out: &mut O) -> u8
         ensures status { IsTold DONE result }
-        ensures answered { result ≡ DONE → IsPrinted (λ text. IsTaken zeros size align (stage self.old.heap.elements self.old.held.items self.old.taken) text (stage self.new.heap.elements self.new.held.items self.new.taken) ⊎ IsRefusalTold size align (stage self.old.heap.elements self.old.held.items self.old.taken) text (stage self.new.heap.elements self.new.held.items self.new.taken)) (O.contents out.old) (O.contents out.new) }
+        ensures answered { result ≡ DONE → IsPrinted (λ text. IsTaken zeros size align (stage self.old.heap.elements self.old.held.items self.old.taken) text
+            (stage self.new.heap.elements self.new.held.items self.new.taken)
+            ⊎ IsRefusalTold size align (stage self.old.heap.elements self.old.held.items self.old.taken) text
+            (stage self.new.heap.elements self.new.held.items self.new.taken)) (O.contents out.old) (O.contents out.new) }
     {
         match request(&mut self.heap, size, align, zeros) {
             Ok(block) => {
@@ -171,8 +179,10 @@ impl Session {
 
     /// `free`; `None` where the number is not held.
     fn free<O: Write>(&mut self, number: u32, out: &mut O) -> Option<u8>
-        ensures held { MatchOption result ((is_held number self.old.held.items ≡ false) × (self.new ≡ self.old) × (out.new ≡ out.old)) (λ status. (is_held number self.old.held.items ≡ true) × IsTold DONE status) }
-        ensures freed { result ≡ Some DONE → IsPrinted (λ text. IsFreed number (stage self.old.heap.elements self.old.held.items self.old.taken) text (stage self.new.heap.elements self.new.held.items self.new.taken)) (O.contents out.old) (O.contents out.new) }
+        ensures held { MatchOption result ((is_held number self.old.held.items ≡ false) × (self.new ≡ self.old)
+            × (out.new ≡ out.old)) (λ status. (is_held number self.old.held.items ≡ true) × IsTold DONE status) }
+        ensures freed { result ≡ Some DONE → IsPrinted (λ text. IsFreed number (stage self.old.heap.elements self.old.held.items self.old.taken) text
+            (stage self.new.heap.elements self.new.held.items self.new.taken)) (O.contents out.old) (O.contents out.new) }
     {
         let Some(place) = self.place_of(number) else {
             return None;
@@ -214,8 +224,10 @@ impl Session {
 
     /// A command; `None` where it is none here.
     fn run<O: Write>(&mut self, command: Command, out: &mut O) -> Option<u8>
-        ensures wrong { MatchOption result (IsWrong command (stage self.old.heap.elements self.old.held.items self.old.taken) × (self.new ≡ self.old) × (out.new ≡ out.old)) (λ status. ¬ IsWrong command (stage self.old.heap.elements self.old.held.items self.old.taken) × IsTold DONE status) }
-        ensures done { result ≡ Some DONE → IsPrinted (λ text. IsDone command (stage self.old.heap.elements self.old.held.items self.old.taken) text (stage self.new.heap.elements self.new.held.items self.new.taken)) (O.contents out.old) (O.contents out.new) }
+        ensures wrong { MatchOption result (IsWrong command (stage self.old.heap.elements self.old.held.items self.old.taken) × (self.new ≡ self.old)
+            × (out.new ≡ out.old)) (λ status. ¬ IsWrong command (stage self.old.heap.elements self.old.held.items self.old.taken) × IsTold DONE status) }
+        ensures done { result ≡ Some DONE → IsPrinted (λ text. IsDone command (stage self.old.heap.elements self.old.held.items self.old.taken) text
+            (stage self.new.heap.elements self.new.held.items self.new.taken)) (O.contents out.old) (O.contents out.new) }
     {
         match command {
             Command::Region(_) => None,
@@ -275,7 +287,8 @@ struct Numbered<'a> {
 
 /// The first line of a script that is not empty.
 fn first_line<'a>(script: &'a [u8]) -> Option<Numbered<'a>>
-    ensures first { option_map (λ found. (found.number, (found.line.now, lines_left (option_map (λ more. more.now) found.behind)))) result ≡ first_from 1 (script_lines script.now) }
+    ensures first { option_map (λ found. (found.number, (found.line.now, lines_left (option_map (λ more. more.now) found.behind)))) result
+        ≡ first_from 1 (script_lines script.now) }
     ensures within { IfSome result (λ found. IfSome found.behind (λ more. found.number + length more.now < 2 ^ 64)) }
 {
     let mut number = 0usize;
@@ -307,8 +320,10 @@ fn region_size(line: &[u8]) -> Option<u32>
 
 /// Plays a line that is not empty; `None` where it is no command there.
 fn play_line<O: Write>(session: &mut Session, line: &[u8], out: &mut O) -> Option<u8>
-    ensures bad { MatchOption result (IsBad line.now (stage session.old.heap.elements session.old.held.items session.old.taken) × (session.new ≡ session.old) × (out.new ≡ out.old)) (λ status. ¬ IsBad line.now (stage session.old.heap.elements session.old.held.items session.old.taken) × IsTold DONE status) }
-    ensures done { result ≡ Some DONE → IsPrinted (λ text. IsLineDone line.now (stage session.old.heap.elements session.old.held.items session.old.taken) text (stage session.new.heap.elements session.new.held.items session.new.taken)) (O.contents out.old) (O.contents out.new) }
+    ensures bad { MatchOption result (IsBad line.now (stage session.old.heap.elements session.old.held.items session.old.taken) × (session.new ≡ session.old)
+        × (out.new ≡ out.old)) (λ status. ¬ IsBad line.now (stage session.old.heap.elements session.old.held.items session.old.taken) × IsTold DONE status) }
+    ensures done { result ≡ Some DONE → IsPrinted (λ text. IsLineDone line.now (stage session.old.heap.elements session.old.held.items session.old.taken) text
+        (stage session.new.heap.elements session.new.held.items session.new.taken)) (O.contents out.old) (O.contents out.new) }
 {
     match command_of(line) {
         Some(command) => session.run(command, out),
@@ -337,7 +352,8 @@ fn play<O: Write>(
     out: &mut O,
 ) -> Ending
     requires { IfSome behind (λ more. number + length more.now < 2 ^ 64) }
-    ensures { IsEnding (Plays (suc number) (lines_left (option_map (λ more. more.now) behind.entry)) (stage session.old.heap.elements session.old.held.items session.old.taken)) (O.contents out.old) (O.contents out.new) result }
+    ensures { IsEnding (Plays (suc number) (lines_left (option_map (λ more. more.now) behind.entry))
+        (stage session.old.heap.elements session.old.held.items session.old.taken)) (O.contents out.old) (O.contents out.new) result }
 {
     let mut number = number;
     let mut rest = behind;

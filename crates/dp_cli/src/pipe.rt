@@ -153,7 +153,8 @@ pub fn infer_line<O: Write, E: Write>(
     err: &mut E,
 ) -> u8
     ensures status { MatchOption (spec.node_at pipeline.now which) (IsTold USAGE result) (λ _. IsTold DONE result) }
-    ensures printed { result ≡ DONE → IfSome (spec.node_at pipeline.now which) (λ node. (cert : Certificate) → IsWith node cert → Appends (O.contents out.old) (O.contents out.new) (spelling cert)) }
+    ensures printed { result ≡ DONE → IfSome (spec.node_at pipeline.now which) (λ node. (cert : Certificate) → IsWith node cert →
+        Appends (O.contents out.old) (O.contents out.new) (spelling cert)) }
     ensures silent { result ≡ DONE → err.new ≡ err.old }
     ensures nothing { IfNone (spec.node_at pipeline.now which) (out.new ≡ out.old) }
     ensures memory { result ≡ MEMORY → TellsMemory (E.contents err.old) (E.contents err.new) }

@@ -112,7 +112,8 @@ pub fn run_line<R: Feed, W: Sink, O: Write, E: Write>(
     requires readers { length ins.old ≡ length pipeline.env.ports }
     requires writers { length outs.old ≡ length pipeline.env.ports }
     requires pattern { IsAscending 0 pattern.items }
-    ensures told { IsRunTold pipeline pattern.items (map R.remaining ins.old) (map R.remaining ins.new) (map W.contents outs.old) (map W.contents outs.new) (O.contents out.old) (O.contents out.new) result }
+    ensures told { IsRunTold pipeline pattern.items (map R.remaining ins.old) (map R.remaining ins.new) (map W.contents outs.old) (map W.contents outs.new)
+        (O.contents out.old) (O.contents out.new) result }
     ensures silent { result ≡ DONE → err.new ≡ err.old }
     ensures memory { result ≡ MEMORY → TellsMemory (E.contents err.old) (E.contents err.new) }
 {

@@ -64,7 +64,8 @@ impl<R: Read, P: Write> Watched<R, P> {
 }
 
 impl<R: Read, P: Write> Read for Watched<R, P> {
-    ghost use Rattle.std.specs.Prelude.{◌≡◌, ◌≢◌, ◌==◌, ◌+◌, ◌<◌, ◌^◌, ◌∷◌, ◌++◌, ℕ, [], List, Some, true, false, take, if◌then◌else◌, IfOk, IfErr, OnOk, OnErr};
+    ghost use Rattle.std.specs.Prelude.{◌≡◌, ◌≢◌, ◌==◌, ◌+◌, ◌<◌, ◌^◌, ◌∷◌, ◌++◌, ℕ, [], List, Some, true, false, take, if◌then◌else◌, IfOk, IfErr, OnOk};
+    ghost use Rattle.std.specs.Prelude.{OnErr};
     ghost use Rattle.std.specs.Io.{ReadsAtMost};
     ghost use Rattle.std.specs.Io.KnownBytes.{Appends, ReadConsumes};
     ghost use Rattle.std.specs.IoError.{error_kind};

@@ -95,7 +95,8 @@ set_again (x ∷ xs) zero a b = refl
 set_again (x ∷ xs) (suc i) a b = ap (λ l. x ∷ l) (set_again xs i a b)
 
 pub sent_next : (start core core' : Core) (port left : ℕ) → SentLeft start core port left → 0 < left
-    → ((packets : List Packet) (k : Packet) → slice_get core.state.world.outboxes port ≡ Some (k ∷ packets) → core' ≡ moved (with_outbox port packets core.state) core)
+    → ((packets : List Packet) (k : Packet) → slice_get core.state.world.outboxes port ≡ Some (k ∷ packets) →
+    core' ≡ moved (with_outbox port packets core.state) core)
     → SentLeft start core' port (left - 1)
 sent_next start core core' port left l lt drops =
     let (rest, k, e) = first_of l.packets left l.count lt in
@@ -145,7 +146,8 @@ left_some start core ring left l lt =
     (rest, k, ap (λ (c : Core). slice_get c.state.world.rings ring) l.is ∙ here ∙ ap Some e)
 
 pub left_next : (start core core' : Core) (ring left : ℕ) → RingLeft start core ring left → 0 < left
-    → ((packets : List Packet) (k : Packet) → slice_get core.state.world.rings ring ≡ Some (k ∷ packets) → core' ≡ moved (with_ring ring packets core.state) core)
+    → ((packets : List Packet) (k : Packet) → slice_get core.state.world.rings ring ≡ Some (k ∷ packets) →
+    core' ≡ moved (with_ring ring packets core.state) core)
     → RingLeft start core' ring (left - 1)
 left_next start core core' ring left l lt drops =
     let (rest, k, e) = first_of l.packets left l.count lt in

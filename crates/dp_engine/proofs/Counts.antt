@@ -1,5 +1,6 @@
 -- The live segments of a machine between two runs are those of its layer.
-use Rattle.std.proofs.Common.{◌≡◌, ◌≢◌, ℕ, zero, suc, ◌+◌, Bool, true, false, not, ◌||◌, List, [], ◌∷◌, ◌++◌, map, Option, Some, None, refl, sym, ◌∙◌, ap, arith, nat_eq, zero-add}
+use Rattle.std.proofs.Common.{◌≡◌, ◌≢◌, ℕ, zero, suc, ◌+◌, Bool, true, false, not, ◌||◌, List, [], ◌∷◌, ◌++◌, map, Option, Some, None, refl, sym, ◌∙◌, ap}
+use Rattle.std.proofs.Common.{arith, nat_eq, zero-add}
 use Rattle.std.specs.Prelude.{slice_get, slice_set, ◌==◌, flat_map}
 use Rattle.std.specs.List.{list_all, AllByRecursion}
 use Rattle.std.proofs.lemmas.Bool.{eq-eqb, eqb-true}
@@ -28,7 +29,8 @@ abbrev tally_of : (Segment → Bool) → Option Packet → ℕ
 tally_of f None = 0
 tally_of f (Some k) = tally f k
 
-tally_cleared : (f : Segment → Bool) (slots : List (Option Packet)) (h : ℕ) (k : Packet) → slice_get slots h ≡ Some (Some k) → tally f (segments_held (slice_set slots h None)) + tally f k ≡ tally f (segments_held slots)
+tally_cleared : (f : Segment → Bool) (slots : List (Option Packet)) (h : ℕ) (k : Packet) → slice_get slots h ≡ Some (Some k) →
+    tally f (segments_held (slice_set slots h None)) + tally f k ≡ tally f (segments_held slots)
 tally_cleared f [] h k e = cc
 tally_cleared f (None ∷ slots) zero k e = cc
 tally_cleared f (None ∷ slots) (suc h) k e = tally_cleared f slots h k e
@@ -50,7 +52,8 @@ none_held [] none = refl
 none_held (None ∷ slots) none = none_held slots (λ h. none (suc h))
 none_held (Some k ∷ slots) none = absurd (omega (arith, none 0))
 
-segments_kept : (slots : List (Option Packet)) (h : ℕ) (o : Option Packet) (xs : List ℕ) → occurs h xs ≡ 0 → segments_at (slice_set slots h o) xs ≡ segments_at slots xs
+segments_kept : (slots : List (Option Packet)) (h : ℕ) (o : Option Packet) (xs : List ℕ) → occurs h xs ≡ 0 → segments_at (slice_set slots h o) xs
+    ≡ segments_at slots xs
 segments_kept slots h o [] e = refl
 segments_kept slots h o (x ∷ xs) e =
     let ne : x ≢ h = λ same. absurd (omega (arith, e, is_one x h same)) in
@@ -59,21 +62,25 @@ segments_kept slots h o (x ∷ xs) e =
     rw first (ap (λ l. packet_at slots x ++ l) rest)
 
 -- each packet is counted once
-pub spread : (f : Segment → Bool) (handles : List ℕ) (slots : List (Option Packet)) → ((h : ℕ) → occurs h handles ≡ in_slot (slice_get slots h)) → tally f (segments_at slots handles) ≡ tally f (segments_held slots)
+pub spread : (f : Segment → Bool) (handles : List ℕ) (slots : List (Option Packet)) → ((h : ℕ) → occurs h handles ≡ in_slot (slice_get slots h)) →
+    tally f (segments_at slots handles) ≡ tally f (segments_held slots)
 spread f [] slots each = sym (ap (tally f) (none_held slots each))
 spread f (h ∷ handles) slots each =
     let one = is_one h h refl in
     let (k, there) = in_slot_some (slice_get slots h) (omega (arith, one, each h)) in
     let none : occurs h handles ≡ 0 = omega (arith, one, each h, in_slot_few (slice_get slots h)) in
     let rest = spread f handles (slice_set slots h None) (λ x. less x (x == h) refl k there none) in
-    let kept : tally f (segments_at (slice_set slots h None) handles) ≡ tally f (segments_at slots handles) = ap (tally f) (segments_kept slots h None handles none) in
+    let kept : tally f (segments_at (slice_set slots h None) handles) ≡ tally f (segments_at slots handles) =
+    ap (tally f) (segments_kept slots h None handles none) in
     let is_k : tally f (packet_at slots h) ≡ tally f k = ap (λ o. tally f (held_of o)) there in
     omega (arith, rest, kept, is_k, tally_cleared f slots h k there, tally-append f (packet_at slots h) (segments_at slots handles))
   where
-    less : (x : ℕ) (b : Bool) → (x == h) ≡ b → (k : Packet) → slice_get slots h ≡ Some (Some k) → occurs h handles ≡ 0 → occurs x handles ≡ in_slot (slice_get (slice_set slots h None) x)
+    less : (x : ℕ) (b : Bool) → (x == h) ≡ b → (k : Packet) → slice_get slots h ≡ Some (Some k) → occurs h handles ≡ 0 →
+        occurs x handles ≡ in_slot (slice_get (slice_set slots h None) x)
     less x true e k there none =
         let same : x ≡ h = eqb-true x h e in
-        let slot : in_slot (slice_get (slice_set slots h None) x) ≡ 0 = ap (λ x. in_slot (slice_get (slice_set slots h None) x)) same ∙ ap in_slot (get_set_same slots h None (Some k) there) in
+        let slot : in_slot (slice_get (slice_set slots h None) x) ≡ 0 = ap (λ x. in_slot (slice_get (slice_set slots h None) x)) same
+        ∙ ap in_slot (get_set_same slots h None (Some k) there) in
         ap (λ x. occurs x handles) same ∙ none ∙ sym slot
     less x false e k there none =
         let ne : x ≢ h = λ same. (let yes : (x == h) ≡ true = eq-eqb x h same in cc) in
@@ -111,38 +118,59 @@ below_same a b pool (suc i) same = rw (below_same a b pool i same, free_same a b
 pub available_same : (pools : List PoolSpec) (a b : List Segment) (pool : ℕ) → CountSame a b → available pools a pool ≡ available pools b pool
 available_same pools a b pool same = below_same a b pool (count_at pools pool) same
 
-each_fresh : (pools : List PoolSpec) (a b : List Segment) (pool : ℕ) (ns : List Number) → CountSame a b → AllByRecursion (IsFresh pools a pool) ns → AllByRecursion (IsFresh pools b pool) ns
+each_fresh : (pools : List PoolSpec) (a b : List Segment) (pool : ℕ) (ns : List Number) → CountSame a b → AllByRecursion (IsFresh pools a pool) ns →
+    AllByRecursion (IsFresh pools b pool) ns
 each_fresh pools a b pool [] same all = tt
-each_fresh pools a b pool (n ∷ ns) same all = (record { of_pool = all.0.of_pool; exists = all.0.exists; free = sym (free_same a b n same) ∙ all.0.free }, each_fresh pools a b pool ns same all.1)
+each_fresh pools a b pool (n ∷ ns) same all = (
+  record { of_pool = all.0.of_pool; exists = all.0.exists; free = sym (free_same a b n same) ∙ all.0.free },
+  each_fresh pools a b pool ns same all.1,
+)
 
-pub fresh_same : (pools : List PoolSpec) (a b : List Segment) (pool need : ℕ) (ns : List Number) → CountSame a b → AreFresh pools a pool need ns → AreFresh pools b pool need ns
+pub fresh_same : (pools : List PoolSpec) (a b : List Segment) (pool need : ℕ) (ns : List Number) → CountSame a b → AreFresh pools a pool need ns →
+    AreFresh pools b pool need ns
 fresh_same pools a b pool need ns same fresh = record { count = fresh.count; distinct = fresh.distinct; each = each_fresh pools a b pool ns same fresh.each }
 
 -- ---- between two runs
 
-pub idle_handles : (slots : List (Option Packet)) (registers : List (Option ℕ)) → AllByRecursion (λ o. o ≡ None) (map (register_at slots) registers) → handles_held registers ≡ []
+pub idle_handles : (slots : List (Option Packet)) (registers : List (Option ℕ)) → AllByRecursion (λ o. o ≡ None) (map (register_at slots) registers) →
+    handles_held registers ≡ []
 idle_handles slots [] all = refl
 idle_handles slots (None ∷ registers) all = idle_handles slots registers all.1
 idle_handles slots (Some h ∷ registers) all = let no : Some (packet_at slots h) ≡ None = all.0 in cc
 
-tally_at : (f : Segment → Bool) (slots : List (Option Packet)) (xs ys : List ℕ) → tally f (segments_at slots (xs ++ ys)) ≡ tally f (segments_at slots xs) + tally f (segments_at slots ys)
+tally_at : (f : Segment → Bool) (slots : List (Option Packet)) (xs ys : List ℕ) → tally f (segments_at slots (xs ++ ys))
+    ≡ tally f (segments_at slots xs) + tally f (segments_at slots ys)
 tally_at f slots [] ys = omega arith
 tally_at f slots (h ∷ xs) ys =
-    omega (arith, tally_at f slots xs ys, tally-append f (packet_at slots h) (segments_at slots xs), tally-append f (packet_at slots h) (segments_at slots (xs ++ ys)))
+    omega (
+      arith,
+      tally_at f slots xs ys,
+      tally-append f (packet_at slots h) (segments_at slots xs),
+      tally-append f (packet_at slots h) (segments_at slots (xs ++ ys)),
+    )
 
 listed : (slots : List (Option Packet)) (xs : List ℕ) → flat_map (λ k. k) (map (packet_at slots) xs) ≡ segments_at slots xs
 listed slots [] = refl
 listed slots (h ∷ xs) = ap (λ l. packet_at slots h ++ l) (listed slots xs)
 
 -- the segments of all that waits in these lists
-tally_in : (f : Segment → Bool) (slots : List (Option Packet)) (lists : List (List ℕ)) → tally f (segments_listed (packets_in slots lists)) ≡ tally f (segments_at slots (joined lists))
+tally_in : (f : Segment → Bool) (slots : List (Option Packet)) (lists : List (List ℕ)) → tally f (segments_listed (packets_in slots lists))
+    ≡ tally f (segments_at slots (joined lists))
 tally_in f slots [] = refl
 tally_in f slots (xs ∷ lists) =
     let first : tally f (flat_map (λ k. k) (map (packet_at slots) xs)) ≡ tally f (segments_at slots xs) = ap (tally f) (listed slots xs) in
-    omega (arith, first, tally_in f slots lists, tally_at f slots xs (joined lists), tally-append f (flat_map (λ k. k) (map (packet_at slots) xs)) (segments_listed (packets_in slots lists)))
+    omega (
+      arith,
+      first,
+      tally_in f slots lists,
+      tally_at f slots xs (joined lists),
+      tally-append f (flat_map (λ k. k) (map (packet_at slots) xs)) (segments_listed (packets_in slots lists)),
+    )
 
 -- in rings and transmit lists together
-tally_waiting : (f : Segment → Bool) (slots : List (Option Packet)) (lists : Lists) → tally f (segments_listed (packets_in slots lists.rings) ++ segments_listed (packets_in slots lists.outboxes)) ≡ tally f (segments_at slots (waiting lists))
+tally_waiting : (f : Segment → Bool) (slots : List (Option Packet)) (lists : Lists) →
+    tally f (segments_listed (packets_in slots lists.rings) ++ segments_listed (packets_in slots lists.outboxes))
+    ≡ tally f (segments_at slots (waiting lists))
 tally_waiting f slots lists =
     omega (
       arith,
@@ -153,20 +181,25 @@ tally_waiting f slots lists =
     )
 
 -- what waits is all that there is
-pub idle_counts : (slots : List (Option Packet)) (lists : Lists) → ((h : ℕ) → occurs h (waiting lists) ≡ in_slot (slice_get slots h)) → CountSame (segments_listed (packets_in slots lists.rings) ++ segments_listed (packets_in slots lists.outboxes)) (segments_held slots)
+pub idle_counts : (slots : List (Option Packet)) (lists : Lists) → ((h : ℕ) → occurs h (waiting lists) ≡ in_slot (slice_get slots h)) →
+    CountSame (segments_listed (packets_in slots lists.rings) ++ segments_listed (packets_in slots lists.outboxes)) (segments_held slots)
 idle_counts slots lists each f = tally_waiting f slots lists ∙ spread f (waiting lists) slots each
 
 -- ---- at any time
 
-held_at : (slots : List (Option Packet)) (registers : List (Option ℕ)) → segments_held (map (register_at slots) registers) ≡ segments_at slots (handles_held registers)
+held_at : (slots : List (Option Packet)) (registers : List (Option ℕ)) → segments_held (map (register_at slots) registers)
+    ≡ segments_at slots (handles_held registers)
 held_at slots [] = refl
 held_at slots (None ∷ registers) = held_at slots registers
 held_at slots (Some h ∷ registers) = ap (λ l. packet_at slots h ++ l) (held_at slots registers)
 
 -- the packets of the registers and the lists are all that there are
-pub live_counts : (slots : List (Option Packet)) (registers : List (Option ℕ)) (lists : Lists) → StandOnce slots registers lists → CountSame (segments_held (map (register_at slots) registers) ++ (segments_listed (packets_in slots lists.rings) ++ segments_listed (packets_in slots lists.outboxes))) (segments_held slots)
+pub live_counts : (slots : List (Option Packet)) (registers : List (Option ℕ)) (lists : Lists) → StandOnce slots registers lists →
+    CountSame (segments_held (map (register_at slots) registers) ++ (segments_listed (packets_in slots lists.rings)
+    ++ segments_listed (packets_in slots lists.outboxes))) (segments_held slots)
 live_counts slots registers lists stand f =
-    let held : tally f (segments_held (map (register_at slots) registers)) ≡ tally f (segments_at slots (handles_held registers)) = ap (tally f) (held_at slots registers) in
+    let held : tally f (segments_held (map (register_at slots) registers)) ≡ tally f (segments_at slots (handles_held registers)) =
+    ap (tally f) (held_at slots registers) in
     let all = spread f (handles_held registers ++ waiting lists) slots (λ h. occurs-append h (handles_held registers) (waiting lists) ∙ stand h) in
     omega (
       arith,
@@ -174,7 +207,8 @@ live_counts slots registers lists stand f =
       all,
       tally_waiting f slots lists,
       tally_at f slots (handles_held registers) (waiting lists),
-      tally-append f (segments_held (map (register_at slots) registers)) (segments_listed (packets_in slots lists.rings) ++ segments_listed (packets_in slots lists.outboxes)),
+      tally-append f (segments_held (map (register_at slots) registers)) (segments_listed (packets_in slots lists.rings)
+          ++ segments_listed (packets_in slots lists.outboxes)),
     )
 
 once_if : (b : Bool) → one_if b ≡ once b

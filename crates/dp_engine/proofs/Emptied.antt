@@ -12,7 +12,8 @@ use Rattle.dp_engine.specs.Handles.{Core, moved}
 use Rattle.dp_engine.specs.Schemes.{Scheme}
 use Rattle.dp_engine.specs.Spaces.{SpaceView}
 use Rattle.dp_engine.specs.Tallies.{listed_count}
-use Rattle.dp_engine.specs.Engines.{EngineState, engine_of, IsEngine, over_ports, sent_by, records_of, sum, tallies_at, sent_at, drained, left_at, with_left, flushed}
+use Rattle.dp_engine.specs.Engines.{EngineState, engine_of, IsEngine, over_ports, sent_by, records_of, sum, tallies_at, sent_at, drained, left_at, with_left}
+use Rattle.dp_engine.specs.Engines.{flushed}
 use Rattle.dp_engine.proofs.Writing.{at_place}
 use Rattle.dp_engine.proofs.Resting.{length_set, left_rests, sent_rests}
 use Rattle.dp_engine.specs.Laws.{known}

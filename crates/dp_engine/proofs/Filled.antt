@@ -16,10 +16,14 @@ pub fills_next : {X V : Type 0} → (P : X → V → Type 0) (xs : List X) (slot
 fills_next P [] slots i d v inside room are holds = absurd (omega (arith, inside))
 fills_next P (x ∷ xs) [] i d v inside room are holds = absurd (omega (arith, room))
 fills_next P (x ∷ xs) (o ∷ slots) zero d v inside room are holds = (holds, are.1)
-fills_next P (x ∷ xs) (o ∷ slots) (suc i) d v inside room are holds = (are.0, fills_next P xs slots i d v (omega (arith, inside)) (omega (arith, room)) are.1 holds)
+fills_next P (x ∷ xs) (o ∷ slots) (suc i) d v inside room are holds = (
+  are.0,
+  fills_next P xs slots i d v (omega (arith, inside)) (omega (arith, room)) are.1 holds,
+)
 
 -- which was empty
-pub next_empty : {X V : Type 0} → (P : X → V → Type 0) (xs : List X) (slots : List (Option V)) (i : ℕ) (o : Option V) → i < length xs → i < length slots → AreFilled P (take i xs) slots → get_or slots i o ≡ None
+pub next_empty : {X V : Type 0} → (P : X → V → Type 0) (xs : List X) (slots : List (Option V)) (i : ℕ) (o : Option V) → i < length xs → i < length slots →
+    AreFilled P (take i xs) slots → get_or slots i o ≡ None
 next_empty P [] slots i o inside room are = absurd (omega (arith, inside))
 next_empty P (x ∷ xs) [] i o inside room are = absurd (omega (arith, room))
 next_empty P (x ∷ xs) (s ∷ slots) zero o inside room are = are.0
@@ -37,7 +41,8 @@ filled_count P (x ∷ xs) (None ∷ slots) are = absurd are.0
 filled_count P (x ∷ xs) (Some v ∷ slots) are = let more = filled_count P xs slots are.1 in omega arith
 
 -- what all of them are
-each_filled : {X V : Type 0} → (P : X → V → Type 0) (Q : V → Type 0) → ((x : X) (v : V) → P x v → Q v) → (xs : List X) (slots : List (Option V)) → AreFilled P xs slots → AllByRecursion (λ o. IfSome o Q) slots
+each_filled : {X V : Type 0} → (P : X → V → Type 0) (Q : V → Type 0) → ((x : X) (v : V) → P x v → Q v) → (xs : List X) (slots : List (Option V)) →
+    AreFilled P xs slots → AllByRecursion (λ o. IfSome o Q) slots
 each_filled P Q step [] [] are = tt
 each_filled P Q step [] (o ∷ slots) are = (subst (λ (s : Option _). IfSome s Q) (sym are.0) tt, each_filled P Q step [] slots are.1)
 each_filled P Q step (x ∷ xs) [] are = absurd are
@@ -80,20 +85,25 @@ all_take P xs zero all = tt
 all_take P [] (suc i) all = tt
 all_take P (x ∷ xs) (suc i) all = (all.0, all_take P xs i all.1)
 
-pub less_left : {X : Type 0} → (f : X → ℕ) (xs : List X) (i : ℕ) (d : X) (new mid old : ℕ) → i < length xs → new + f (get_or xs i d) ≡ mid → mid + total f xs ≡ old + total f (drop i xs)
+pub less_left : {X : Type 0} → (f : X → ℕ) (xs : List X) (i : ℕ) (d : X) (new mid old : ℕ) → i < length xs → new + f (get_or xs i d) ≡ mid →
+    mid + total f xs ≡ old + total f (drop i xs)
     → new + total f xs ≡ old + total f (drop (i + 1) xs)
 less_left f xs i d new mid old inside less were = let more = total_more f xs i d inside in omega arith
 
-pub ring_filled : (home here : Home) (counts : List ℕ) (slots : List (Option RingView)) (k : ℕ) (v : RingView) (o : Option RingView) → k < length counts → k < length slots → here ≡ home
-    → AreFilled (IsNewRing home) (take k counts) slots → IsNewRing here (get_or counts k 0) v → o ≡ Some v → AreFilled (IsNewRing home) (take (k + 1) counts) (slice_set slots k o)
+pub ring_filled : (home here : Home) (counts : List ℕ) (slots : List (Option RingView)) (k : ℕ) (v : RingView) (o : Option RingView) → k < length counts →
+    k < length slots → here ≡ home
+    → AreFilled (IsNewRing home) (take k counts) slots → IsNewRing here (get_or counts k 0) v → o ≡ Some v →
+    AreFilled (IsNewRing home) (take (k + 1) counts) (slice_set slots k o)
 ring_filled home here counts slots k v o inside room same are new is =
     let one : suc k ≡ k + 1 = omega arith in
     subst (λ (n : ℕ). AreFilled (IsNewRing home) (take n counts) (slice_set slots k o)) one
     (subst (λ (q : Option RingView). AreFilled (IsNewRing home) (take (suc k) counts) (slice_set slots k q)) (sym is)
     (fills_next (IsNewRing home) counts slots k 0 v inside room are (subst (λ (h : Home). IsNewRing h (get_or counts k 0) v) same new)))
 
-pub pool_filled : (home here : Home) (specs : List PoolSpec) (slots : List (Option PoolView)) (k : ℕ) (d : PoolSpec) (v : PoolView) (o : Option PoolView) → k < length specs → k < length slots → here ≡ home
-    → AreFilled (IsNewPool home) (take k specs) slots → IsNewPool here (get_or specs k d) v → o ≡ Some v → AreFilled (IsNewPool home) (take (k + 1) specs) (slice_set slots k o)
+pub pool_filled : (home here : Home) (specs : List PoolSpec) (slots : List (Option PoolView)) (k : ℕ) (d : PoolSpec) (v : PoolView) (o : Option PoolView) →
+    k < length specs → k < length slots → here ≡ home
+    → AreFilled (IsNewPool home) (take k specs) slots → IsNewPool here (get_or specs k d) v → o ≡ Some v →
+    AreFilled (IsNewPool home) (take (k + 1) specs) (slice_set slots k o)
 pool_filled home here specs slots k d v o inside room same are new is =
     let one : suc k ≡ k + 1 = omega arith in
     subst (λ (n : ℕ). AreFilled (IsNewPool home) (take n specs) (slice_set slots k o)) one

@@ -1,5 +1,6 @@
 -- The first ring that has an entry, where rings change.
-use Rattle.std.proofs.Common.{◌≡◌, ◌≢◌, ℕ, suc, ◌+◌, ◌<◌, ◌≤◌, cond, Bool, true, false, not, List, length, Some, None, refl, sym, ◌∙◌, ap, arith, set, ltb, [], ◌∷◌, ◌++◌, length-append}
+use Rattle.std.proofs.Common.{◌≡◌, ◌≢◌, ℕ, suc, ◌+◌, ◌<◌, ◌≤◌, cond, Bool, true, false, not, List, length, Some, None, refl, sym, ◌∙◌, ap, arith, set, ltb}
+use Rattle.std.proofs.Common.{[], ◌∷◌, ◌++◌, length-append}
 use Rattle.std.specs.Prelude.{◌==◌, nat_lt, if◌then◌else◌}
 use Rattle.std.specs.List.{position, position_or_len}
 use Rattle.std.proofs.lemmas.List.{length-set, get_or-set_other, get_or-set_same, set-get_or}
@@ -84,7 +85,8 @@ pub stays : (rings : List RingView) (k : ℕ) (r : RingView) → first_place rin
 stays rings k r lt there =
     position_or_len_is is_waiting (set rings k r) (first_place rings) no_ring (omega (arith, length-set rings k r, within rings))
     (λ j l. below rings k j r (omega (arith, l, lt)) l)
-    (λ l. ap is_waiting (get_or-set_other rings k (first_place rings) r no_ring (λ e. omega (arith, lt, e))) ∙ passes_at_first is_waiting rings no_ring (omega (arith, lt, there)))
+    (λ l. ap is_waiting (get_or-set_other rings k (first_place rings) r no_ring (λ e. omega (arith, lt, e)))
+    ∙ passes_at_first is_waiting rings no_ring (omega (arith, lt, there)))
 
 -- it does not come before a changed one, where it did not
 pub not_before : (rings : List RingView) (k : ℕ) (r : RingView) → k ≤ first_place rings → k < length rings → k ≤ first_place (set rings k r)
@@ -92,14 +94,16 @@ not_before rings k r from there =
     behind (set rings k r) k (omega (arith, length-set rings k r, there)) (λ j l. below rings k j r l (omega (arith, l, from)))
 
 -- a changed one that waits is the first, where it comes before the first
-pub comes_first : (rings : List RingView) (k : ℕ) (r : RingView) → k < first_place rings → k < length rings → is_waiting r ≡ true → first_place (set rings k r) ≡ k
+pub comes_first : (rings : List RingView) (k : ℕ) (r : RingView) → k < first_place rings → k < length rings → is_waiting r ≡ true →
+    first_place (set rings k r) ≡ k
 comes_first rings k r lt there waits =
     position_or_len_is is_waiting (set rings k r) k no_ring (omega (arith, length-set rings k r, there))
     (λ j l. below rings k j r l (omega (arith, l, lt)))
     (λ l. ap is_waiting (get_or-set_same rings k r no_ring there) ∙ waits)
 
 -- the first stays where it is the changed one and still waits, or comes before
-pub no_earlier : (rings : List RingView) (k : ℕ) (r : RingView) → first_place rings ≤ k → k < length rings → is_waiting r ≡ true → first_place (set rings k r) ≡ first_place rings
+pub no_earlier : (rings : List RingView) (k : ℕ) (r : RingView) → first_place rings ≤ k → k < length rings → is_waiting r ≡ true → first_place (set rings k r)
+    ≡ first_place rings
 no_earlier rings k r le there waits = cases (ltb (first_place rings) k) refl
   where
     cases : (b : Bool) → ltb (first_place rings) k ≡ b → first_place (set rings k r) ≡ first_place rings
@@ -107,7 +111,8 @@ no_earlier rings k r le there waits = cases (ltb (first_place rings) k) refl
     cases false e =
         let l : k ≤ first_place rings = ltb-false _ _ e in
         let same : k ≡ first_place rings = omega (arith, l, le) in
-        sym (here (set rings k r) k (not_before rings k r l there) (omega (arith, length-set rings k r, there)) (ap is_waiting (get_or-set_same rings k r no_ring there) ∙ waits)) ∙ same
+        sym (here (set rings k r) k (not_before rings k r l there) (omega (arith, length-set rings k r, there))
+        (ap is_waiting (get_or-set_same rings k r no_ring there) ∙ waits)) ∙ same
 
 -- ---- what is answered
 
@@ -133,25 +138,32 @@ none_found rings le = go (ltb (first_place rings) (length rings)) refl
 
 -- a ring that took an entry waits, so it is the first where it comes before the first; where it took none all is as before
 pub record IsPut (rings : List RingView) (k entry : ℕ) (taken : Bool) : Type 0 where
-  pub earlier : taken ≡ true → k < first_place rings → k ≡ first_place (set rings k (if nat_lt 0 (room_in (ring_at rings k)) then with_more (ring_at rings k) (entry ∷ []) else ring_at rings k))
-  pub later : taken ≡ true → first_place rings ≤ k → first_place rings ≡ first_place (set rings k (if nat_lt 0 (room_in (ring_at rings k)) then with_more (ring_at rings k) (entry ∷ []) else ring_at rings k))
-  pub full : taken ≡ false → first_place rings ≡ first_place (set rings k (if nat_lt 0 (room_in (ring_at rings k)) then with_more (ring_at rings k) (entry ∷ []) else ring_at rings k))
+  pub earlier : taken ≡ true → k < first_place rings → k ≡ first_place
+      (set rings k (if nat_lt 0 (room_in (ring_at rings k)) then with_more (ring_at rings k) (entry ∷ []) else ring_at rings k))
+  pub later : taken ≡ true → first_place rings ≤ k → first_place rings
+      ≡ first_place (set rings k (if nat_lt 0 (room_in (ring_at rings k)) then with_more (ring_at rings k) (entry ∷ []) else ring_at rings k))
+  pub full : taken ≡ false → first_place rings ≡ first_place (set rings k
+      (if nat_lt 0 (room_in (ring_at rings k)) then with_more (ring_at rings k) (entry ∷ []) else ring_at rings k))
 
 more_waits : (r : RingView) (entry : ℕ) → is_waiting (with_more r (entry ∷ [])) ≡ true
-more_waits r entry = waits_is (with_more r (entry ∷ [])) (λ e. (let long : length (r.entries ++ entry ∷ []) ≡ length r.entries + 1 = length-append r.entries (entry ∷ []) in omega (arith, long, e)))
+more_waits r entry = waits_is (with_more r (entry ∷ [])) (λ e. (let long : length (r.entries ++ entry ∷ []) ≡ length r.entries + 1 =
+    length-append r.entries (entry ∷ []) in omega (arith, long, e)))
 
 pub put_is : (rings : List RingView) (k entry : ℕ) (taken : Bool) → k < length rings → taken ≡ nat_lt 0 (room_in (ring_at rings k)) → IsPut rings k entry taken
 put_is rings k entry taken there is = record {
   earlier = λ t lt. (
       let room : nat_lt 0 (room_in (ring_at rings k)) ≡ true = sym is ∙ t in
-      sym (comes_first rings k _ lt there (ap (λ b. is_waiting (if b then with_more (ring_at rings k) (entry ∷ []) else ring_at rings k)) room ∙ more_waits (ring_at rings k) entry))
+      sym (comes_first rings k _ lt there (ap (λ b. is_waiting (if b then with_more (ring_at rings k) (entry ∷ []) else ring_at rings k)) room
+      ∙ more_waits (ring_at rings k) entry))
       );
   later = λ t le. (
       let room : nat_lt 0 (room_in (ring_at rings k)) ≡ true = sym is ∙ t in
-      sym (no_earlier rings k _ le there (ap (λ b. is_waiting (if b then with_more (ring_at rings k) (entry ∷ []) else ring_at rings k)) room ∙ more_waits (ring_at rings k) entry))
+      sym (no_earlier rings k _ le there (ap (λ b. is_waiting (if b then with_more (ring_at rings k) (entry ∷ []) else ring_at rings k)) room
+      ∙ more_waits (ring_at rings k) entry))
       );
   full = λ t. (
       let room : nat_lt 0 (room_in (ring_at rings k)) ≡ false = sym is ∙ t in
-      sym (ap (λ b. first_place (set rings k (if b then with_more (ring_at rings k) (entry ∷ []) else ring_at rings k))) room ∙ ap first_place (set-get_or rings k no_ring))
+      sym (ap (λ b. first_place (set rings k (if b then with_more (ring_at rings k) (entry ∷ []) else ring_at rings k))) room
+      ∙ ap first_place (set-get_or rings k no_ring))
       );
 }

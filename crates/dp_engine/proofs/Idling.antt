@@ -6,7 +6,8 @@ use Rattle.dp_ring.specs.Rings.{RingView}
 use Rattle.dp_model.specs.Packets.{Packet}
 use Rattle.dp_model.specs.Stores.{Store}
 use Rattle.dp_mbuf.specs.Mbufs.{HasNone}
-use Rattle.dp_engine.specs.Handles.{packet_at, handles_held, occurs, in_slot, joined, waiting, packets_in, Frames, entries_of, lists_of, StandOnce, Core, Ran, core_of}
+use Rattle.dp_engine.specs.Handles.{packet_at, handles_held, occurs, in_slot, joined, waiting, packets_in, Frames, entries_of, lists_of, StandOnce, Core, Ran}
+use Rattle.dp_engine.specs.Handles.{core_of}
 use Rattle.dp_engine.proofs.Counts.{idle_handles}
 
 abbrev pub AreEmpty : List RingView → Type 0

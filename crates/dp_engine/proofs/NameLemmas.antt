@@ -1,5 +1,6 @@
 -- The names of zones, and which come after which.
-use Rattle.std.proofs.Common.{◌≡◌, ℕ, zero, suc, ◌+◌, ◌*◌, ◌<◌, ◌≤◌, Bool, true, false, cond, ◌||◌, List, [], ◌∷◌, ◌++◌, length, refl, sym, ap, subst, ◌∙◌, arith}
+use Rattle.std.proofs.Common.{◌≡◌, ℕ, zero, suc, ◌+◌, ◌*◌, ◌<◌, ◌≤◌, Bool, true, false, cond, ◌||◌, List, [], ◌∷◌, ◌++◌, length, refl, sym, ap, subst, ◌∙◌}
+use Rattle.std.proofs.Common.{arith}
 use Rattle.std.specs.Prelude.{codes}
 use Rattle.std.specs.Str.{bytes_eq}
 use Rattle.std.proofs.lemmas.Bool.{false_from_ne_true}
@@ -64,7 +65,8 @@ length_more (n ∷ names) name = let more = length_more names name in omega arit
 pub fresh : (name : List ℕ) (table : List Reserved) → AllBefore (rank name) (names_of table) → has_name name table ≡ false
 fresh name [] all = refl
 fresh name (r ∷ table) all =
-    let off : bytes_eq r.name name ≡ false = false_from_ne_true (bytes_eq r.name name) (λ on. let same = ap rank ((bytes_eq-Decides r.name name).0 on) in let low = all.0 in omega arith) in
+    let off : bytes_eq r.name name ≡ false = false_from_ne_true (bytes_eq r.name name) (λ on. let same = ap rank ((bytes_eq-Decides r.name name).0 on) in
+    let low = all.0 in omega arith) in
     ap (λ (b : Bool). b || has_name name table) off ∙ fresh name table all.1
 
 -- ---- the next zones of a stack
@@ -75,29 +77,39 @@ spare_next = record { named = refl; after = tt; few = omega arith }
 pub spare_first : AllBefore 1485 (codes "spare" ∷ [])
 spare_first = (omega arith, tt)
 
-pub ring_next : (kind : Kind) (k : ℕ) (names : List (List ℕ)) → k < 8 → AllBefore (first_of kind + 10 * k) names → length names < 64 → IsNext (ring_name kind k) names
-ring_next kind k names low all room = record { named = ring_named kind k low; after = subst (λ (r : ℕ). AllBefore r names) (sym (ring_rank kind k low)) all; few = room }
+pub ring_next : (kind : Kind) (k : ℕ) (names : List (List ℕ)) → k < 8 → AllBefore (first_of kind + 10 * k) names → length names < 64 →
+    IsNext (ring_name kind k) names
+ring_next kind k names low all room = record {
+  named = ring_named kind k low;
+  after = subst (λ (r : ℕ). AllBefore r names) (sym (ring_rank kind k low)) all;
+  few = room;
+}
 
 pub ring_taken : (kind : Kind) (k : ℕ) (names new : List (List ℕ)) → k < 8 → AllBefore (first_of kind + 10 * k) names → new ≡ names ++ ring_name kind k ∷ []
     → AllBefore (first_of kind + 10 * (k + 1)) new × (length new ≡ length names + 1)
 ring_taken kind k names new low all is =
     let at = ring_rank kind k low in (
-      subst (AllBefore (first_of kind + 10 * (k + 1))) (sym is) (before_more (first_of kind + 10 * (k + 1)) names (ring_name kind k) (before_later (first_of kind + 10 * k) (first_of kind + 10 * (k + 1)) names (omega arith) all) (omega arith)),
+      subst (AllBefore (first_of kind + 10 * (k + 1))) (sym is) (before_more (first_of kind + 10 * (k + 1)) names (ring_name kind k)
+          (before_later (first_of kind + 10 * k) (first_of kind + 10 * (k + 1)) names (omega arith) all) (omega arith)),
       ap length is ∙ length_more names (ring_name kind k),
     )
 
-pub object_next : (k : ℕ) (names : List (List ℕ)) → k < 8 → AllBefore (first_pool + 10 * k) names → length names + 2 ≤ 64 → IsNext (object_name (pool_name k)) names
+pub object_next : (k : ℕ) (names : List (List ℕ)) → k < 8 → AllBefore (first_pool + 10 * k) names → length names + 2 ≤ 64 →
+    IsNext (object_name (pool_name k)) names
 object_next k names low all room = record {
   named = object_named k low;
   after = subst (λ (r : ℕ). AllBefore r names) (sym (object_rank k low)) (before_later (3485 + 10 * k) (3489 + 10 * k) names (omega arith) all);
   few = omega arith;
 }
 
-pub queue_next : (k : ℕ) (names : List (List ℕ)) → k < 8 → AllBefore (first_pool + 10 * k) names → length names + 2 ≤ 64 → IsNext (queue_name (pool_name k)) (names ++ object_name (pool_name k) ∷ [])
+pub queue_next : (k : ℕ) (names : List (List ℕ)) → k < 8 → AllBefore (first_pool + 10 * k) names → length names + 2 ≤ 64 →
+    IsNext (queue_name (pool_name k)) (names ++ object_name (pool_name k) ∷ [])
 queue_next k names low all room =
     let at = object_rank k low in record {
       named = queue_named k low;
-      after = subst (λ (r : ℕ). AllBefore r (names ++ object_name (pool_name k) ∷ [])) (sym (queue_rank k low)) (before_more (3490 + 10 * k) names (object_name (pool_name k)) (before_later (3485 + 10 * k) (3490 + 10 * k) names (omega arith) all) (omega arith));
+      after = subst (λ (r : ℕ). AllBefore r (names ++ object_name (pool_name k) ∷ [])) (sym (queue_rank k low))
+          (before_more (3490 + 10 * k) names (object_name (pool_name k)) (before_later (3485 + 10 * k) (3490 + 10 * k) names (omega arith) all)
+          (omega arith));
       few = let more = length_more names (object_name (pool_name k)) in omega arith;
     }
 
@@ -105,14 +117,16 @@ pub two_more : (k : ℕ) (names : List (List ℕ)) → length (names ++ object_n
 two_more k [] = refl
 two_more k (n ∷ names) = let more = two_more k names in omega arith
 
-pub pool_taken : (k : ℕ) (names new : List (List ℕ)) → k < 8 → AllBefore (first_pool + 10 * k) names → new ≡ names ++ object_name (pool_name k) ∷ queue_name (pool_name k) ∷ []
+pub pool_taken : (k : ℕ) (names new : List (List ℕ)) → k < 8 → AllBefore (first_pool + 10 * k) names →
+    new ≡ names ++ object_name (pool_name k) ∷ queue_name (pool_name k) ∷ []
     → AllBefore (first_pool + 10 * (k + 1)) new × (length new ≡ length names + 2)
 pool_taken k names new low all is =
     let object = object_rank k low in let queue = queue_rank k low in
     let later = before_later (3485 + 10 * k) (3485 + 10 * (k + 1)) names (omega arith) all in
     (subst (AllBefore (first_pool + 10 * (k + 1))) (sym is) (both names later (omega arith) (omega arith)), ap length is ∙ two_more k names)
   where
-    both : (names : List (List ℕ)) → AllBefore (3485 + 10 * (k + 1)) names → rank (object_name (pool_name k)) < 3485 + 10 * (k + 1) → rank (queue_name (pool_name k)) < 3485 + 10 * (k + 1)
+    both : (names : List (List ℕ)) → AllBefore (3485 + 10 * (k + 1)) names → rank (object_name (pool_name k)) < 3485 + 10 * (k + 1) →
+        rank (queue_name (pool_name k)) < 3485 + 10 * (k + 1)
         → AllBefore (3485 + 10 * (k + 1)) (names ++ object_name (pool_name k) ∷ queue_name (pool_name k) ∷ [])
     both [] all a b = (a, (b, tt))
     both (n ∷ names) all a b = (all.0, both names all.1 a b)
@@ -137,6 +151,7 @@ pub without_few : (name : List ℕ) (table : List Reserved) → length (names_of
 without_few name [] = omega arith
 without_few name (x ∷ table) = go (is_named name x) (without_few name table)
   where
-    go : (b : Bool) → length (names_of (without_name name table)) ≤ length (names_of table) → length (names_of (cond b table (x ∷ without_name name table))) ≤ suc (length (names_of table))
+    go : (b : Bool) → length (names_of (without_name name table)) ≤ length (names_of table) →
+        length (names_of (cond b table (x ∷ without_name name table))) ≤ suc (length (names_of table))
     go true rest = omega arith
     go false rest = omega arith

@@ -93,7 +93,8 @@ module _ (home : Home) (size : ℕ) (env : Environment) (space : SpaceView) (par
     rest = start_rest s.setting core.state.world tables (subst (λ (e : Environment). IsStart e core.state.world) (sym same) starts);
   }
 
-  pub engine_first : (s : Scheme) → s.setting.env ≡ env → fault_of s.setting.env ≡ None → TablesFit s.setting → IsEngine s core space 0 (replicate 8 no_tallies) (replicate 8 0)
+  pub engine_first : (s : Scheme) → s.setting.env ≡ env → fault_of s.setting.env ≡ None → TablesFit s.setting →
+      IsEngine s core space 0 (replicate 8 no_tallies) (replicate 8 0)
   engine_first s same within tables =
       let queued : listed_count core.state.world.rings ≡ 0 = ap listed_count starts.rings ∙ none_listed env.rings in
       let sent : listed_count core.state.world.outboxes ≡ 0 = ap listed_count starts.outboxes ∙ none_listed env.ports in

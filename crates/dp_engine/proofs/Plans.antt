@@ -30,7 +30,8 @@ pub record IsPlan (specs : List PoolSpec) (lists rings : List ℕ) (size i : ℕ
   pub objects : 192 ≤ zone_bytes (objects_len s)
   pub queue : (0 < queue_len s) × (queue_len s ≤ 1073741824)
 
-plan_of : (e : Environment) (size i : ℕ) (d : PoolSpec) → fault_of e ≡ None → bytes_needed e ≤ size → i + 1 ≡ length e.pools → IsPlan e.pools (list_counts e) (ring_counts e) size i (get_or e.pools i d)
+plan_of : (e : Environment) (size i : ℕ) (d : PoolSpec) → fault_of e ≡ None → bytes_needed e ≤ size → i + 1 ≡ length e.pools →
+    IsPlan e.pools (list_counts e) (ring_counts e) size i (get_or e.pools i d)
 plan_of e size i d none room last =
     let k = known e none in
     let s = get_or e.pools i d in
@@ -54,7 +55,8 @@ plan_of e size i d none room last =
       queue = (any, omega (arith, queue, most));
     }
 
-pub plan : (e : Environment) (specs : List PoolSpec) (lists rings : List ℕ) (size i : ℕ) (d : PoolSpec) → fault_of e ≡ None → specs ≡ e.pools → lists ≡ list_counts e → rings ≡ ring_counts e → bytes_needed e ≤ size → i + 1 ≡ length specs
+pub plan : (e : Environment) (specs : List PoolSpec) (lists rings : List ℕ) (size i : ℕ) (d : PoolSpec) → fault_of e ≡ None → specs ≡ e.pools →
+    lists ≡ list_counts e → rings ≡ ring_counts e → bytes_needed e ≤ size → i + 1 ≡ length specs
     → IsPlan specs lists rings size i (get_or specs i d)
 plan e specs lists rings size i d none ps ls rs room last =
     subst (λ (xs : List PoolSpec). IsPlan xs lists rings size i (get_or xs i d)) (sym ps)
@@ -66,7 +68,8 @@ pub some_pools : (e : Environment) → fault_of e ≡ None → 1 ≤ length e.po
 some_pools e none = (known e none).pools.0
 
 pub laid_out : (e : Environment) (home : Home) (size : ℕ) (v : SpaceView) (parts : Parts) → fault_of e ≡ None → v.home ≡ home → v.size ≡ size
-    → AreFilled (IsNewPool home) e.pools parts.pools → AreFilled (IsNewRing home) (ring_counts e) parts.rings → AreFilled (IsNewRing home) (list_counts e) parts.lists
+    → AreFilled (IsNewPool home) e.pools parts.pools → AreFilled (IsNewRing home) (ring_counts e) parts.rings →
+    AreFilled (IsNewRing home) (list_counts e) parts.lists
     → v.out ≡ 2 * length e.pools + length (ring_counts e) + length (list_counts e) → IsLaidOut home size e v parts
 laid_out e home size v parts none at bytes pools rings lists out =
     let k = known e none in
@@ -80,17 +83,25 @@ laid_out e home size v parts none at bytes pools rings lists out =
       pools = specs_are home e.pools parts.pools pools;
       rings = rings;
       lists = lists;
-      stand = subst (λ (h : Home). PartsIn h parts) (sym at) (pools_stand home e.pools parts.pools pools, rings_stand home (ring_counts e) parts.rings rings, rings_stand home (list_counts e) parts.lists lists);
+      stand = subst (λ (h : Home). PartsIn h parts) (sym at) (
+        pools_stand home e.pools parts.pools pools,
+        rings_stand home (ring_counts e) parts.rings rings,
+        rings_stand home (list_counts e) parts.lists lists,
+      );
       out = omega (arith, many_pools, many_rings, many_lists, out);
     }
 
 -- the rings are those of a list of the environment, in its region
-pub rings_of : (here home : Home) (counts wanted : List ℕ) (slots : List (Option RingView)) → here ≡ home → counts ≡ wanted → AreFilled (IsNewRing here) counts slots → AreFilled (IsNewRing home) wanted slots
-rings_of here home counts wanted slots at is are = subst (λ (h : Home). AreFilled (IsNewRing h) wanted slots) at (subst (λ (xs : List ℕ). AreFilled (IsNewRing here) xs slots) is are)
+pub rings_of : (here home : Home) (counts wanted : List ℕ) (slots : List (Option RingView)) → here ≡ home → counts ≡ wanted →
+    AreFilled (IsNewRing here) counts slots → AreFilled (IsNewRing home) wanted slots
+rings_of here home counts wanted slots at is are = subst (λ (h : Home). AreFilled (IsNewRing h) wanted slots) at
+    (subst (λ (xs : List ℕ). AreFilled (IsNewRing here) xs slots) is are)
 
 -- with the last of the pools
-pub last_filled : (home first here : Home) (specs wanted : List PoolSpec) (slots : List (Option PoolView)) (i : ℕ) (d : PoolSpec) (v : PoolView) (o : Option PoolView) → i + 1 ≡ length specs → i < length slots → here ≡ first → first ≡ home → specs ≡ wanted
-    → AreFilled (IsNewPool first) (take i specs) slots → IsNewPool here (get_or specs i d) v → o ≡ Some v → AreFilled (IsNewPool home) wanted (slice_set slots i o)
+pub last_filled : (home first here : Home) (specs wanted : List PoolSpec) (slots : List (Option PoolView)) (i : ℕ) (d : PoolSpec) (v : PoolView)
+    (o : Option PoolView) → i + 1 ≡ length specs → i < length slots → here ≡ first → first ≡ home → specs ≡ wanted
+    → AreFilled (IsNewPool first) (take i specs) slots → IsNewPool here (get_or specs i d) v → o ≡ Some v →
+    AreFilled (IsNewPool home) wanted (slice_set slots i o)
 last_filled home first here specs wanted slots i d v o last room at back ps are new is =
     subst (λ (h : Home). AreFilled (IsNewPool h) wanted (slice_set slots i o)) back
     (subst (λ (xs : List PoolSpec). AreFilled (IsNewPool first) xs (slice_set slots i o)) (take_all (i + 1) specs (omega arith) ∙ ps)

@@ -20,7 +20,8 @@ none_present (None ∷ slots) all = refl
 none_present (Some p ∷ slots) all = let no : Some p ≡ None = all.0 in cc
 
 spec_is : (home : Home) (s : PoolSpec) (p : PoolView) → IsNewPool home s p → spec_of p ≡ s
-spec_is home s p new = let room : p.size - 128 ≡ s.room = let size = new.size in omega arith in λ i. record { count = new.count_is i; cache = new.cache_is i; room = room i }
+spec_is home s p new = let room : p.size - 128 ≡ s.room = let size = new.size in omega arith in
+    λ i. record { count = new.count_is i; cache = new.cache_is i; room = room i }
 
 pub specs_are : (home : Home) (specs : List PoolSpec) (slots : List (Option PoolView)) → AreNew home specs slots → specs_of (present slots) ≡ specs
 specs_are home [] slots are = ap specs_of (none_present slots are)
@@ -39,7 +40,8 @@ first home (s ∷ specs) [] are = absurd are
 first home (s ∷ specs) (None ∷ slots) are = absurd are.0
 first home (s ∷ specs) (Some p ∷ slots) are = (let size = are.0.size in omega arith, first home specs slots are.1)
 
-counts : (home : Home) (specs : List PoolSpec) (slots : List (Option PoolView)) → AreNew home specs slots → sum_by (λ p. length p.objects) (present slots) ≡ sum_by (λ s. s.count) specs
+counts : (home : Home) (specs : List PoolSpec) (slots : List (Option PoolView)) → AreNew home specs slots → sum_by (λ p. length p.objects) (present slots)
+    ≡ sum_by (λ s. s.count) specs
 counts home [] slots are = ap (sum_by (λ p. length p.objects)) (none_present slots are)
 counts home (s ∷ specs) [] are = absurd are
 counts home (s ∷ specs) (None ∷ slots) are = absurd are.0
@@ -53,14 +55,22 @@ none_out zero i = refl
 none_out (suc n) zero = refl
 none_out (suc n) (suc i) = none_out n i
 
-in_all : (home : Home) (specs : List PoolSpec) (slots : List (Option PoolView)) → AreNew home specs slots → (k i : ℕ) → get_or (get_or (present slots) k no_pool).out i false ≡ false
+in_all : (home : Home) (specs : List PoolSpec) (slots : List (Option PoolView)) → AreNew home specs slots →
+    (k i : ℕ) → get_or (get_or (present slots) k no_pool).out i false ≡ false
 in_all home [] slots are k i = ap (λ (ps : List PoolView). get_or (get_or ps k no_pool).out i false) (none_present slots are)
 in_all home (s ∷ specs) [] are k i = absurd are
 in_all home (s ∷ specs) (None ∷ slots) are k i = absurd are.0
 in_all home (s ∷ specs) (Some p ∷ slots) are zero i = ap (λ (out : List _). get_or out i false) are.0.all_in ∙ none_out s.count i
 in_all home (s ∷ specs) (Some p ∷ slots) are (suc k) i = in_all home specs slots are.1 k i
 
-pub ready : (home : Home) (specs : List PoolSpec) (slots : List (Option PoolView)) → 1 ≤ length specs → length specs ≤ 8 → sum_by (λ s. s.count) specs ≤ 65535 → AreNew home specs slots → AreReady slots
+pub ready : (home : Home) (specs : List PoolSpec) (slots : List (Option PoolView)) → 1 ≤ length specs → length specs ≤ 8 →
+    sum_by (λ s. s.count) specs ≤ 65535 → AreNew home specs slots → AreReady slots
 ready home specs slots some few mbufs are =
     let count = present_count home specs slots are in let sum = counts home specs slots are in
-    record { first = first home specs slots are; some = omega arith; few = omega arith; mbufs = omega arith; all_in = λ n. in_all home specs slots are n.pool n.index }
+    record {
+      first = first home specs slots are;
+      some = omega arith;
+      few = omega arith;
+      mbufs = omega arith;
+      all_in = λ n. in_all home specs slots are n.pool n.index;
+    }

@@ -1,5 +1,6 @@
 -- A record that comes to a machine that rests.
-use Rattle.std.proofs.Common.{◌≡◌, ℕ, ◌+◌, ◌<◌, ◌≤◌, Bool, true, false, ◌||◌, List, [], ◌∷◌, length, replicate, Option, Some, None, refl, sym, ◌∙◌, ap, subst, arith, nat_eq, nat_lt}
+use Rattle.std.proofs.Common.{◌≡◌, ℕ, ◌+◌, ◌<◌, ◌≤◌, Bool, true, false, ◌||◌, List, [], ◌∷◌, length, replicate, Option, Some, None, refl, sym, ◌∙◌, ap, subst}
+use Rattle.std.proofs.Common.{arith, nat_eq, nat_lt}
 use Rattle.std.specs.Prelude.{slice_get, slice_set}
 use Rattle.std.specs.List.{list_any, AllByRecursion}
 use Rattle.dp_model.specs.Environments.{room_at}
@@ -18,29 +19,40 @@ pub record Idle (slots : List (Option Packet)) (registers : List (Option ℕ)) (
   pub empty : handles_held registers ≡ []
   pub each : (h : ℕ) → occurs h (waiting lists) ≡ in_slot (slice_get slots h)
 
-pub idle_of : (s : Store) (frames : Frames) (registers : List (Option ℕ)) (numbers : List ℕ) (lists : Lists) (calls : ℕ) (steps : Ran) (core : Core) → core_of s frames registers numbers lists calls steps ≡ core → StandOnce s.slots registers lists → AllByRecursion (λ o. o ≡ None) core.state.packets → Idle s.slots registers lists
+pub idle_of : (s : Store) (frames : Frames) (registers : List (Option ℕ)) (numbers : List ℕ) (lists : Lists) (calls : ℕ) (steps : Ran) (core : Core) →
+    core_of s frames registers numbers lists calls steps ≡ core → StandOnce s.slots registers lists → AllByRecursion (λ o. o ≡ None) core.state.packets →
+    Idle s.slots registers lists
 idle_of s frames registers numbers lists calls steps core is stand idle =
-    let empty : handles_held registers ≡ [] = idle_handles s.slots registers (subst (λ (c : Core). AllByRecursion (λ o. o ≡ None) c.state.packets) (sym is) idle) in
+    let empty : handles_held registers ≡ [] = idle_handles s.slots registers
+    (subst (λ (c : Core). AllByRecursion (λ o. o ≡ None) c.state.packets) (sym is) idle) in
     record {
       empty = empty;
       each = λ h. (let none : occurs h (handles_held registers) ≡ 0 = ap (occurs h) empty in omega (arith, none, stand h));
     }
 
-pub live_same : (s : Store) (frames : Frames) (registers : List (Option ℕ)) (numbers : List ℕ) (lists : Lists) (calls : ℕ) (steps : Ran) (core : Core) → core_of s frames registers numbers lists calls steps ≡ core → Idle s.slots registers lists → CountSame (live (between core.state.world)) (segments_of s)
+pub live_same : (s : Store) (frames : Frames) (registers : List (Option ℕ)) (numbers : List ℕ) (lists : Lists) (calls : ℕ) (steps : Ran) (core : Core) →
+    core_of s frames registers numbers lists calls steps ≡ core → Idle s.slots registers lists → CountSame (live (between core.state.world)) (segments_of s)
 live_same s frames registers numbers lists calls steps core is idle =
     subst (λ (c : Core). CountSame (live (between c.state.world)) (segments_of s)) is (idle_counts s.slots lists idle.each)
 
-pub stand_received : (slots : List (Option Packet)) (registers : List (Option ℕ)) (lists : Lists) (h : ℕ) (k : Packet) → Idle slots registers lists → slice_get slots h ≡ Some None → StandOnce (slice_set slots h (Some k)) (Some h ∷ replicate 7 None) lists
+pub stand_received : (slots : List (Option Packet)) (registers : List (Option ℕ)) (lists : Lists) (h : ℕ) (k : Packet) → Idle slots registers lists →
+    slice_get slots h ≡ Some None → StandOnce (slice_set slots h (Some k)) (Some h ∷ replicate 7 None) lists
 stand_received slots registers lists h k idle free x = omega (arith, idle.each x, slot_filled slots h x k free)
 
-pub state_received : (s : Store) (frames : Frames) (registers : List (Option ℕ)) (numbers : List ℕ) (lists : Lists) (calls : ℕ) (steps : Ran) (core : Core) (port h : ℕ) (k : Packet) (buffers : Buffers) → core_of s frames registers numbers lists calls steps ≡ core → Idle s.slots registers lists → slice_get s.slots h ≡ Some None
-    → (core_of (record s { buffers = buffers; slots = slice_set s.slots h (Some k) }) frames (Some h ∷ replicate 7 None) (port ∷ replicate 7 0) lists (calls + 1) (ran steps.steps steps.cuts 0)).state ≡ first_state k port (record core.state.world { buffers = buffers; calls = core.state.world.calls + 1 })
+pub state_received : (s : Store) (frames : Frames) (registers : List (Option ℕ)) (numbers : List ℕ) (lists : Lists) (calls : ℕ) (steps : Ran) (core : Core)
+    (port h : ℕ) (k : Packet) (buffers : Buffers) → core_of s frames registers numbers lists calls steps ≡ core → Idle s.slots registers lists →
+    slice_get s.slots h ≡ Some None
+    → (core_of (record s { buffers = buffers; slots = slice_set s.slots h (Some k) }) frames (Some h ∷ replicate 7 None) (port ∷ replicate 7 0) lists
+    (calls + 1) (ran steps.steps steps.cuts 0)).state ≡ first_state k port
+    (record core.state.world { buffers = buffers; calls = core.state.world.calls + 1 })
 state_received s frames registers numbers lists calls steps core port h k buffers is idle free =
     let here : packet_at (slice_set s.slots h (Some k)) h ≡ k = ap held_of (get_set_same s.slots h (Some k) None free) in
     let none : occurs h (waiting lists) ≡ 0 = idle.each h ∙ ap in_slot free in
     let f = not_in s.slots h (Some k) lists.rings (omega (arith, none, waits h lists)) in
     let g = not_in s.slots h (Some k) lists.outboxes (omega (arith, none, waits h lists)) in
-    subst (λ (c : Core). (core_of (record s { buffers = buffers; slots = slice_set s.slots h (Some k) }) frames (Some h ∷ replicate 7 None) (port ∷ replicate 7 0) lists (calls + 1) (ran steps.steps steps.cuts 0)).state ≡ first_state k port (record c.state.world { buffers = buffers; calls = c.state.world.calls + 1 })) is
+    subst (λ (c : Core). (core_of (record s { buffers = buffers; slots = slice_set s.slots h (Some k) }) frames (Some h ∷ replicate 7 None)
+    (port ∷ replicate 7 0) lists (calls + 1) (ran steps.steps steps.cuts 0)).state
+    ≡ first_state k port (record c.state.world { buffers = buffers; calls = c.state.world.calls + 1 })) is
     (rw (f, g, here) refl)
 
 -- ---- what the layer answers, and what that is for a machine
@@ -59,31 +71,43 @@ lt_false a b le = search (arith, le)
 lt_true : (a b : ℕ) → a < b → nat_lt a b ≡ true
 lt_true a b lt = search (arith, lt)
 
-pub not_denied : (c : Setting) (s : Store) (state : State) (pool need : ℕ) → s.pools ≡ c.env.pools → CountSame (live state) (segments_of s) → list_any (nat_eq (state.world.calls + 1)) c.pattern ≡ false → need ≤ available s.pools (segments_of s) pool → is_denied c state pool need ≡ false
+pub not_denied : (c : Setting) (s : Store) (state : State) (pool need : ℕ) → s.pools ≡ c.env.pools → CountSame (live state) (segments_of s) →
+    list_any (nat_eq (state.world.calls + 1)) c.pattern ≡ false → need ≤ available s.pools (segments_of s) pool → is_denied c state pool need ≡ false
 not_denied c s state pool need pools same listed le =
-    or_false _ _ listed (lt_false (available c.env.pools (live state) pool) need (rw (available_same c.env.pools (live state) (segments_of s) pool same, ← pools) le))
+    or_false _ _ listed (lt_false (available c.env.pools (live state) pool) need
+    (rw (available_same c.env.pools (live state) (segments_of s) pool same, ← pools) le))
 
-pub denied : (c : Setting) (s : Store) (state : State) (pool need : ℕ) → s.pools ≡ c.env.pools → CountSame (live state) (segments_of s) → list_any (nat_eq (state.world.calls + 1)) c.pattern ≡ false → available s.pools (segments_of s) pool < need → is_denied c state pool need ≡ true
+pub denied : (c : Setting) (s : Store) (state : State) (pool need : ℕ) → s.pools ≡ c.env.pools → CountSame (live state) (segments_of s) →
+    list_any (nat_eq (state.world.calls + 1)) c.pattern ≡ false → available s.pools (segments_of s) pool < need → is_denied c state pool need ≡ true
 denied c s state pool need pools same listed lt =
-    or_right _ _ listed (lt_true (available c.env.pools (live state) pool) need (rw (available_same c.env.pools (live state) (segments_of s) pool same, ← pools) lt))
+    or_right _ _ listed (lt_true (available c.env.pools (live state) pool) need
+    (rw (available_same c.env.pools (live state) (segments_of s) pool same, ← pools) lt))
 
-pub calls_of : (s : Store) (frames : Frames) (registers : List (Option ℕ)) (numbers : List ℕ) (lists : Lists) (calls : ℕ) (steps : Ran) (core : Core) → core_of s frames registers numbers lists calls steps ≡ core → calls ≡ core.state.world.calls
+pub calls_of : (s : Store) (frames : Frames) (registers : List (Option ℕ)) (numbers : List ℕ) (lists : Lists) (calls : ℕ) (steps : Ran) (core : Core) →
+    core_of s frames registers numbers lists calls steps ≡ core → calls ≡ core.state.world.calls
 calls_of s frames registers numbers lists calls steps core is = ap (λ (c : Core). c.state.world.calls) is
 
-pub pools_of : (s : Store) (frames : Frames) (registers : List (Option ℕ)) (numbers : List ℕ) (lists : Lists) (calls : ℕ) (steps : Ran) (core : Core) → core_of s frames registers numbers lists calls steps ≡ core → s.pools ≡ core.pools
+pub pools_of : (s : Store) (frames : Frames) (registers : List (Option ℕ)) (numbers : List ℕ) (lists : Lists) (calls : ℕ) (steps : Ran) (core : Core) →
+    core_of s frames registers numbers lists calls steps ≡ core → s.pools ≡ core.pools
 pools_of s frames registers numbers lists calls steps core is = ap (λ (c : Core). c.pools) is
 
-pub buffers_of : (s : Store) (frames : Frames) (registers : List (Option ℕ)) (numbers : List ℕ) (lists : Lists) (calls : ℕ) (steps : Ran) (core : Core) → core_of s frames registers numbers lists calls steps ≡ core → s.buffers ≡ core.state.world.buffers
+pub buffers_of : (s : Store) (frames : Frames) (registers : List (Option ℕ)) (numbers : List ℕ) (lists : Lists) (calls : ℕ) (steps : Ran) (core : Core) →
+    core_of s frames registers numbers lists calls steps ≡ core → s.buffers ≡ core.state.world.buffers
 buffers_of s frames registers numbers lists calls steps core is = ap (λ (c : Core). c.state.world.buffers) is
 
 -- a machine behind a call that was given
-pub record Given (c : Setting) (s' : Store) (frames : Frames) (registers : List (Option ℕ)) (lists : Lists) (calls : ℕ) (steps : Ran) (core : Core) (pool port h : ℕ) (bytes : List ℕ) : Type 0 where
+pub record Given (c : Setting) (s' : Store) (frames : Frames) (registers : List (Option ℕ)) (lists : Lists) (calls : ℕ) (steps : Ran) (core : Core)
+    (pool port h : ℕ) (bytes : List ℕ) : Type 0 where
   pub stand : StandOnce s'.slots (Some h ∷ replicate 7 None) lists
-  pub state : IsReceived c pool port bytes core.state.world (core_of s' frames (Some h ∷ replicate 7 None) (port ∷ replicate 7 0) lists (calls + 1) (ran steps.steps steps.cuts 0)).state
+  pub state : IsReceived c pool port bytes core.state.world (core_of s' frames (Some h ∷ replicate 7 None) (port ∷ replicate 7 0) lists (calls + 1)
+      (ran steps.steps steps.cuts 0)).state
   pub pools : s'.pools ≡ core.pools
   pub allowed : list_any (nat_eq (calls + 1)) c.pattern ≡ false → is_denied c (between core.state.world) pool (needed c.env.pools pool (length bytes)) ≡ false
 
-pub given : (c : Setting) (s s' : Store) (frames : Frames) (registers : List (Option ℕ)) (numbers : List ℕ) (lists : Lists) (calls : ℕ) (steps : Ran) (core : Core) (pool port h : ℕ) (bytes : List ℕ) → core_of s frames registers numbers lists calls steps ≡ core → StandOnce s.slots registers lists → AllByRecursion (λ o. o ≡ None) core.state.packets → core.pools ≡ c.env.pools → ReceivesInto s pool bytes s' (Some h) → Given c s' frames registers lists calls steps core pool port h bytes
+pub given : (c : Setting) (s s' : Store) (frames : Frames) (registers : List (Option ℕ)) (numbers : List ℕ) (lists : Lists) (calls : ℕ) (steps : Ran)
+    (core : Core) (pool port h : ℕ) (bytes : List ℕ) → core_of s frames registers numbers lists calls steps ≡ core → StandOnce s.slots registers lists →
+    AllByRecursion (λ o. o ≡ None) core.state.packets → core.pools ≡ c.env.pools → ReceivesInto s pool bytes s' (Some h) →
+    Given c s' frames registers lists calls steps core pool port h bytes
 given c s s' frames registers numbers lists calls steps core pool port h bytes is stand rests pools (le, free, ns, buffers, fresh, filled, becomes) =
     let idle = idle_of s frames registers numbers lists calls steps core is stand rests in
     let same = live_same s frames registers numbers lists calls steps core is idle in
@@ -95,15 +119,20 @@ given c s s' frames registers numbers lists calls steps core pool port h bytes i
       state = record {
         numbers = ns;
         buffers = buffers;
-        fresh = rw (← of_env) (fresh_same s.pools (segments_of s) (live (between core.state.world)) pool (needed s.pools pool (length bytes)) ns (λ f. sym (same f)) fresh);
+        fresh = rw (← of_env) (fresh_same s.pools (segments_of s) (live (between core.state.world)) pool (needed s.pools pool (length bytes)) ns
+            (λ f. sym (same f)) fresh);
         filled = rw (← of_env, ← buffers_of s frames registers numbers lists calls steps core is) filled;
         state = rw (← of_env, becomes) (state_received s frames registers numbers lists calls steps core port h k buffers is idle free);
       };
       pools = ap (λ (x : Store). x.pools) becomes ∙ pools_of s frames registers numbers lists calls steps core is;
-      allowed = λ listed. not_denied c s (between core.state.world) pool (needed c.env.pools pool (length bytes)) of_env same (rw (← is_calls) listed) (rw (← of_env) le);
+      allowed = λ listed. not_denied c s (between core.state.world) pool (needed c.env.pools pool (length bytes)) of_env same (rw (← is_calls) listed)
+          (rw (← of_env) le);
     }
 
-pub refused : (c : Setting) (s s' : Store) (frames : Frames) (registers : List (Option ℕ)) (numbers : List ℕ) (lists : Lists) (calls : ℕ) (steps : Ran) (core : Core) (pool : ℕ) (bytes : List ℕ) → core_of s frames registers numbers lists calls steps ≡ core → StandOnce s.slots registers lists → AllByRecursion (λ o. o ≡ None) core.state.packets → core.pools ≡ c.env.pools → list_any (nat_eq (calls + 1)) c.pattern ≡ false → ReceivesInto s pool bytes s' None → is_denied c (between core.state.world) pool (needed c.env.pools pool (length bytes)) ≡ true
+pub refused : (c : Setting) (s s' : Store) (frames : Frames) (registers : List (Option ℕ)) (numbers : List ℕ) (lists : Lists) (calls : ℕ) (steps : Ran)
+    (core : Core) (pool : ℕ) (bytes : List ℕ) → core_of s frames registers numbers lists calls steps ≡ core → StandOnce s.slots registers lists →
+    AllByRecursion (λ o. o ≡ None) core.state.packets → core.pools ≡ c.env.pools → list_any (nat_eq (calls + 1)) c.pattern ≡ false →
+    ReceivesInto s pool bytes s' None → is_denied c (between core.state.world) pool (needed c.env.pools pool (length bytes)) ≡ true
 refused c s s' frames registers numbers lists calls steps core pool bytes is stand rests pools listed (less, becomes) =
     let idle = idle_of s frames registers numbers lists calls steps core is stand rests in
     let same = live_same s frames registers numbers lists calls steps core is idle in

@@ -20,7 +20,8 @@ use Rattle.dp_engine.proofs.NameLemmas.{fresh, names_counted, name_reserved}
 use Rattle.dp_engine.proofs.Powers.{power_is, power_low}
 
 -- a zone, where there is room for it
-pub zone_never : (e : ZoneError) (name : List ℕ) (len : ℕ) (table : List Reserved) (es : List Element) → IsNext name (names_of table) → IsLength len → (NothingFits (rounded len) 64 es → ⊥) → IsZoneRefused e name len 0 table es → ⊥
+pub zone_never : (e : ZoneError) (name : List ℕ) (len : ℕ) (table : List Reserved) (es : List Element) → IsNext name (names_of table) → IsLength len →
+    (NothingFits (rounded len) 64 es → ⊥) → IsZoneRefused e name len 0 table es → ⊥
 zone_never BadName name len table es next fits room refused = true≢false (sym next.named ∙ refused)
 zone_never BadLength name len table es next fits room refused = refused.1 fits
 zone_never BadAlign name len table es next fits room refused = refused.2 (inl refl)
@@ -36,26 +37,35 @@ pub record IsWithin (s : PoolSpec) : Type 0 where
 
 pub within : (s : PoolSpec) → pool_fits s ≡ true → IsWithin s
 within s fits =
-    let (h1, room) = and_parts (nat_le 1 s.count && nat_le s.count 65535 && nat_le s.cache 512 && nat_le (3 * s.cache) (2 * s.count)) (nat_le s.room 4096) fits in
+    let (h1, room) = and_parts (nat_le 1 s.count && nat_le s.count 65535 && nat_le s.cache 512 && nat_le (3 * s.cache) (2 * s.count))
+    (nat_le s.room 4096) fits in
     let (h2, share) = and_parts (nat_le 1 s.count && nat_le s.count 65535 && nat_le s.cache 512) (nat_le (3 * s.cache) (2 * s.count)) h1 in
     let (h3, cache) = and_parts (nat_le 1 s.count && nat_le s.count 65535) (nat_le s.cache 512) h2 in
     let (some, most) = and_parts (nat_le 1 s.count) (nat_le s.count 65535) h3 in
-    record { count = (leb-true 1 s.count some, leb-true s.count 65535 most); cache = (leb-true s.cache 512 cache, leb-true (3 * s.cache) (2 * s.count) share); room = leb-true s.room 4096 room }
+    record {
+      count = (leb-true 1 s.count some, leb-true s.count 65535 most);
+      cache = (leb-true s.cache 512 cache, leb-true (3 * s.cache) (2 * s.count) share);
+      room = leb-true s.room 4096 room;
+    }
 
 -- how long its zones are: its objects take more than its queue
 pub long : (s : PoolSpec) → pool_fits s ≡ true → (128 * s.count ≤ objects_len s) × (objects_len s ≤ 276819840) × (queue_len s ≤ 8 * s.count) × (0 < queue_len s)
 long s fits =
     let w = within s fits in
     let some = w.count.0 in let many = w.count.1 in let room = w.room in
-    let least : s.count * 128 ≤ s.count * ((s.room + 128 + 63) / 64 * 64) = mul-le-mul_left s.count (let low : 128 ≤ (s.room + 128 + 63) / 64 * 64 = omega arith in low) in
-    let most : s.count * ((s.room + 128 + 63) / 64 * 64) ≤ s.count * 4224 = mul-le-mul_left s.count (let high : (s.room + 128 + 63) / 64 * 64 ≤ 4224 = omega arith in high) in
+    let least : s.count * 128 ≤ s.count * ((s.room + 128 + 63) / 64 * 64) =
+    mul-le-mul_left s.count (let low : 128 ≤ (s.room + 128 + 63) / 64 * 64 = omega arith in low) in
+    let most : s.count * ((s.room + 128 + 63) / 64 * 64) ≤ s.count * 4224 =
+    mul-le-mul_left s.count (let high : (s.room + 128 + 63) / 64 * 64 ≤ 4224 = omega arith in high) in
     let power = power_low s.count some in
     (omega arith, omega arith, omega arith, omega arith)
 
 -- a pool, where there is room for its objects, and then for its queue
-pub pool_never : (e : PoolError) (name : List ℕ) (s : PoolSpec) (size : ℕ) (table : List Reserved) (es : List Element) → pool_fits s ≡ true → size ≡ s.room + 128
+pub pool_never : (e : PoolError) (name : List ℕ) (s : PoolSpec) (size : ℕ) (table : List Reserved) (es : List Element) → pool_fits s ≡ true →
+    size ≡ s.room + 128
     → IsNext (object_name name) (names_of table) → IsNext (queue_name name) (names_of table ++ object_name name ∷ [])
-    → (NothingFits (rounded (objects_len s)) 64 es → ⊥) → ((place : ℕ) (mid : List Element) → Taken es (rounded (objects_len s)) 64 place mid → NothingFits (rounded (queue_len s)) 64 mid → ⊥)
+    → (NothingFits (rounded (objects_len s)) 64 es → ⊥) → ((place : ℕ) (mid : List Element) → Taken es (rounded (objects_len s)) 64 place mid →
+    NothingFits (rounded (queue_len s)) 64 mid → ⊥)
     → IsPoolRefused e name s.count size s.cache table es → ⊥
 pool_never e name s size table es fits sized objects queue room more refused =
     go e (subst (λ (n : ℕ). IsPoolRefused e name s.count n s.cache table es) sized refused)
@@ -64,7 +74,8 @@ pool_never e name s size table es fits sized objects queue room more refused =
     go BadCount refused = refused (within s fits).count
     go BadSize refused = refused.1 (let room = (within s fits).room in (omega arith, omega arith))
     go BadCache refused = refused.2 (within s fits).cache
-    go (Zone error) (count, size, cache, inl refused) = zone_never error (object_name name) (objects_len s) table es objects (let l = long s fits in let w = (within s fits).count.0 in (omega arith, omega arith)) room refused
+    go (Zone error) (count, size, cache, inl refused) = zone_never error (object_name name) (objects_len s) table es objects (let l = long s fits in
+        let w = (within s fits).count.0 in (omega arith, omega arith)) room refused
     go (Zone error) (count, size, cache, inr (len, place, mid, left, (places, (power, above, half), is), reserves, refused)) =
         let same : places ≡ power_above s.count = power_is s.count places power (omega arith) (omega (arith, half)) in
         let len_is : len ≡ queue_len s = is ∙ ap (λ (n : ℕ). 4 * n) same in

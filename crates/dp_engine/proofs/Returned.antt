@@ -17,10 +17,12 @@ one_back old new v place view is counted = record {
   out = counted ∙ ap (λ (x : SpaceView). x.out) view;
 }
 
-pub two_back : (old new : HeapView) (v : SpaceView) (place next : ℕ) → seen old ≡ v → new ≡ record { home = old.home; elements = merged place (merged next old.elements) }
+pub two_back : (old new : HeapView) (v : SpaceView) (place next : ℕ) → seen old ≡ v →
+    new ≡ record { home = old.home; elements = merged place (merged next old.elements) }
     → count_of is_busy new.elements + 2 ≡ count_of is_busy old.elements → Returns 2 v (seen new)
 two_back old new v place next view is counted = record {
   home = ap (λ (h : HeapView). h.home) is ∙ ap (λ (x : SpaceView). x.home) view;
-  size = ap (λ (h : HeapView). size_of h.elements) is ∙ merged_size place (merged next old.elements) ∙ merged_size next old.elements ∙ ap (λ (x : SpaceView). x.size) view;
+  size = ap (λ (h : HeapView). size_of h.elements) is ∙ merged_size place (merged next old.elements) ∙ merged_size next old.elements
+      ∙ ap (λ (x : SpaceView). x.size) view;
   out = counted ∙ ap (λ (x : SpaceView). x.out) view;
 }

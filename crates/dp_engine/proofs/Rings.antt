@@ -12,7 +12,8 @@ entries_at (r ∷ rings) zero lt = refl
 entries_at (r ∷ rings) (suc k) lt = entries_at rings k (omega (arith, lt))
 
 -- apart from what waits in it a ring stays
-pub frames_kept : (rings : List RingView) (k : ℕ) (entries : List ℕ) → map without_entries (slice_set rings k (record (ring_at rings k) { entries = entries })) ≡ map without_entries rings
+pub frames_kept : (rings : List RingView) (k : ℕ) (entries : List ℕ) →
+    map without_entries (slice_set rings k (record (ring_at rings k) { entries = entries })) ≡ map without_entries rings
 frames_kept [] k entries = refl
 frames_kept (r ∷ rings) zero entries = refl
 frames_kept (r ∷ rings) (suc k) entries = ap (λ l. without_entries r ∷ l) (frames_kept rings k entries)

@@ -88,7 +88,13 @@ pub received_is : (c : Setting) (nodes : Nodes) (program : List Instr) (port : �
     → IsReceived c spec.pool port bytes w s → Received c program port spec bytes w s
 received_is c nodes program port spec bytes w s keeps is_spec is_program rest fits given r =
     let k : Packet = received (room_at c.env.pools spec.pool) r.numbers (length bytes) in
-    let b : Beginning = record { entry = Port port; program = program; packet = k; number = port; world = record w { buffers = r.buffers; calls = w.calls + 1 } } in
+    let b : Beginning = record {
+      entry = Port port;
+      program = program;
+      packet = k;
+      number = port;
+      world = record w { buffers = r.buffers; calls = w.calls + 1 };
+    } in
     let of_record : IsOfRecord c nodes port bytes w b = record {
       spec = spec;
       spec_is = is_spec;

@@ -1,5 +1,6 @@
 -- Places for rings, and the rings that stand in them.
-use Rattle.std.proofs.Common.{◌≡◌, ℕ, zero, suc, ◌+◌, ◌<◌, ◌≤◌, cond, Bool, true, false, List, [], ◌∷◌, length, Option, Some, None, refl, sym, ◌∙◌, ap, subst, arith, get_or, set, drop, ltb}
+use Rattle.std.proofs.Common.{◌≡◌, ℕ, zero, suc, ◌+◌, ◌<◌, ◌≤◌, cond, Bool, true, false, List, [], ◌∷◌, length, Option, Some, None, refl, sym, ◌∙◌, ap, subst}
+use Rattle.std.proofs.Common.{arith, get_or, set, drop, ltb}
 use Rattle.std.specs.Prelude.{is_none, unwrap_or, slice_get, IsSome, IfSome, IfNone}
 use Rattle.std.specs.List.{position, position_from, position_or_len}
 use Rattle.std.proofs.lemmas.List.{length-set, set-get_or}
@@ -16,7 +17,8 @@ rings_below [] = omega arith
 rings_below (None ∷ slots) = omega arith
 rings_below (Some r ∷ slots) = let rest = rings_below slots in omega (arith, rest)
 
-pub ring_there : (slots : List (Option RingView)) (k : ℕ) (d : Option RingView) → k < length (rings_in slots) → get_or slots k d ≡ Some (ring_at (rings_in slots) k)
+pub ring_there : (slots : List (Option RingView)) (k : ℕ) (d : Option RingView) → k < length (rings_in slots) →
+    get_or slots k d ≡ Some (ring_at (rings_in slots) k)
 ring_there [] k d there = absurd (omega arith)
 ring_there (None ∷ slots) k d there = absurd (omega arith)
 ring_there (Some r ∷ slots) zero d there = refl
@@ -55,7 +57,8 @@ no_first : (entries : List ℕ) → slice_get entries 0 ≡ None → drop 1 entr
 no_first [] none = refl
 no_first (e ∷ entries) none = absurd (none-some e (sym none))
 
-pub kept : (rings : List RingView) (k : ℕ) (result : Option ℕ) (rings' : List RingView) → result ≡ slice_get (ring_at rings k).entries 0 → rings' ≡ set rings k (without_first (ring_at rings k) 1) → IfNone result (rings' ≡ rings)
+pub kept : (rings : List RingView) (k : ℕ) (result : Option ℕ) (rings' : List RingView) → result ≡ slice_get (ring_at rings k).entries 0 →
+    rings' ≡ set rings k (without_first (ring_at rings k) 1) → IfNone result (rings' ≡ rings)
 kept rings k None rings' first rest =
     let r : RingView = ring_at rings k in
     rest
@@ -63,10 +66,14 @@ kept rings k None rings' first rest =
 kept rings k (Some e) rings' first rest = tt
 
 -- the first that waits is one, and it waits
-pub waits_there : (rings : List RingView) (result : Option ℕ) → result ≡ position is_waiting rings → IfSome result (λ k. k < length rings) × IfSome result (λ k. is_waiting (ring_at rings k) ≡ true)
-waits_there rings result is = subst (λ o. IfSome o (λ k. k < length rings) × IfSome o (λ k. is_waiting (ring_at rings k) ≡ true)) (sym is) (cases (ltb (position_or_len is_waiting rings) (length rings)) refl)
+pub waits_there : (rings : List RingView) (result : Option ℕ) → result ≡ position is_waiting rings → IfSome result (λ k. k < length rings)
+    × IfSome result (λ k. is_waiting (ring_at rings k) ≡ true)
+waits_there rings result is = subst (λ o. IfSome o (λ k. k < length rings)
+    × IfSome o (λ k. is_waiting (ring_at rings k) ≡ true)) (sym is) (cases (ltb (position_or_len is_waiting rings) (length rings)) refl)
   where
-    cases : (b : Bool) → ltb (position_or_len is_waiting rings) (length rings) ≡ b → IfSome (cond b (Some (position_or_len is_waiting rings)) None) (λ k. k < length rings) × IfSome (cond b (Some (position_or_len is_waiting rings)) None) (λ k. is_waiting (ring_at rings k) ≡ true)
+    cases : (b : Bool) → ltb (position_or_len is_waiting rings) (length rings) ≡ b →
+        IfSome (cond b (Some (position_or_len is_waiting rings)) None) (λ k. k < length rings)
+        × IfSome (cond b (Some (position_or_len is_waiting rings)) None) (λ k. is_waiting (ring_at rings k) ≡ true)
     cases false not' = (tt, tt)
     cases true there =
         let within : position_or_len is_waiting rings < length rings = ltb-true _ _ there in
@@ -103,7 +110,8 @@ module _ (slots : List (Option RingView)) (rings : List RingView) (same : rings_
   ring_is k d there = ap ring_of (filled_at k d there)
 
   -- what is left of the rings where one of them has changed
-  pub changed : (k : ℕ) (d o : Option RingView) (f : RingView → RingView) → k < length rings → o ≡ Some (f (ring_of (get_or slots k d))) → ((length (set slots k o) ≡ 8) × RingsFirst (set slots k o)) × (rings_in (set slots k o) ≡ set rings k (f (ring_at rings k)))
+  pub changed : (k : ℕ) (d o : Option RingView) (f : RingView → RingView) → k < length rings → o ≡ Some (f (ring_of (get_or slots k d))) →
+      ((length (set slots k o) ≡ 8) × RingsFirst (set slots k o)) × (rings_in (set slots k o) ≡ set rings k (f (ring_at rings k)))
   changed k d o f there is =
       let inside : k < length (rings_in slots) = subst (λ rs. k < length rs) (sym same) there in
       let now : o ≡ Some (f (ring_at rings k)) = is ∙ ap (λ r. Some (f r)) (ring_is k d there) in (
@@ -118,7 +126,8 @@ module _ (slots : List (Option RingView)) (rings : List RingView) (same : rings_
   -- where one of them has changed, the number of the first that waits is another
   pub renewed : (k : ℕ) (d o : Option RingView) (f : RingView → RingView) (count first : ℕ) → k < length rings → o ≡ Some (f (ring_of (get_or slots k d)))
       → count ≡ length (rings_in slots) → first ≡ first_place (set rings k (f (ring_at rings k)))
-      → ((length (set slots k o) ≡ 8) × RingsFirst (set slots k o)) × (count ≡ length (rings_in (set slots k o))) × (first ≡ first_place (rings_in (set slots k o)))
+      → ((length (set slots k o) ≡ 8) × RingsFirst (set slots k o)) × (count ≡ length (rings_in (set slots k o)))
+      × (first ≡ first_place (rings_in (set slots k o)))
   renewed k d o f count first there is count_is first_is =
       let now = changed k d o f there is in
       let many : length (rings_in (set slots k o)) ≡ length rings = ap length now.1 ∙ length-set rings k (f (ring_at rings k)) in

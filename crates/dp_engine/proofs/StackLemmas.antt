@@ -1,11 +1,13 @@
 -- What is taken from a stack, and what is given back to it.
-use Rattle.std.proofs.Common.{◌≡◌, ℕ, ◌+◌, ◌-◌, ◌%◌, ◌<◌, ◌≤◌, Bool, true, false, cond, ◌&&◌, ◌⊎◌, inl, inr, List, [], ◌∷◌, ◌++◌, refl, sym, ap, subst, ◌∙◌, arith, ltb, eqb}
+use Rattle.std.proofs.Common.{◌≡◌, ℕ, ◌+◌, ◌-◌, ◌%◌, ◌<◌, ◌≤◌, Bool, true, false, cond, ◌&&◌, ◌⊎◌, inl, inr, List, [], ◌∷◌, ◌++◌, refl, sym, ap, subst, ◌∙◌}
+use Rattle.std.proofs.Common.{arith, ltb, eqb}
 use Rattle.std.specs.Prelude.{not}
 use Rattle.std.specs.List.{AllByRecursion}
 use Rattle.std.proofs.lemmas.Bool.{lt-ltb, le-ltb, eq-eqb, eqb-true, false_from_ne_true, and_parts, true≢false}
 use Rattle.dp_heap.specs.declared.elements.Element.{Element}
 use Rattle.dp_heap.specs.declared.elements.State.TheVariants.{Free, Busy}
-use Rattle.dp_heap.specs.Elements.{is_free, is_busy, end_of, data_of, CanHold, NothingFits, IsHighest, spare, kept, busy, pieces, Taken, both, freed, joined, merged, count_of}
+use Rattle.dp_heap.specs.Elements.{is_free, is_busy, end_of, data_of, CanHold, NothingFits, IsHighest, spare, kept, busy, pieces, Taken, both, freed, joined}
+use Rattle.dp_heap.specs.Elements.{merged, count_of}
 use Rattle.dp_engine.specs.Stacks.{bottom, block_at, LieUnder, IsStacked, left_in, size_of, Has}
 
 -- ---- what is taken at the bottom
@@ -30,7 +32,8 @@ busy_is f n d room at =
     let pad : kept (d - 64 - 0) ≡ 0 = kept_none (d - 64 - 0) (omega arith) in
     let none : 0 + f - (d + n) ≡ 0 = omega arith in
     let tail : kept (0 + f - (d + n)) ≡ 0 = ap kept none in
-    same_made (d - 64 - kept (d - 64 - 0)) (kept (d - 64 - 0) + 64 + n + kept (0 + f - (d + n))) (kept (d - 64 - 0)) (f - (64 + n)) (64 + n) 0 (omega arith) (omega arith) pad
+    same_made (d - 64 - kept (d - 64 - 0)) (kept (d - 64 - 0) + 64 + n + kept (0 + f - (d + n))) (kept (d - 64 - 0)) (f - (64 + n)) (64 + n) 0 (omega arith)
+    (omega arith) pad
 
 pieces_are : (f n d : ℕ) → 192 + n < f → d ≡ f - n → pieces (bottom f) n d ≡ bottom (f - (64 + n)) ∷ block_at (f - (64 + n)) n ∷ []
 pieces_are f n d room at =
@@ -61,12 +64,16 @@ bottom_taken : (f n d : ℕ) (rest new : List Element) → AreBusy rest → f % 
     → (new ≡ bottom (f - (64 + n)) ∷ block_at (f - (64 + n)) n ∷ rest) × (d ≡ f - n)
 bottom_taken f n d rest new all even steps room (e, high, (before, after, old_is, new_is)) = go before old_is new_is
   where
-    go : (before : List Element) → bottom f ∷ rest ≡ before ++ e ∷ after → new ≡ before ++ (pieces e n d ++ after) → (new ≡ bottom (f - (64 + n)) ∷ block_at (f - (64 + n)) n ∷ rest) × (d ≡ f - n)
+    go : (before : List Element) → bottom f ∷ rest ≡ before ++ e ∷ after → new ≡ before ++ (pieces e n d ++ after) →
+        (new ≡ bottom (f - (64 + n)) ∷ block_at (f - (64 + n)) n ∷ rest) × (d ≡ f - n)
     go [] old_is new_is =
         let same : e ≡ bottom f = cc in
         let others : after ≡ rest = cc in
-        let at = highest_is f n d even steps (omega arith) (subst (λ (x : Element). IsHighest x n 64 d) same high) in
-        (new_is ∙ ap (λ (x : Element). pieces x n d ++ after) same ∙ ap (λ (es : List Element). es ++ after) (pieces_are f n d room at) ∙ ap (λ (es : List Element). bottom (f - (64 + n)) ∷ block_at (f - (64 + n)) n ∷ es) others, at)
+        let at = highest_is f n d even steps (omega arith) (subst (λ (x : Element). IsHighest x n 64 d) same high) in (
+          new_is ∙ ap (λ (x : Element). pieces x n d ++ after) same ∙ ap (λ (es : List Element). es ++ after) (pieces_are f n d room at)
+              ∙ ap (λ (es : List Element). bottom (f - (64 + n)) ∷ block_at (f - (64 + n)) n ∷ es) others,
+          at,
+        )
     go (x ∷ before) old_is new_is =
         let others : rest ≡ before ++ e ∷ after = cc in
         absurd (none_free rest before e after all others high.0.0)
@@ -125,14 +132,16 @@ before_busy e x es taken = go (is_free e) (ap (λ (b : Bool). cond (is_free e &&
 
 past : (d : ℕ) (e : Element) (es : List Element) → is_free e ≡ false → data_of e < d → merged d (e ∷ es) ≡ e ∷ merged d es
 past d e es taken low =
-    let off : not (is_free e) && eqb (data_of e) d ≡ false = false_from_ne_true (not (is_free e) && eqb (data_of e) d) (λ on. let same = eqb-true (data_of e) d (and_parts (not (is_free e)) (eqb (data_of e) d) on).1 in omega arith) in
+    let off : not (is_free e) && eqb (data_of e) d ≡ false = false_from_ne_true (not (is_free e) && eqb (data_of e) d) (λ on. let same =
+    eqb-true (data_of e) d (and_parts (not (is_free e)) (eqb (data_of e) d) on).1 in omega arith) in
     ap (λ (b : Bool). cond b (joined (freed e) es) (joined e (merged d es))) off ∙ busy_joined e (merged d es) taken
 
 top_has : (p n : ℕ) (e : Element) (es : List Element) → LieUnder (block_at p n) (e ∷ es) → Has (freed (block_at p n)) (merged (data_of (block_at p n)) (e ∷ es))
 top_has p n e [] lie =
     let t = block_at p n in
     subst (λ (x : Element). Has (freed t) (merged (data_of t) (x ∷ []))) (sym lie)
-    (subst (λ (b : Bool). Has (freed t) (cond b (joined (freed t) []) (joined t (merged (data_of t) [])))) (sym (eq-eqb (data_of t) (data_of t) refl)) (inl refl))
+    (subst (λ (b : Bool). Has (freed t) (cond b (joined (freed t) []) (joined t (merged (data_of t) [])))) (sym (eq-eqb (data_of t) (data_of t) refl))
+    (inl refl))
 top_has p n e (x ∷ es) lie =
     let t = block_at p n in
     subst (λ (zs : List Element). Has (freed t) zs) (sym (past (data_of t) e (x ∷ es) lie.0 lie.1)) (inr (top_has p n x es lie.2))
@@ -143,7 +152,8 @@ pub top_freed : (p n : ℕ) (es : List Element) → IsStacked (block_at p n) es 
 top_freed p n [] stacked more = absurd stacked
 top_freed p n (f ∷ []) (first, even, under, lie) more = absurd lie
 top_freed p n (f ∷ e ∷ []) (first, even, under, lie) more =
-    let one : count_of is_busy (f ∷ e ∷ []) ≡ count_of is_busy (bottom f.size ∷ block_at p n ∷ []) = ap (λ (x : Element). count_of is_busy (x ∷ e ∷ [])) first ∙ ap (λ (x : Element). count_of is_busy (bottom f.size ∷ x ∷ [])) lie in
+    let one : count_of is_busy (f ∷ e ∷ []) ≡ count_of is_busy (bottom f.size ∷ block_at p n ∷ []) = ap (λ (x : Element). count_of is_busy (x ∷ e ∷ [])) first
+    ∙ ap (λ (x : Element). count_of is_busy (bottom f.size ∷ x ∷ [])) lie in
     absurd (omega arith)
 top_freed p n (f ∷ e ∷ x ∷ es) (first, even, under, lie) more =
     let t = block_at p n in let d = data_of t in

@@ -17,21 +17,25 @@ use Rattle.dp_engine.proofs.Refusals.{within, long}
 use Rattle.dp_engine.proofs.StackLemmas.{stack_taken, first_taken, stack_fits, top_freed, has_fits, has_stays, holds, taken_size}
 
 pub table_more : (old new : List Reserved) (name : List ℕ) → names_of new ≡ names_of old ++ name ∷ [] → length new ≡ length old + 1
-table_more old new name is = let was = names_counted old in let now = names_counted new in let more = ap length is ∙ length_more (names_of old) name in omega arith
+table_more old new name is = let was = names_counted old in let now = names_counted new in
+    let more = ap length is ∙ length_more (names_of old) name in omega arith
 
 -- ---- one zone
 
-pub stack_more : (heap heap' : HeapView) (table table' : List Reserved) (spare : ZoneView) (len d left : ℕ) (name : List ℕ) → IsStack heap table spare → left_in heap.elements ≡ left
+pub stack_more : (heap heap' : HeapView) (table table' : List Reserved) (spare : ZoneView) (len d left : ℕ) (name : List ℕ) → IsStack heap table spare →
+    left_in heap.elements ≡ left
     → zone_bytes len + 128 < left → Taken heap.elements (rounded len) 64 d heap'.elements → heap'.home ≡ heap.home
     → count_of is_busy heap'.elements ≡ count_of is_busy heap.elements + 1 → names_of table' ≡ names_of table ++ name ∷ []
     → IsStack heap' table' spare × (left_in heap'.elements + zone_bytes len ≡ left)
 stack_more heap heap' table table' spare len d left name is at room taken home counted names =
-    let more = stack_taken (block_at (spare.place - 64) (length spare.bytes)) heap.elements heap'.elements (rounded len) d refl is.stacked (omega arith) (omega arith) taken in
+    let more = stack_taken (block_at (spare.place - 64) (length spare.bytes)) heap.elements heap'.elements (rounded len) d refl is.stacked (omega arith)
+    (omega arith) taken in
     let many = table_more table table' name names in let before = is.counted in let less = more.1 in
     (record { home = is.home ∙ sym home; even = is.even; high = is.high; stacked = more.0; counted = omega arith }, omega arith)
 
 -- a stack over one free element
-pub stack_new : (size len d : ℕ) (heap' : HeapView) (table' : List Reserved) (spare : ZoneView) → size % 64 ≡ 0 → zone_bytes len + 128 < size → Taken (bottom size ∷ []) (rounded len) 64 d heap'.elements
+pub stack_new : (size len d : ℕ) (heap' : HeapView) (table' : List Reserved) (spare : ZoneView) → size % 64 ≡ 0 → zone_bytes len + 128 < size →
+    Taken (bottom size ∷ []) (rounded len) 64 d heap'.elements
     → spare.place ≡ d → length spare.bytes ≡ rounded len → spare.home ≡ heap'.home → count_of is_busy heap'.elements ≡ 1 → length table' ≡ 1
     → IsStack heap' table' spare × (left_in heap'.elements + zone_bytes len ≡ size)
 stack_new size len d heap' table' spare even room taken at long home counted one =
@@ -42,7 +46,8 @@ stack_new size len d heap' table' spare even room taken at long home counted one
         home = home;
         even = ap (λ (p : ℕ). p % 64) at ∙ steps;
         high = omega arith;
-        stacked = subst (λ (p : ℕ). IsStacked (block_at p (length spare.bytes)) heap'.elements) same (subst (λ (n : ℕ). IsStacked (block_at (d - 64) n) heap'.elements) (sym long) new.0);
+        stacked = subst (λ (p : ℕ). IsStacked (block_at p (length spare.bytes)) heap'.elements) same
+            (subst (λ (n : ℕ). IsStacked (block_at (d - 64) n) heap'.elements) (sym long) new.0);
         counted = omega arith;
       },
       omega arith,
@@ -53,7 +58,8 @@ new_fits size len even room none = none.0 (size - rounded len) (holds size (roun
 
 -- ---- a pool
 
-pub made_two : (name : List ℕ) (s : PoolSpec) (size : ℕ) (home : Home) (old new : List Reserved) (before after : List Element) (p : PoolView) → pool_fits s ≡ true → size ≡ s.room + 128
+pub made_two : (name : List ℕ) (s : PoolSpec) (size : ℕ) (home : Home) (old new : List Reserved) (before after : List Element) (p : PoolView) →
+    pool_fits s ≡ true → size ≡ s.room + 128
     → IsMade name s.count size s.cache home old before p new after → TakesTwo before (rounded (objects_len s)) (rounded (queue_len s)) after
 made_two name s size home old new before after p fits sized made =
     let (places, (power, above, half), is) = made.len_is in
@@ -69,7 +75,8 @@ made_two name s size home old new before after p fits sized made =
 pub two_size : (n m : ℕ) (old new : List Element) → TakesTwo old n m new → size_of new ≡ size_of old
 two_size n m old new two = taken_size m 64 two.next two.mid new two.second ∙ taken_size n 64 two.place old two.mid two.first
 
-pub pool_more : (heap heap' : HeapView) (table table' : List Reserved) (spare : ZoneView) (s : PoolSpec) (left : ℕ) → IsStack heap table spare → left_in heap.elements ≡ left
+pub pool_more : (heap heap' : HeapView) (table table' : List Reserved) (spare : ZoneView) (s : PoolSpec) (left : ℕ) → IsStack heap table spare →
+    left_in heap.elements ≡ left
     → pool_bytes s + 128 < left → TakesTwo heap.elements (rounded (objects_len s)) (rounded (queue_len s)) heap'.elements → heap'.home ≡ heap.home
     → count_of is_busy heap'.elements ≡ count_of is_busy heap.elements + 2 → length (names_of table') ≡ length (names_of table) + 2
     → IsStack heap' table' spare × (left_in heap'.elements + pool_bytes s ≡ left)
@@ -83,7 +90,8 @@ pool_more heap heap' table table' spare s left is at room two home counted names
     (record { home = is.home ∙ sym home; even = is.even; high = is.high; stacked = twice.0; counted = omega arith }, omega arith)
 
 -- the queue has room once the objects are taken
-pub queue_fits : (heap : HeapView) (table : List Reserved) (spare : ZoneView) (s : PoolSpec) (left place : ℕ) (mid : List Element) → IsStack heap table spare → left_in heap.elements ≡ left
+pub queue_fits : (heap : HeapView) (table : List Reserved) (spare : ZoneView) (s : PoolSpec) (left place : ℕ) (mid : List Element) →
+    IsStack heap table spare → left_in heap.elements ≡ left
     → pool_bytes s + 128 < left → Taken heap.elements (rounded (objects_len s)) 64 place mid → NothingFits (rounded (queue_len s)) 64 mid → ⊥
 queue_fits heap table spare s left place mid is at room taken none =
     let t = block_at (spare.place - 64) (length spare.bytes) in
@@ -97,7 +105,8 @@ stacked_even : (t : Element) (es : List Element) → IsStacked t es → left_in 
 stacked_even t [] stacked = absurd stacked
 stacked_even t (e ∷ es) stacked = stacked.1
 
-pub released : (heap : HeapView) (table : List Reserved) (spare : ZoneView) (left : ℕ) (new : List Element) → IsStack heap table spare → left_in heap.elements ≡ left → 2 ≤ length (names_of table)
+pub released : (heap : HeapView) (table : List Reserved) (spare : ZoneView) (left : ℕ) (new : List Element) → IsStack heap table spare →
+    left_in heap.elements ≡ left → 2 ≤ length (names_of table)
     → new ≡ merged spare.place heap.elements
     → Has (bottom left) new × Has (freed (block_at (spare.place - 64) (length spare.bytes))) new × (left % 64 ≡ 0)
 released heap table spare left new is at some new_is =
@@ -113,11 +122,14 @@ released heap table spare left new is at some new_is =
 
 -- then the objects of the last pool have room below, and its queue does where the spare zone was
 pub last_objects : (left len : ℕ) (es : List Element) → Has (bottom left) es → left % 64 ≡ 0 → zone_bytes len ≤ left → NothingFits (rounded len) 64 es → ⊥
-last_objects left len es has even room none = has_fits (bottom left) es (rounded len) 64 (left - rounded len) has (holds left (rounded len) even (omega arith) (omega arith)) none
+last_objects left len es has even room none = has_fits (bottom left) es (rounded len) 64 (left - rounded len) has
+    (holds left (rounded len) even (omega arith) (omega arith)) none
 
-pub last_queue : (p n place : ℕ) (s : PoolSpec) (es mid : List Element) → pool_fits s ≡ true → 64 ≤ p → p % 64 ≡ 0 → n ≡ rounded (queue_len s) → Has (freed (block_at (p - 64) n)) es
+pub last_queue : (p n place : ℕ) (s : PoolSpec) (es mid : List Element) → pool_fits s ≡ true → 64 ≤ p → p % 64 ≡ 0 → n ≡ rounded (queue_len s) →
+    Has (freed (block_at (p - 64) n)) es
     → Taken es (rounded (objects_len s)) 64 place mid → NothingFits (rounded (queue_len s)) 64 mid → ⊥
 last_queue p n place s es mid fits high even is has taken none =
     let sizes = long s fits in let objects = sizes.0 in let queue = sizes.2 in let some = (within s fits).count.0 in
     let never : CanHold (freed (block_at (p - 64) n)) (rounded (objects_len s)) 64 place → ⊥ = λ can. let low = can.2 in let up = can.3 in omega arith in
-    has_fits (freed (block_at (p - 64) n)) mid (rounded (queue_len s)) 64 p (has_stays (freed (block_at (p - 64) n)) es mid (rounded (objects_len s)) 64 place has never taken) (refl, even, omega arith, omega arith) none
+    has_fits (freed (block_at (p - 64) n)) mid (rounded (queue_len s)) 64 p
+    (has_stays (freed (block_at (p - 64) n)) es mid (rounded (objects_len s)) 64 place has never taken) (refl, even, omega arith, omega arith) none

@@ -1,5 +1,6 @@
 -- The first packet that waits in a ring.
-use Rattle.std.proofs.Common.{◌≡◌, ℕ, suc, ◌+◌, ◌<◌, cond, Bool, true, false, not, List, [], ◌∷◌, length, map, Option, Some, None, refl, sym, ◌∙◌, ap, subst, arith}
+use Rattle.std.proofs.Common.{◌≡◌, ℕ, suc, ◌+◌, ◌<◌, cond, Bool, true, false, not, List, [], ◌∷◌, length, map, Option, Some, None, refl, sym, ◌∙◌, ap, subst}
+use Rattle.std.proofs.Common.{arith}
 use Rattle.std.specs.Prelude.{slice_set, option_map, ◌==◌}
 use Rattle.std.proofs.lemmas.Bool.{eqb-true}
 use Rattle.std.specs.List.{position, position_from}
@@ -17,7 +18,8 @@ in_rings slots rings = packets_in slots (map entries_of rings)
 -- the j-th ring is the first that has an entry
 pub record IsFirst (slots : List (Option Packet)) (rings : List RingView) (j : ℕ) : Type 0 where
   pub there : j < length rings
-  pub is : (h : ℕ) (xs : List ℕ) → (ring_at rings j).entries ≡ h ∷ xs → first_waiting (in_rings slots rings) ≡ Some (record { ring = j; packet = packet_at slots h; rings = slice_set (in_rings slots rings) j (map (packet_at slots) xs) })
+  pub is : (h : ℕ) (xs : List ℕ) → (ring_at rings j).entries ≡ h ∷ xs → first_waiting (in_rings slots rings)
+      ≡ Some (record { ring = j; packet = packet_at slots h; rings = slice_set (in_rings slots rings) j (map (packet_at slots) xs) })
 
 first_here : (slots : List (Option Packet)) (r : RingView) (rings : List RingView) → IsFirst slots (r ∷ rings) 0
 first_here slots r rings = record {
@@ -25,13 +27,16 @@ first_here slots r rings = record {
   is = λ h xs at. ap (λ es. first_waiting (map (packet_at slots) es ∷ in_rings slots rings)) at;
 }
 
-first_later : (slots : List (Option Packet)) (r : RingView) (rings : List RingView) (j : ℕ) → r.entries ≡ [] → IsFirst slots rings j → IsFirst slots (r ∷ rings) (suc j)
+first_later : (slots : List (Option Packet)) (r : RingView) (rings : List RingView) (j : ℕ) → r.entries ≡ [] → IsFirst slots rings j →
+    IsFirst slots (r ∷ rings) (suc j)
 first_later slots r rings j none first = record {
   there = omega (arith, first.there);
   is = λ h xs at. (
-      let e : first_waiting (in_rings slots (r ∷ rings)) ≡ option_map (behind []) (first_waiting (in_rings slots rings)) = ap (λ es. first_waiting (map (packet_at slots) es ∷ in_rings slots rings)) none in
+      let e : first_waiting (in_rings slots (r ∷ rings)) ≡ option_map (behind []) (first_waiting (in_rings slots rings)) =
+      ap (λ es. first_waiting (map (packet_at slots) es ∷ in_rings slots rings)) none in
       let back : [] ≡ map (packet_at slots) r.entries = ap (map (packet_at slots)) (sym none) in
-      e ∙ ap (option_map (behind [])) (first.is h xs at) ∙ ap (λ (l : List Packet). Some (record { ring = suc j; packet = packet_at slots h; rings = l ∷ slice_set (in_rings slots rings) j (map (packet_at slots) xs) })) back
+      e ∙ ap (option_map (behind [])) (first.is h xs at) ∙ ap (λ (l : List Packet).
+      Some (record { ring = suc j; packet = packet_at slots h; rings = l ∷ slice_set (in_rings slots rings) j (map (packet_at slots) xs) })) back
       );
 }
 
@@ -47,11 +52,13 @@ waits : (r : RingView) (h : ℕ) (xs : List ℕ) → r.entries ≡ h ∷ xs → 
 waits r h xs some = ap (λ (es : List ℕ). not (length es == 0)) some ∙ ap not (positive (length xs))
 
 -- what the search answers, from a number on
-found_from : (slots : List (Option Packet)) (rings : List RingView) (n i : ℕ) → position_from is_waiting n rings ≡ Some i → (j : ℕ) × (i ≡ n + j) × IsFirst slots rings j
+found_from : (slots : List (Option Packet)) (rings : List RingView) (n i : ℕ) → position_from is_waiting n rings ≡ Some i →
+    (j : ℕ) × (i ≡ n + j) × IsFirst slots rings j
 found_from slots [] n i e = cc
 found_from slots (r ∷ rings) n i e = go r.entries refl (λ later. found_from slots rings (n + 1) i later)
   where
-    go : (es : List ℕ) → r.entries ≡ es → (position_from is_waiting (n + 1) rings ≡ Some i → (j : ℕ) × (i ≡ n + 1 + j) × IsFirst slots rings j) → (j : ℕ) × (i ≡ n + j) × IsFirst slots (r ∷ rings) j
+    go : (es : List ℕ) → r.entries ≡ es → (position_from is_waiting (n + 1) rings ≡ Some i → (j : ℕ) × (i ≡ n + 1 + j) × IsFirst slots rings j) →
+        (j : ℕ) × (i ≡ n + j) × IsFirst slots (r ∷ rings) j
     go [] none more =
         let later : position_from is_waiting (n + 1) rings ≡ Some i = rw none at e in
         let (j, same, first) = more later in
@@ -63,11 +70,13 @@ found_from slots (r ∷ rings) n i e = go r.entries refl (λ later. found_from s
         one : (x y : ℕ) → Some x ≡ Some y → y ≡ x
         one x y e = cc
 
-none_from : (slots : List (Option Packet)) (rings : List RingView) (n : ℕ) → position_from is_waiting n rings ≡ None → first_waiting (in_rings slots rings) ≡ None
+none_from : (slots : List (Option Packet)) (rings : List RingView) (n : ℕ) → position_from is_waiting n rings ≡ None → first_waiting (in_rings slots rings)
+    ≡ None
 none_from slots [] n e = refl
 none_from slots (r ∷ rings) n e = go r.entries refl (λ later. none_from slots rings (n + 1) later)
   where
-    go : (es : List ℕ) → r.entries ≡ es → (position_from is_waiting (n + 1) rings ≡ None → first_waiting (in_rings slots rings) ≡ None) → first_waiting (in_rings slots (r ∷ rings)) ≡ None
+    go : (es : List ℕ) → r.entries ≡ es → (position_from is_waiting (n + 1) rings ≡ None → first_waiting (in_rings slots rings) ≡ None) →
+        first_waiting (in_rings slots (r ∷ rings)) ≡ None
     go [] none more =
         let later : position_from is_waiting (n + 1) rings ≡ None = rw none at e in
         ap (λ es. first_waiting (map (packet_at slots) es ∷ in_rings slots rings)) none ∙ ap (option_map (behind [])) (more later)

@@ -1,5 +1,6 @@
 -- What is written, piece by piece.
-use Rattle.std.proofs.Common.{◌≡◌, ℕ, zero, suc, ◌+◌, ◌<◌, ◌≤◌, Bool, true, false, List, [], ◌∷◌, ◌++◌, length, take, drop, map, Option, Some, refl, sym, ◌∙◌, ap, subst, arith, append_assoc, append-nil, length-append, add-one}
+use Rattle.std.proofs.Common.{◌≡◌, ℕ, zero, suc, ◌+◌, ◌<◌, ◌≤◌, Bool, true, false, List, [], ◌∷◌, ◌++◌, length, take, drop, map, Option, Some, refl, sym, ◌∙◌}
+use Rattle.std.proofs.Common.{ap, subst, arith, append_assoc, append-nil, length-append, add-one}
 use Rattle.std.specs.Prelude.{slice_get, Result, Ok, Err, is_err, OnOk, OnErr}
 use Rattle.std.specs.List.{flat_map}
 use Rattle.std.specs.Io.KnownBytes.{Appends}
@@ -21,7 +22,8 @@ use Rattle.dp_model.specs.Stores.{Store}
 use Rattle.dp_ring.specs.Rings.{RingView}
 use Rattle.dp_pool.specs.Pools.{PoolZones}
 use Rattle.dp_engine.specs.Queues.{ring_at}
-use Rattle.dp_engine.specs.Handles.{held_of, packet_at, in_slot, occurs, joined, packets_in, StandOnce, Core, core_of, Ran, frames_of, lists_of, without_entries, entries_of}
+use Rattle.dp_engine.specs.Handles.{held_of, packet_at, in_slot, occurs, joined, packets_in, StandOnce, Core, core_of, Ran, frames_of, lists_of}
+use Rattle.dp_engine.specs.Handles.{without_entries, entries_of}
 use Rattle.dp_engine.proofs.Rings.{entries_at, frames_length}
 use Rattle.dp_engine.specs.Drains.{record_of, captured, WrotePart, Written}
 use Rattle.dp_engine.proofs.Handles.{map_get, in_slot_some, is_one, occurs-append, waits}

@@ -59,7 +59,8 @@ impl Model for Machine {
 
     ghost Value = { Core };
 
-    ghost view = { λ m. core_of m.mbufs.store (frames_of m.mbufs.zones m.rings m.outboxes) m.registers m.numbers (lists_of m.rings m.outboxes) m.calls (ran m.steps.count m.cuts m.jumps) };
+    ghost view = { λ m. core_of m.mbufs.store (frames_of m.mbufs.zones m.rings m.outboxes) m.registers m.numbers (lists_of m.rings m.outboxes) m.calls
+        (ran m.steps.count m.cuts m.jumps) };
 
     ghost invariant = { λ m. StandOnce m.mbufs.store.slots m.registers (lists_of m.rings m.outboxes) };
 }
@@ -77,7 +78,8 @@ impl Machine {
         requires none { (h : ℕ) → in_slot (slice_get mbufs.store.slots h) ≡ 0 }
         requires rings { AllByRecursion (λ (r : RingView). r.entries ≡ []) rings }
         requires outboxes { AllByRecursion (λ (r : RingView). r.entries ≡ []) outboxes }
-        ensures { result ≡ core_of mbufs.store (frames_of mbufs.zones rings outboxes) (replicate 8 None) (replicate 8 0) (lists_of rings outboxes) 0 (ran 0 0 0) }
+        ensures { result ≡ core_of mbufs.store (frames_of mbufs.zones rings outboxes) (replicate 8 None) (replicate 8 0) (lists_of rings outboxes) 0
+            (ran 0 0 0) }
     {
         Machine {
             mbufs,
@@ -123,7 +125,8 @@ impl Machine {
         requires has_room { 129 ≤ room_at env.now.pools pool }
         requires fits { needed env.now.pools pool (length bytes.now) ≤ 64 }
         requires few { self.old.state.world.calls + 1 < 2 ^ 64 }
-        ensures denied { not result ≡ is_denied (setting_of env.now [] pattern.now) (between self.old.state.world) pool (needed env.now.pools pool (length bytes.now)) }
+        ensures denied { not result ≡ is_denied (setting_of env.now [] pattern.now) (between self.old.state.world) pool
+            (needed env.now.pools pool (length bytes.now)) }
         ensures refused { IsFalse result → self.new ≡ moved (record self.old.state { world = with_one_call self.old.state.world }) self.old }
         ensures calls { self.new.state.world.calls ≡ self.old.state.world.calls + 1 }
         ensures received { IsTrue result → IsReceived (setting_of env.now [] pattern.now) pool port bytes.now self.old.state.world self.new.state }
@@ -176,8 +179,10 @@ impl Machine {
     pub(crate) fn send(&mut self, p: PacketRegister, port: u8) -> bool
         requires holds { (k : Packet) × Holds self.old.state p k }
         requires there { port < length self.old.frames.outboxes }
-        ensures taken { (packets : List Packet) → slice_get self.old.state.world.outboxes port ≡ Some packets → result ≡ nat_lt (length packets + 1) (ring_at self.old.frames.outboxes port).count }
-        ensures sent { IsTrue result → (k : Packet) (packets : List Packet) → Holds self.old.state p k → slice_get self.old.state.world.outboxes port ≡ Some packets
+        ensures taken { (packets : List Packet) → slice_get self.old.state.world.outboxes port ≡ Some packets →
+            result ≡ nat_lt (length packets + 1) (ring_at self.old.frames.outboxes port).count }
+        ensures sent { IsTrue result → (k : Packet) (packets : List Packet) → Holds self.old.state p k → slice_get self.old.state.world.outboxes port
+            ≡ Some packets
             → self.new ≡ moved (with_outbox port (packets ++ k ∷ []) (without_packet p self.old.state)) self.old }
         ensures full { result ≡ false → self.new ≡ self.old }
     {
@@ -193,8 +198,10 @@ impl Machine {
     pub(crate) fn enqueue(&mut self, p: PacketRegister, ring: u8) -> bool
         requires holds { (k : Packet) × Holds self.old.state p k }
         requires there { ring < length self.old.frames.rings }
-        ensures taken { (packets : List Packet) → slice_get self.old.state.world.rings ring ≡ Some packets → result ≡ nat_lt (length packets + 1) (ring_at self.old.frames.rings ring).count }
-        ensures queued { IsTrue result → (k : Packet) (packets : List Packet) → Holds self.old.state p k → slice_get self.old.state.world.rings ring ≡ Some packets
+        ensures taken { (packets : List Packet) → slice_get self.old.state.world.rings ring ≡ Some packets →
+            result ≡ nat_lt (length packets + 1) (ring_at self.old.frames.rings ring).count }
+        ensures queued { IsTrue result → (k : Packet) (packets : List Packet) → Holds self.old.state p k → slice_get self.old.state.world.rings ring
+            ≡ Some packets
             → self.new ≡ moved (with_ring ring (packets ++ k ∷ []) (without_packet p self.old.state)) self.old }
         ensures full { result ≡ false → self.new ≡ self.old }
     {
@@ -313,7 +320,8 @@ impl Machine {
     pub(crate) fn drop_sent(&mut self, port: u8)
         requires there { port < length self.old.frames.outboxes }
         requires some { (packets : List Packet) × (k : Packet) × (slice_get self.old.state.world.outboxes port ≡ Some (k ∷ packets)) }
-        ensures { (packets : List Packet) (k : Packet) → slice_get self.old.state.world.outboxes port ≡ Some (k ∷ packets) → self.new ≡ moved (with_outbox port packets self.old.state) self.old }
+        ensures { (packets : List Packet) (k : Packet) → slice_get self.old.state.world.outboxes port ≡ Some (k ∷ packets) →
+            self.new ≡ moved (with_outbox port packets self.old.state) self.old }
     {
         match self.outboxes.pop(port) {
             Some(packet) => self.mbufs.free(Handle::of(packet)),
@@ -325,7 +333,8 @@ impl Machine {
     pub(crate) fn drop_left(&mut self, ring: u8)
         requires there { ring < length self.old.frames.rings }
         requires some { (packets : List Packet) × (k : Packet) × (slice_get self.old.state.world.rings ring ≡ Some (k ∷ packets)) }
-        ensures { (packets : List Packet) (k : Packet) → slice_get self.old.state.world.rings ring ≡ Some (k ∷ packets) → self.new ≡ moved (with_ring ring packets self.old.state) self.old }
+        ensures { (packets : List Packet) (k : Packet) → slice_get self.old.state.world.rings ring ≡ Some (k ∷ packets) →
+            self.new ≡ moved (with_ring ring packets self.old.state) self.old }
     {
         match self.rings.pop(ring) {
             Some(packet) => self.mbufs.free(Handle::of(packet)),
@@ -388,8 +397,10 @@ impl Machine {
         requires there { port < length self.now.frames.outboxes }
         requires waits { (packets : List Packet) × (slice_get self.now.state.world.outboxes port ≡ Some packets) × (at < length packets) }
         requires nano { time.nano < 1000000000 }
-        ensures ok { OnOk result (AtPacket self.now port at (λ k. Appends (W.contents w.old) (W.contents w.new) (record_of unit time self.now.state.world.buffers k))) }
-        ensures err { OnErr result (AtPacket self.now port at (λ k. AppendsPart (W.contents w.old) (W.contents w.new) (record_of unit time self.now.state.world.buffers k))) }
+        ensures ok { OnOk result (AtPacket self.now port at (λ k. Appends (W.contents w.old) (W.contents w.new)
+            (record_of unit time self.now.state.world.buffers k))) }
+        ensures err { OnErr result (AtPacket self.now port at (λ k. AppendsPart (W.contents w.old) (W.contents w.new)
+            (record_of unit time self.now.state.world.buffers k))) }
         ensures failed { IsErr result ↔ IsTrue (W.is_broken w.new) }
         ensures stays { IsTrue (W.is_broken w.old) → IsTrue (W.is_broken w.new) }
         ensures write { IfErr result (λ e. e ≡ PcapError.Write) }
@@ -412,12 +423,15 @@ impl Machine {
     ) -> Result<u32, u32>
         requires there { port < length self.now.frames.outboxes }
         requires nano { time.nano < 1000000000 }
-        ensures ok { IfOk result (λ sent. Written unit time port self.now.state.world (λ records. (sent ≡ length records) × Appends (W.contents w.old) (W.contents w.new) (flat_map (record_text unit) records))) }
-        ensures err { IfErr result (λ sent. Written unit time port self.now.state.world (λ records. WrotePart (W.contents w.old) (W.contents w.new) unit records sent)) }
+        ensures ok { IfOk result (λ sent. Written unit time port self.now.state.world (λ records. (sent ≡ length records)
+            × Appends (W.contents w.old) (W.contents w.new) (flat_map (record_text unit) records))) }
+        ensures err { IfErr result (λ sent. Written unit time port self.now.state.world
+            (λ records. WrotePart (W.contents w.old) (W.contents w.new) unit records sent)) }
         ensures broken { IsErr result → IsTrue (W.is_broken w.new) }
         ensures sound { IsOk result → W.is_broken w.old ≡ false → W.is_broken w.new ≡ false }
         ensures most { (packets : List Packet) → slice_get self.now.state.world.outboxes port ≡ Some packets → whole_of result ≤ length packets }
-        ensures counted { Written unit time port self.now.state.world (λ records. IsCalledFor (W.calls w.old) (W.calls w.new) unit (take (whole_of result + 1) records)) }
+        ensures counted { Written unit time port self.now.state.world (λ records.
+            IsCalledFor (W.calls w.old) (W.calls w.new) unit (take (whole_of result + 1) records)) }
         ensures failures { MatchResult result (λ _. W.failures w.new ≡ W.failures w.old) (λ _. W.failures w.new ≡ W.failures w.old + 1) }
     {
         let count = self.queued(port);

@@ -20,7 +20,8 @@ pub(crate) fn take(
     requires takes { Takes instr.now }
     requires few { m.old.state.world.calls + 1 < 2 ^ 64 }
     requires pools { m.old.pools ≡ env.now.pools }
-    ensures acts { (told : List Bool) × Acts (setting_of env.now [] pattern.now) label m.old.state instr.now (move_to (Some (label_after label result)) told m.new.state) }
+    ensures acts { (told : List Bool) × Acts (setting_of env.now [] pattern.now) label m.old.state instr.now
+        (move_to (Some (label_after label result)) told m.new.state) }
     ensures pools { m.new.pools ≡ m.old.pools }
     ensures frames { m.new.frames ≡ m.old.frames }
 {

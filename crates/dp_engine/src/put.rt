@@ -22,7 +22,8 @@ fn put_segments<W: Sink>(
     requires live { IsLive mbufs.now.store packet }
     requires nano { time.nano < 1000000000 }
     ensures ok { OnOk result (Of mbufs.now.store packet (λ k. Appends (W.contents w.old) (W.contents w.new) (record_of unit time mbufs.now.store.buffers k))) }
-    ensures err { OnErr result (Of mbufs.now.store packet (λ k. AppendsPart (W.contents w.old) (W.contents w.new) (record_of unit time mbufs.now.store.buffers k))) }
+    ensures err { OnErr result (Of mbufs.now.store packet (λ k. AppendsPart (W.contents w.old) (W.contents w.new)
+        (record_of unit time mbufs.now.store.buffers k))) }
     ensures failed { IsErr result ↔ IsTrue (W.is_broken w.new) }
     ensures stays { IsTrue (W.is_broken w.old) → IsTrue (W.is_broken w.new) }
     ensures write { IfErr result (λ e. e ≡ PcapError.Write) }
@@ -47,7 +48,8 @@ pub(crate) fn put_packet<W: Sink>(
     requires live { IsLive mbufs.now.store packet }
     requires nano { time.nano < 1000000000 }
     ensures ok { OnOk result (Of mbufs.now.store packet (λ k. Appends (W.contents w.old) (W.contents w.new) (record_of unit time mbufs.now.store.buffers k))) }
-    ensures err { OnErr result (Of mbufs.now.store packet (λ k. AppendsPart (W.contents w.old) (W.contents w.new) (record_of unit time mbufs.now.store.buffers k))) }
+    ensures err { OnErr result (Of mbufs.now.store packet (λ k. AppendsPart (W.contents w.old) (W.contents w.new)
+        (record_of unit time mbufs.now.store.buffers k))) }
     ensures failed { IsErr result ↔ IsTrue (W.is_broken w.new) }
     ensures stays { IsTrue (W.is_broken w.old) → IsTrue (W.is_broken w.new) }
     ensures write { IfErr result (λ e. e ≡ PcapError.Write) }

@@ -27,7 +27,8 @@ impl Model for Queues {
 
     ghost view = { λ q. rings_in q.rings };
 
-    ghost invariant = { λ q. ((length q.rings ≡ 8) × RingsFirst q.rings) × (q.count ≡ length (rings_in q.rings)) × (q.first ≡ position_or_len is_waiting (rings_in q.rings)) };
+    ghost invariant = { λ q. ((length q.rings ≡ 8) × RingsFirst q.rings) × (q.count ≡ length (rings_in q.rings))
+        × (q.first ≡ position_or_len is_waiting (rings_in q.rings)) };
 }
 
 // The first place without a ring.
@@ -130,7 +131,8 @@ impl Queues {
     pub fn push(&mut self, k: u8, entry: u32) -> bool
         requires { k < length self.old }
         ensures taken { result ≡ nat_lt 0 (room_in (ring_at self.old k)) }
-        ensures rings { self.new ≡ (if nat_lt 0 (room_in (ring_at self.old k)) then slice_set self.old k (with_more (ring_at self.old k) (entry ∷ [])) else self.old) }
+        ensures rings { self.new ≡ (if nat_lt 0 (room_in (ring_at self.old k)) then slice_set self.old k (with_more (ring_at self.old k) (entry ∷ []))
+            else self.old) }
     {
         let is_taken = push_in(&mut self.rings[k as usize], entry);
         if is_taken && k < self.first {

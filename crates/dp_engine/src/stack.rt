@@ -35,7 +35,13 @@ impl Model for Stack {
 
     ghost Value = { StackView };
 
-    ghost view = { λ s. record { home = s.heap.home; size = size_of s.heap.elements; left = left_in s.heap.elements; names = names_of s.zones; spare = length s.spare.bytes } };
+    ghost view = { λ s. record {
+      home = s.heap.home;
+      size = size_of s.heap.elements;
+      left = left_in s.heap.elements;
+      names = names_of s.zones;
+      spare = length s.spare.bytes;
+    } };
 
     ghost invariant = { λ s. IsStack s.heap s.zones s.spare };
 }
@@ -90,7 +96,8 @@ fn make(heap: &mut Heap, zones: &mut Zones, k: usize, spec: PoolSpec) -> Pool
     requires names { AllBefore (first_pool + 10 * k) (names_of zones.old) }
     requires few { length (names_of zones.old) + 2 ≤ 64 }
     requires objects { ¬ NothingFits (rounded (objects_len spec)) 64 heap.old.elements }
-    requires queue { (place : ℕ) (mid : List Element) → Taken heap.old.elements (rounded (objects_len spec)) 64 place mid → ¬ NothingFits (rounded (queue_len spec)) 64 mid }
+    requires queue { (place : ℕ) (mid : List Element) → Taken heap.old.elements (rounded (objects_len spec)) 64 place mid →
+        ¬ NothingFits (rounded (queue_len spec)) 64 mid }
     ensures pool { IsNewPool heap.old.home spec result }
     ensures taken { TakesTwo heap.old.elements (rounded (objects_len spec)) (rounded (queue_len spec)) heap.new.elements }
     ensures names { names_of zones.new ≡ names_of zones.old ++ object_name (pool_name k) ∷ queue_name (pool_name k) ∷ [] }
@@ -161,7 +168,8 @@ impl Stack {
         ensures rings { AreFilled (IsNewRing self.old.home) counts.now result }
         ensures left { self.new.left + total ring_bytes counts.now ≡ self.old.left }
         ensures same { (self.new.home ≡ self.old.home) × (self.new.size ≡ self.old.size) × (self.new.spare ≡ self.old.spare) }
-        ensures names { AllBefore (first_of kind + 10 * length counts.now) self.new.names × (length self.new.names ≡ length self.old.names + length counts.now) }
+        ensures names { AllBefore (first_of kind + 10 * length counts.now) self.new.names
+            × (length self.new.names ≡ length self.old.names + length counts.now) }
     {
         let mut rings = [None, None, None, None, None, None, None, None];
         for (k, count) in counts.iter().enumerate() {

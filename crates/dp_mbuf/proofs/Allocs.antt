@@ -24,16 +24,20 @@ pub pool_there : (ps : List PoolView) (v : Store) (pool : ℕ) → shown ps ≡ 
 pool_there ps v pool e h =
     let l = ap (λ s. length s.pools) e in omega (arith, h, l, length_specs ps)
 
-pub free_in : (ps : List PoolView) (v : Store) (pool : ℕ) → shown ps ≡ v → Sound ps → pool < length v.pools → available v.pools (segments_of v) pool ≡ count_in ps pool
+pub free_in : (ps : List PoolView) (v : Store) (pool : ℕ) → shown ps ≡ v → Sound ps → pool < length v.pools → available v.pools (segments_of v) pool
+    ≡ count_in ps pool
 free_in ps v pool e sound h =
     ap (λ s. available s.pools (segments_of s) pool) (sym e)
     ∙ available_is ps (slots_of ps) pool sound (pool_there ps v pool e h)
 
-pub alloc_none : (ps ps' : List PoolView) (v : Store) (pool : ℕ) → shown ps ≡ v → Sound ps → pool < length v.pools → count_in ps pool ≡ 0 → ps' ≡ ps → Allocates v pool (shown ps') None
+pub alloc_none : (ps ps' : List PoolView) (v : Store) (pool : ℕ) → shown ps ≡ v → Sound ps → pool < length v.pools → count_in ps pool ≡ 0 → ps' ≡ ps →
+    Allocates v pool (shown ps') None
 alloc_none ps ps' v pool e sound h none same =
     (omega (arith, free_in ps v pool e sound h, none), ap shown same ∙ e)
 
-pub alloc_some : (ps ps1 ps' : List PoolView) (v : Store) (pool : ℕ) (n : Number) (o r : ℕ) → shown ps ≡ v → Sound ps → pool < length v.pools → n.pool ≡ pool → Taken ps n ps1 → HeaderSet ps1 n (fresh_header n 1 o 0) ps' → o ≡ min 128 (room_at (specs_of ps1) n.pool) → r ≡ handle n → Sound ps' × Allocates v pool (shown ps') (Some r)
+pub alloc_some : (ps ps1 ps' : List PoolView) (v : Store) (pool : ℕ) (n : Number) (o r : ℕ) → shown ps ≡ v → Sound ps → pool < length v.pools →
+    n.pool ≡ pool → Taken ps n ps1 → HeaderSet ps1 n (fresh_header n 1 o 0) ps' → o ≡ min 128 (room_at (specs_of ps1) n.pool) → r ≡ handle n →
+    Sound ps' × Allocates v pool (shown ps') (Some r)
 alloc_some ps ps1 ps' v pool n o r e sound h ep t done eo er =
     let slots : List (Option Packet) = slots_of ps in
     let eo' : o ≡ min 128 (room_at (specs_of ps) n.pool) = eo ∙ ap (λ s. min 128 (room_at s n.pool)) t.specs in
@@ -57,7 +61,8 @@ alloc_some ps ps1 ps' v pool n o r e sound h ep t done eo er =
               each = (record { of_pool = ep; exists = number; free = free_from (segments_held slots) n (nothing_at ps [] slots n sound number t.was) }, tt);
             }),
         record { others = λ _ _. refl; lengths = λ _. refl; bytes = λ b. b },
-        seen ps ps' v v.buffers (slice_set v.slots (handle n) (Some (allocated v.pools (n ∷ [])))) e (done.specs ∙ t.specs) (done.buffers ∙ (t.buffers ∙ ap (λ s. s.buffers) e))
+        seen ps ps' v v.buffers (slice_set v.slots (handle n) (Some (allocated v.pools (n ∷ [])))) e (done.specs ∙ t.specs) (done.buffers
+            ∙ (t.buffers ∙ ap (λ s. s.buffers) e))
             (d.1
             ∙ (ap (λ s. set s.slots (handle n) (Some (direct n o 0 ∷ []))) e
             ∙ (ap (λ x. slice_set v.slots (handle n) (Some (direct n x 0 ∷ []))) eo'

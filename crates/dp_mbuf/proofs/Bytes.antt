@@ -1,5 +1,6 @@
 -- Bytes read and written in a live packet.
-use Rattle.std.proofs.Common.{◌≡◌, ℕ, zero, suc, ◌+◌, ◌-◌, ◌≤◌, List, [], ◌∷◌, ◌++◌, length, take, drop, Some, None, refl, sym, ◌∙◌, ap, subst, arith, get_or, set}
+use Rattle.std.proofs.Common.{◌≡◌, ℕ, zero, suc, ◌+◌, ◌-◌, ◌≤◌, List, [], ◌∷◌, ◌++◌, length, take, drop, Some, None, refl, sym, ◌∙◌, ap, subst, arith, get_or}
+use Rattle.std.proofs.Common.{set}
 use Rattle.std.specs.Prelude.{slice_get, slice_set, slice_range, replicate}
 use Rattle.std.proofs.lemmas.Option.{same_Some}
 use Rattle.std.proofs.lemmas.List.{length-drop, take_all}
@@ -8,7 +9,8 @@ use Rattle.dp_model.specs.declared.registers.Width.{Width}
 use Rattle.dp_model.specs.declared.registers.Width.TheVariants.{One, Two, Four, Eight}
 use Rattle.dp_model.specs.Environments.{room_at}
 use Rattle.dp_model.specs.Buffers.{IsNumber, bytes_of, written}
-use Rattle.dp_model.specs.Packets.{Segment, Packet, headroom, tailroom, first_len, room_behind, at_front, at_end, more_before, more_behind, zeroed_before, zeroed_behind, stored, loaded}
+use Rattle.dp_model.specs.Packets.{Segment, Packet, headroom, tailroom, first_len, room_behind, at_front, at_end, more_before, more_behind, zeroed_before}
+use Rattle.dp_model.specs.Packets.{zeroed_behind, stored, loaded}
 use Rattle.dp_model.specs.Stores.{Store, Has, HasSome, IsLive, Of, Becomes}
 use Rattle.dp_mbuf.specs.declared.header.Header.{Header}
 use Rattle.dp_pool.specs.Pools.{PoolView}
@@ -74,7 +76,8 @@ module _ (ps : List PoolView) (v : Store) (h : ℕ) (e : shown ps ≡ v) (sound 
         number = f.lies.number;
       }
 
-  pub at_first : (x : Header) (place w : ℕ) → x ≡ header_at ps (numbered h) → HasSome v h (λ k. place + w ≤ first_len k) → (place + w ≤ x.len) × HasObject ps x.buffer × (x.offset + x.len ≤ room_at (specs_of ps) x.buffer.pool) × (room_at (specs_of ps) x.buffer.pool ≤ 4096)
+  pub at_first : (x : Header) (place w : ℕ) → x ≡ header_at ps (numbered h) → HasSome v h (λ k. place + w ≤ first_len k) →
+      (place + w ≤ x.len) × HasObject ps x.buffer × (x.offset + x.len ≤ room_at (specs_of ps) x.buffer.pool) × (room_at (specs_of ps) x.buffer.pool ≤ 4096)
   at_first x place w ex r =
       let f = first_part x r.0 ex r.1 in
       let fit = r.2 in
@@ -82,7 +85,9 @@ module _ (ps : List PoolView) (v : Store) (h : ℕ) (e : shown ps ≡ v) (sound 
       let n = f.len in
       (omega (arith, fit, l, n), f.object, f.fits, f.small)
 
-  pub loaded_is : (x : Header) (place w : ℕ) (bytes : List ℕ) → x ≡ header_at ps (numbered h) → bytes ≡ slice_range (bytes_of (buffers_of ps) x.buffer) x.offset (x.offset + x.len) → Of v h (λ k. spelled (slice_range bytes place (place + w)) ≡ loaded place w k v.buffers)
+  pub loaded_is : (x : Header) (place w : ℕ) (bytes : List ℕ) → x ≡ header_at ps (numbered h) →
+      bytes ≡ slice_range (bytes_of (buffers_of ps) x.buffer) x.offset (x.offset + x.len) →
+      Of v h (λ k. spelled (slice_range bytes place (place + w)) ≡ loaded place w k v.buffers)
   loaded_is x place w bytes ex eb k has =
       let f = first_part x k ex has in
       ap (λ y. spelled (slice_range y place (place + w))) eb
@@ -91,7 +96,8 @@ module _ (ps : List PoolView) (v : Store) (h : ℕ) (e : shown ps ≡ v) (sound 
       ∙ (ap (λ y. spelled (slice_range (slice_range (bytes_of (buffers_of ps) f.seg.buffer) f.seg.offset (f.seg.offset + y)) place (place + w))) f.len
       ∙ (ap (λ s. loaded place w (f.seg ∷ f.rest) s.buffers) e ∙ ap (λ j. loaded place w j v.buffers) (sym f.is)))))
 
-  pub stored_done : (ps' : List PoolView) (x : Header) (place w n at : ℕ) (bytes : List ℕ) → x ≡ header_at ps (numbered h) → IsLive v h → at ≡ x.offset + place → bytes ≡ big_endian w n → RoomWritten ps x.buffer at bytes ps' → Sound ps' × Becomes v (shown ps') h (λ k. k) (stored place w n)
+  pub stored_done : (ps' : List PoolView) (x : Header) (place w n at : ℕ) (bytes : List ℕ) → x ≡ header_at ps (numbered h) → IsLive v h →
+      at ≡ x.offset + place → bytes ≡ big_endian w n → RoomWritten ps x.buffer at bytes ps' → Sound ps' × Becomes v (shown ps') h (λ k. k) (stored place w n)
   stored_done ps' x place w n at bytes ex live ea eb done =
       let d = settled ps' (slots_of ps) (bytes_whole ps ps' [] (slots_of ps) x.buffer at bytes sound done) in (
         d.0,
@@ -116,7 +122,9 @@ module _ (ps : List PoolView) (v : Store) (h : ℕ) (e : shown ps ≡ v) (sound 
       let o = f.offset in
       omega (arith, fit, l, o)
 
-  pub prepended_done : (ps1 ps' : List PoolView) (x : Header) (n at : ℕ) → x ≡ header_at ps (numbered h) → IsLive v h → n ≤ x.offset → at ≡ x.offset - n → HeaderSet ps (numbered h) (moved (header_at ps (numbered h)) at (x.len + n)) ps1 → RoomWritten ps1 x.buffer at (replicate n 0) ps' → Sound ps' × Becomes v (shown ps') h (at_front (more_before n)) (zeroed_before n)
+  pub prepended_done : (ps1 ps' : List PoolView) (x : Header) (n at : ℕ) → x ≡ header_at ps (numbered h) → IsLive v h → n ≤ x.offset → at ≡ x.offset - n →
+      HeaderSet ps (numbered h) (moved (header_at ps (numbered h)) at (x.len + n)) ps1 → RoomWritten ps1 x.buffer at (replicate n 0) ps' →
+      Sound ps' × Becomes v (shown ps') h (at_front (more_before n)) (zeroed_before n)
   prepended_done ps1 ps' x n at ex live fit ea done room =
       let all : (k : Packet) → Has v h k → Sound ps' × (slots_of ps' ≡ set (slots_of ps) h (Some (at_front (more_before n) k))) =
       λ k has. let f = first_part x k ex has in
@@ -125,7 +133,8 @@ module _ (ps : List PoolView) (v : Store) (h : ℕ) (e : shown ps ≡ v) (sound 
       let len = f.len in
       let b = ap (λ y. room_at (specs_of ps) y.pool) f.buffer in
       let r = front_edited ps ps1 h f.seg f.rest (more_before n) at (x.len + n) sound f.slot f.mbuf f.header done
-      (ap (λ y. record f.seg { offset = y; len = f.seg.len + n }) (sym (ea ∙ ap (λ y. y - n) of)) ∙ ap (λ y. record f.seg { offset = at; len = y + n }) (sym len))
+      (ap (λ y. record f.seg { offset = y; len = f.seg.len + n }) (sym (ea ∙ ap (λ y. y - n) of))
+      ∙ ap (λ y. record f.seg { offset = at; len = y + n }) (sym len))
       (record { fits = omega (arith, fits, fit, of, len, b); number = f.number }) in
       let d = settled ps' (slots_of ps1) (bytes_whole ps1 ps' [] (slots_of ps1) x.buffer at (replicate n 0) r.0 room) in
       (d.0, d.1 ∙ (r.1 ∙ sym (ap (λ j. set (slots_of ps) h (Some (at_front (more_before n) j))) f.is))) in (
@@ -182,7 +191,8 @@ module _ (ps : List PoolView) (v : Store) (h : ℕ) (e : shown ps ≡ v) (sound 
         number = l.lies.number;
       }
 
-  pub behind_last : (x : Header) (n : ℕ) → x ≡ header_at ps (header_at ps (numbered h)).last → (r : HasSome v h (λ k. n ≤ tailroom v.pools k)) → (x.offset + x.len + n ≤ room_at (specs_of ps) x.buffer.pool) × HasObject ps x.buffer × (room_at (specs_of ps) x.buffer.pool ≤ 4096)
+  pub behind_last : (x : Header) (n : ℕ) → x ≡ header_at ps (header_at ps (numbered h)).last → (r : HasSome v h (λ k. n ≤ tailroom v.pools k)) →
+      (x.offset + x.len + n ≤ room_at (specs_of ps) x.buffer.pool) × HasObject ps x.buffer × (room_at (specs_of ps) x.buffer.pool ≤ 4096)
   behind_last x n ex r =
       let l = last_part x r.0 ex r.1 in
       let fit = r.2 in
@@ -194,7 +204,10 @@ module _ (ps : List PoolView) (v : Store) (h : ℕ) (e : shown ps ≡ v) (sound 
       let fits = l.fits in
       (omega (arith, fit, t, b, o, len, fits), l.object, l.small)
 
-  pub appended_done : (ps1 ps' : List PoolView) (x : Header) (n at : ℕ) → x ≡ header_at ps (header_at ps (numbered h)).last → IsLive v h → x.offset + x.len + n ≤ room_at (specs_of ps) x.buffer.pool → at ≡ x.offset + x.len → HeaderSet ps (header_at ps (numbered h)).last (moved (header_at ps (header_at ps (numbered h)).last) x.offset (x.len + n)) ps1 → RoomWritten ps1 x.buffer at (replicate n 0) ps' → Sound ps' × Becomes v (shown ps') h (at_end (more_behind n)) (zeroed_behind n)
+  pub appended_done : (ps1 ps' : List PoolView) (x : Header) (n at : ℕ) → x ≡ header_at ps (header_at ps (numbered h)).last → IsLive v h →
+      x.offset + x.len + n ≤ room_at (specs_of ps) x.buffer.pool → at ≡ x.offset + x.len →
+      HeaderSet ps (header_at ps (numbered h)).last (moved (header_at ps (header_at ps (numbered h)).last) x.offset (x.len + n)) ps1 →
+      RoomWritten ps1 x.buffer at (replicate n 0) ps' → Sound ps' × Becomes v (shown ps') h (at_end (more_behind n)) (zeroed_behind n)
   appended_done ps1 ps' x n at ex live fit ea done room =
       let all : (k : Packet) → Has v h k → Sound ps' × (slots_of ps' ≡ set (slots_of ps) h (Some (at_end (more_behind n) k))) =
       λ k has. let l = last_part x k ex has in

@@ -30,7 +30,9 @@ last_join n m [] (s ∷ t) h some l = refl
 last_join n m (a ∷ k) t h some l = last_join a.mbuf m k t h some l
 
 -- the last of the segments in hand gets more behind it
-pub joined : (ps ps' : List PoolView) (k t : Packet) (slots : List (Option Packet)) (n m : Number) → Whole ps (k ++ t) slots → 1 ≤ length k → Linked (header_at ps) n k → Linked (header_at ps) m t → HeaderSet ps (last_mbuf n k) (record (header_at ps (last_mbuf n k)) { next = m }) ps' → Whole ps' (k ++ t) slots × Linked (header_at ps') n (k ++ t)
+pub joined : (ps ps' : List PoolView) (k t : Packet) (slots : List (Option Packet)) (n m : Number) → Whole ps (k ++ t) slots → 1 ≤ length k →
+    Linked (header_at ps) n k → Linked (header_at ps) m t → HeaderSet ps (last_mbuf n k) (record (header_at ps (last_mbuf n k)) { next = m }) ps' →
+    Whole ps' (k ++ t) slots × Linked (header_at ps') n (k ++ t)
 joined ps ps' k t slots n m w some lk lt done =
     let l : Number = last_mbuf n k in
     let in_k = last_of_links (header_at ps) n k some lk in
@@ -51,41 +53,61 @@ joined ps ps' k t slots n m w some lk lt done =
           (ap (λ h. h.next) done.here),
     )
 
-module _ (ps : List PoolView) (v : Store) (h t : ℕ) (e : shown ps ≡ v) (sound : Sound ps) (two : h ≢ t) (few : HasSome v h (λ k. HasSome v t (λ j. length k + length j ≤ 64))) where
+module _ (ps : List PoolView) (v : Store) (h t : ℕ) (e : shown ps ≡ v) (sound : Sound ps) (two : h ≢ t)
+    (few : HasSome v h (λ k. HasSome v t (λ j. length k + length j ≤ 64))) where
   abbrev k : Packet
   k = few.0
 
   abbrev j : Packet
   j = few.2.0
 
-  pub tail_gone : (ps1 : List PoolView) → HeaderSet ps (numbered t) (record (header_at ps (numbered t)) { segs = 0 }) ps1 → Whole ps1 few.2.0 (set (slots_of ps) t None) × Linked (header_at ps1) (numbered t) few.2.0 × Stands ps (numbered t) few.2.0
+  pub tail_gone : (ps1 : List PoolView) → HeaderSet ps (numbered t) (record (header_at ps (numbered t)) { segs = 0 }) ps1 →
+      Whole ps1 few.2.0 (set (slots_of ps) t None) × Linked (header_at ps1) (numbered t) few.2.0 × Stands ps (numbered t) few.2.0
   tail_gone ps1 done =
-      unhooked ps ps1 (slots_of ps) t j (record (header_at ps (numbered t)) { segs = 0 }) sound (opened ps v t j e sound few.2.1).slot done refl refl (record { offset = refl; len = refl; next = refl; buffer = refl })
+      unhooked ps ps1 (slots_of ps) t j (record (header_at ps (numbered t)) { segs = 0 }) sound (opened ps v t j e sound few.2.1).slot done refl refl
+      (record { offset = refl; len = refl; next = refl; buffer = refl })
 
-  pub head_gone : (ps1 ps2 : List PoolView) → HeaderSet ps (numbered t) (record (header_at ps (numbered t)) { segs = 0 }) ps1 → HeaderSet ps1 (numbered h) (record (header_at ps1 (numbered h)) { segs = 0 }) ps2 → Whole ps2 (few.0 ++ few.2.0) (set (set (slots_of ps) t None) h None) × Linked (header_at ps2) (numbered h) few.0 × Linked (header_at ps2) (numbered t) few.2.0 × Stands ps1 (numbered h) few.0
+  pub head_gone : (ps1 ps2 : List PoolView) → HeaderSet ps (numbered t) (record (header_at ps (numbered t)) { segs = 0 }) ps1 →
+      HeaderSet ps1 (numbered h) (record (header_at ps1 (numbered h)) { segs = 0 }) ps2 → Whole ps2 (few.0 ++ few.2.0) (set (set (slots_of ps) t None) h None)
+      × Linked (header_at ps2) (numbered h) few.0 × Linked (header_at ps2) (numbered t) few.2.0 × Stands ps1 (numbered h) few.0
   head_gone ps1 ps2 d1 d2 =
       let a = tail_gone ps1 d1 in
       let x : Header = record (header_at ps1 (numbered h)) { segs = 0 } in
-      let b = unhooked_from ps1 ps2 j (set (slots_of ps) t None) h k x a.0 (get_or-set_other (slots_of ps) t h None None two ∙ (opened ps v h k e sound few.1).slot) d2 refl refl (record { offset = refl; len = refl; next = refl; buffer = refl }) in
-      (b.0, b.1, linked_kept (header_at ps1) (header_at ps2) (numbered t) j (λ m _. linkage_same ps1 ps2 (numbered h) x d2 (record { offset = refl; len = refl; next = refl; buffer = refl }) m) a.1, b.2)
+      let b = unhooked_from ps1 ps2 j (set (slots_of ps) t None) h k x a.0 (get_or-set_other (slots_of ps) t h None None two
+      ∙ (opened ps v h k e sound few.1).slot) d2 refl refl (record { offset = refl; len = refl; next = refl; buffer = refl }) in (
+        b.0,
+        b.1,
+        linked_kept (header_at ps1) (header_at ps2) (numbered t) j
+            (λ m _. linkage_same ps1 ps2 (numbered h) x d2 (record { offset = refl; len = refl; next = refl; buffer = refl }) m) a.1,
+        b.2,
+      )
 
-  pub last_there : (ps1 ps2 : List PoolView) (l : Number) → HeaderSet ps (numbered t) (record (header_at ps (numbered t)) { segs = 0 }) ps1 → HeaderSet ps1 (numbered h) (record (header_at ps1 (numbered h)) { segs = 0 }) ps2 → l ≡ (header_at ps1 (numbered h)).last → HasObject ps2 l
+  pub last_there : (ps1 ps2 : List PoolView) (l : Number) → HeaderSet ps (numbered t) (record (header_at ps (numbered t)) { segs = 0 }) ps1 →
+      HeaderSet ps1 (numbered h) (record (header_at ps1 (numbered h)) { segs = 0 }) ps2 → l ≡ (header_at ps1 (numbered h)).last → HasObject ps2 l
   last_there ps1 ps2 l d1 d2 el =
       let b = head_gone ps1 ps2 d1 d2 in
       let slots2 : List (Option Packet) = set (set (slots_of ps) t None) h None in
       let n : Number = last_mbuf (numbered h) k in
       let in_k = last_of_links (header_at ps2) (numbered h) k b.3.some b.1 in
       subst (HasObject ps2) (sym (el ∙ b.3.last))
-      (object_of ps2 n (all_at (IsNumber (specs_of ps2)) (k ++ j) n (all_front (λ s. IsNumber (specs_of ps2) s.mbuf) (k ++ j) (segments_held slots2) b.0.counted.numbers) (omega (arith, in_k, mbufs-append k j n))))
+      (object_of ps2 n (all_at (IsNumber (specs_of ps2)) (k ++ j) n (all_front (λ s. IsNumber (specs_of ps2) s.mbuf) (k
+      ++ j) (segments_held slots2) b.0.counted.numbers) (omega (arith, in_k, mbufs-append k j n))))
 
-  pub segs_fit : (ps1 ps2 : List PoolView) → HeaderSet ps (numbered t) (record (header_at ps (numbered t)) { segs = 0 }) ps1 → HeaderSet ps1 (numbered h) (record (header_at ps1 (numbered h)) { segs = 0 }) ps2 → (header_at ps1 (numbered h)).segs + (header_at ps (numbered t)).segs ≤ 64
+  pub segs_fit : (ps1 ps2 : List PoolView) → HeaderSet ps (numbered t) (record (header_at ps (numbered t)) { segs = 0 }) ps1 →
+      HeaderSet ps1 (numbered h) (record (header_at ps1 (numbered h)) { segs = 0 }) ps2 →
+      (header_at ps1 (numbered h)).segs + (header_at ps (numbered t)).segs ≤ 64
   segs_fit ps1 ps2 d1 d2 =
       let a = (tail_gone ps1 d1).2.segs in
       let b = (head_gone ps1 ps2 d1 d2).3.segs in
       let f = few.2.2 in
       omega (arith, a, b, f)
 
-  pub chained : (ps1 ps2 ps3 ps4 : List PoolView) (l : Number) (segs : ℕ) (last : Number) → HeaderSet ps (numbered t) (record (header_at ps (numbered t)) { segs = 0 }) ps1 → HeaderSet ps1 (numbered h) (record (header_at ps1 (numbered h)) { segs = 0 }) ps2 → l ≡ (header_at ps1 (numbered h)).last → HeaderSet ps2 l (record (header_at ps2 l) { next = numbered t }) ps3 → segs ≡ (header_at ps1 (numbered h)).segs + (header_at ps (numbered t)).segs → last ≡ (header_at ps (numbered t)).last → HeaderSet ps3 (numbered h) (record (header_at ps3 (numbered h)) { segs = segs; last = last }) ps4 → Sound ps4 × Chains v h t (shown ps4)
+  pub chained : (ps1 ps2 ps3 ps4 : List PoolView) (l : Number) (segs : ℕ) (last : Number) →
+      HeaderSet ps (numbered t) (record (header_at ps (numbered t)) { segs = 0 }) ps1 →
+      HeaderSet ps1 (numbered h) (record (header_at ps1 (numbered h)) { segs = 0 }) ps2 → l ≡ (header_at ps1 (numbered h)).last →
+      HeaderSet ps2 l (record (header_at ps2 l) { next = numbered t }) ps3 → segs ≡ (header_at ps1 (numbered h)).segs + (header_at ps (numbered t)).segs →
+      last ≡ (header_at ps (numbered t)).last → HeaderSet ps3 (numbered h) (record (header_at ps3 (numbered h)) { segs = segs; last = last }) ps4 →
+      Sound ps4 × Chains v h t (shown ps4)
   chained ps1 ps2 ps3 ps4 l segs last d1 d2 el d3 es ea d4 =
       let a = tail_gone ps1 d1 in
       let b = head_gone ps1 ps2 d1 d2 in
@@ -93,7 +115,8 @@ module _ (ps : List PoolView) (v : Store) (h t : ℕ) (e : shown ps ≡ v) (soun
       let sj = a.2 in
       let slots2 : List (Option Packet) = set (set (slots_of ps) t None) h None in
       let l_is : l ≡ last_mbuf (numbered h) k = el ∙ sk.last in
-      let c = joined ps2 ps3 k j slots2 (numbered h) (numbered t) b.0 sk.some b.1 b.2 (subst (λ m. HeaderSet ps2 m (record (header_at ps2 m) { next = numbered t }) ps3) l_is d3) in
+      let c = joined ps2 ps3 k j slots2 (numbered h) (numbered t) b.0 sk.some b.1 b.2
+      (subst (λ m. HeaderSet ps2 m (record (header_at ps2 m) { next = numbered t }) ps3) l_is d3) in
       let few' = few.2.2 in
       let n1 = sk.segs in
       let n2 = sj.segs in

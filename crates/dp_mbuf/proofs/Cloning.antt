@@ -1,5 +1,6 @@
 -- A packet cloned, segment by segment.
-use Rattle.std.proofs.Common.{◌≡◌, ℕ, zero, suc, ◌+◌, ◌*◌, ◌^◌, ◌<◌, ◌≤◌, Bool, true, false, List, [], ◌∷◌, ◌++◌, length, drop, Option, Some, None, refl, sym, ◌∙◌, ap, subst, arith, inr, ⊎_elim, get_or, set}
+use Rattle.std.proofs.Common.{◌≡◌, ℕ, zero, suc, ◌+◌, ◌*◌, ◌^◌, ◌<◌, ◌≤◌, Bool, true, false, List, [], ◌∷◌, ◌++◌, length, drop, Option, Some, None, refl, sym}
+use Rattle.std.proofs.Common.{◌∙◌, ap, subst, arith, inr, ⊎_elim, get_or, set}
 use Rattle.std.specs.Prelude.{count_by, slice_set}
 use Rattle.std.specs.List.{AllByRecursion}
 use Rattle.std.proofs.lemmas.List.{length-append}
@@ -13,7 +14,8 @@ use Rattle.dp_mbuf.specs.Objects.{header_at, is_out, count_in, specs_of, buffers
 use Rattle.dp_mbuf.specs.Steps.{Linkage, Alike, CanClone, Cloned, cloned_header}
 use Rattle.dp_mbuf.specs.Mbufs.{handle, numbered, segment_at, shown, mbufs, Linked, last_mbuf, StandsAt, Whole, Sound}
 use Rattle.dp_mbuf.proofs.ObjectLemmas.{same_or, same_self, length_specs}
-use Rattle.dp_mbuf.proofs.Counting.{AllOf, count-append, count-cons, mbufs-append, mbufs-cons, mbufs_first, refs-append, refs-cons, refs_first, refs_le, each_count, all_join, all_front, all_rest, all_slot, slot_among, count_of}
+use Rattle.dp_mbuf.proofs.Counting.{AllOf, count-append, count-cons, mbufs-append, mbufs-cons, mbufs_first, refs-append, refs-cons, refs_first, refs_le}
+use Rattle.dp_mbuf.proofs.Counting.{each_count, all_join, all_front, all_rest, all_slot, slot_among, count_of}
 use Rattle.dp_mbuf.proofs.Links.{alike, first_in, first_mbuf, linked_kept, segment_eq}
 use Rattle.dp_mbuf.proofs.Frames.{object_of, number_of, number_small, positive, counted_same}
 use Rattle.dp_mbuf.proofs.Edits.{all_at, hooked}
@@ -30,7 +32,14 @@ pub reordered : (ps : List PoolView) (s : Segment) (hand : Packet) (slots : List
 reordered ps s hand slots w = record {
   are = w.are;
   counted = counted_same ps ps (s ∷ hand ++ segments_held slots) ((hand ++ s ∷ []) ++ segments_held slots) w.counted
-      (each_count _ _ (λ f. omega (arith, count-cons f s (hand ++ segments_held slots), count-append f hand (segments_held slots), count-append f (hand ++ s ∷ []) (segments_held slots), count-append f hand (s ∷ []), count-cons f s [])))
+      (each_count _ _ (λ f. omega (
+        arith,
+        count-cons f s (hand ++ segments_held slots),
+        count-append f hand (segments_held slots),
+        count-append f (hand ++ s ∷ []) (segments_held slots),
+        count-append f hand (s ∷ []),
+        count-cons f s [],
+      )))
       refl (λ _. refl) (λ _ _. refl)
       (all_last (λ t. IsNumber (specs_of ps) t.mbuf) w.counted.numbers)
       (all_last (Lies (specs_of ps)) w.counted.lie);
@@ -56,7 +65,8 @@ held_few n (Some k ∷ slots) e =
     let q = held_few n slots (λ h. e (suc h)) in
     let f : length k ≤ 64 = e 0 in omega (arith, q, f, length-append k (segments_held slots))
 
-pub refs_few : (ps : List PoolView) (hand : Packet) (slots : List (Option Packet)) (b : Number) → Whole ps hand slots → length hand ≤ 64 → 1 ≤ refs (hand ++ segments_held slots) b → (header_at ps b).refs + 1 < 2 ^ 32
+pub refs_few : (ps : List PoolView) (hand : Packet) (slots : List (Option Packet)) (b : Number) → Whole ps hand slots → length hand ≤ 64 →
+    1 ≤ refs (hand ++ segments_held slots) b → (header_at ps b).refs + 1 < 2 ^ 32
 refs_few ps hand slots b w few some =
     let f = held_few 0 slots (λ h. each (numbered h) (get_or slots h None) (w.shows.each h)) in
     let m = w.shows.many in
@@ -84,7 +94,9 @@ pub record Grown (ps ps' : List PoolView) (hand : Packet) (slots : List (Option 
   pub number : IsNumber (specs_of ps) n
   pub free : is_free (segments_held slots) n ≡ true
 
-pub grown_clone : (ps ps' : List PoolView) (hand : Packet) (slots : List (Option Packet)) (from n : Number) (s : Segment) → Whole ps hand slots → Cloned ps from n ps' → segment_at (header_at ps) from ≡ s → 1 ≤ refs (hand ++ segments_held slots) s.buffer → Lies (specs_of ps) s → Grown ps ps' hand slots n s
+pub grown_clone : (ps ps' : List PoolView) (hand : Packet) (slots : List (Option Packet)) (from n : Number) (s : Segment) → Whole ps hand slots →
+    Cloned ps from n ps' → segment_at (header_at ps) from ≡ s → 1 ≤ refs (hand ++ segments_held slots) s.buffer → Lies (specs_of ps) s →
+    Grown ps ps' hand slots n s
 grown_clone ps ps' hand slots from n s w c is some lies =
     let ss : List Segment = hand ++ segments_held slots in
     let b : Number = s.buffer in
@@ -154,7 +166,8 @@ grown_clone ps ps' hand slots from n s w c is some lies =
 
 -- ---- the clone so far
 
-pub cloned_push : (numbers : List Number) (p : Packet) (n : Number) (s : Segment) (rest : Packet) → drop (length numbers) p ≡ s ∷ rest → cloned (numbers ++ n ∷ []) p ≡ cloned numbers p ++ clone_at n s ∷ []
+pub cloned_push : (numbers : List Number) (p : Packet) (n : Number) (s : Segment) (rest : Packet) → drop (length numbers) p ≡ s ∷ rest →
+    cloned (numbers ++ n ∷ []) p ≡ cloned numbers p ++ clone_at n s ∷ []
 cloned_push [] [] n s rest e = cc
 cloned_push [] (t ∷ p) n s rest e =
     let h : t ≡ s = head t s p rest e in ap (λ x. clone_at n x ∷ []) h
@@ -169,7 +182,8 @@ length_cloned [] p h = refl
 length_cloned (m ∷ numbers) [] h = absurd (omega arith)
 length_cloned (m ∷ numbers) (t ∷ p) h = ap suc (length_cloned numbers p (omega arith))
 
-apart_all : (n : Number) (numbers : List Number) (p : Packet) → length numbers ≤ length p → mbufs (cloned numbers p) n ≡ 0 → AllByRecursion (λ m. same_number n m ≡ false) numbers
+apart_all : (n : Number) (numbers : List Number) (p : Packet) → length numbers ≤ length p → mbufs (cloned numbers p) n ≡ 0 →
+    AllByRecursion (λ m. same_number n m ≡ false) numbers
 apart_all n [] p h z = tt
 apart_all n (m ∷ numbers) [] h z = absurd (omega arith)
 apart_all n (m ∷ numbers) (t ∷ p) h z = (
@@ -235,7 +249,8 @@ pub record Source (ps : List PoolView) (hand : Packet) (v : Store) (h : ℕ) (p 
   pub lies : Lies (specs_of ps) seg
   pub mbufs : (m : Number) → 1 ≤ mbufs (seg ∷ rest) m → 1 ≤ mbufs (segments_held v.slots) m
 
-pub source_at : (ps : List PoolView) (hand : Packet) (v : Store) (h : ℕ) (p : Packet) (from : Number) (i : ℕ) → Whole ps hand v.slots → Has v h p → i < length p → Linked (header_at ps) from (drop i p) → Source ps hand v h p from i
+pub source_at : (ps : List PoolView) (hand : Packet) (v : Store) (h : ℕ) (p : Packet) (from : Number) (i : ℕ) → Whole ps hand v.slots → Has v h p →
+    i < length p → Linked (header_at ps) from (drop i p) → Source ps hand v h p from i
 source_at ps hand v h p from i w has b l =
     let d = drop_some i p b in
     let s : Segment = d.0 in
@@ -262,19 +277,22 @@ source_at ps hand v h p from i w has b l =
       mbufs = λ m q. let a = in_slot (λ t. same_number t.mbuf m) in omega (arith, a, q);
     }
 
-can_clone_at : (ps : List PoolView) (hand : Packet) (v : Store) (h : ℕ) (p : Packet) (from : Number) (i pool : ℕ) → Whole ps hand v.slots → length hand ≤ 64 → Has v h p → i < length p → Linked (header_at ps) from (drop i p) → pool < length ps → 1 ≤ count_in ps pool → CanClone ps from pool
+can_clone_at : (ps : List PoolView) (hand : Packet) (v : Store) (h : ℕ) (p : Packet) (from : Number) (i pool : ℕ) → Whole ps hand v.slots → length hand ≤ 64 →
+    Has v h p → i < length p → Linked (header_at ps) from (drop i p) → pool < length ps → 1 ≤ count_in ps pool → CanClone ps from pool
 can_clone_at ps hand v h p from i pool w few has b l there some =
     let s = source_at ps hand v h p from i w has b l in
     let eb : s.seg.buffer ≡ (header_at ps from).buffer = sym (ap (λ t. t.buffer) s.segment) in
     let in_slots = s.mbufs s.seg.mbuf (omega (arith, mbufs_first s.seg s.rest)) in
     let number : IsNumber (specs_of ps) s.seg.mbuf =
-    all_at (IsNumber (specs_of ps)) (segments_held v.slots) s.seg.mbuf (all_rest (λ t. IsNumber (specs_of ps) t.mbuf) hand (segments_held v.slots) w.counted.numbers) in_slots in
+    all_at (IsNumber (specs_of ps)) (segments_held v.slots) s.seg.mbuf
+    (all_rest (λ t. IsNumber (specs_of ps) t.mbuf) hand (segments_held v.slots) w.counted.numbers) in_slots in
     let r = s.refs in
     record {
       source = subst (HasObject ps) s.mbuf (object_of ps s.seg.mbuf number);
       buffer = subst (HasObject ps) eb (object_of ps s.seg.buffer s.lies.number);
       buffer_out = subst (λ j. is_out ps j ≡ true) eb
-          (w.counted.out s.seg.buffer s.lies.number ∙ positive (mbufs (hand ++ segments_held v.slots) s.seg.buffer + refs (hand ++ segments_held v.slots) s.seg.buffer) (omega (arith, r)));
+          (w.counted.out s.seg.buffer s.lies.number ∙ positive (mbufs (hand ++ segments_held v.slots) s.seg.buffer + refs (hand
+          ++ segments_held v.slots) s.seg.buffer) (omega (arith, r)));
       refs = subst (λ j. (header_at ps j).refs + 1 < 2 ^ 32) eb (refs_few ps hand v.slots s.seg.buffer w few s.refs);
       there = there;
       some = some;
@@ -289,17 +307,21 @@ without xs ys n m none some = ⊎_elim
 
 module _ (v : Store) (h : ℕ) (p : Packet) (pool : ℕ) (has : Has v h p) (few : length p ≤ 64) where
   -- the first segment
-  pub cloning_can : (ps : List PoolView) → Whole ps [] v.slots → Linked (header_at ps) (numbered h) p → 1 ≤ length p → pool < length ps → 1 ≤ count_in ps pool → CanClone ps (numbered h) pool
+  pub cloning_can : (ps : List PoolView) → Whole ps [] v.slots → Linked (header_at ps) (numbered h) p → 1 ≤ length p → pool < length ps →
+      1 ≤ count_in ps pool → CanClone ps (numbered h) pool
   cloning_can ps w l some there in_pool =
       can_clone_at ps [] v h p (numbered h) 0 pool w (omega arith) has some l there in_pool
 
-  pub cloning_start : (ps ps' : List PoolView) (n : Number) → Whole ps [] v.slots → Linked (header_at ps) (numbered h) p → 1 ≤ length p → pool < length ps → n.pool ≡ pool → specs_of ps ≡ v.pools → buffers_of ps ≡ v.buffers → count_in ps pool ≡ available v.pools (segments_of v) pool → Cloned ps (numbered h) n ps' → Cloning ps' v h p pool n n (header_at ps (numbered h)).next 1
+  pub cloning_start : (ps ps' : List PoolView) (n : Number) → Whole ps [] v.slots → Linked (header_at ps) (numbered h) p → 1 ≤ length p → pool < length ps →
+      n.pool ≡ pool → specs_of ps ≡ v.pools → buffers_of ps ≡ v.buffers → count_in ps pool ≡ available v.pools (segments_of v) pool →
+      Cloned ps (numbered h) n ps' → Cloning ps' v h p pool n n (header_at ps (numbered h)).next 1
   cloning_start ps ps' n w l some there ep es eb ea c =
       let s = source_at ps [] v h p (numbered h) 0 w has some l in
       let g = grown_clone ps ps' [] v.slots (numbered h) n s.seg w c s.segment s.refs s.lies in
       let push : cloned (n ∷ []) p ≡ clone_at n s.seg ∷ [] = cloned_push [] p n s.seg s.rest s.is in
       let links : Linked (header_at ps') (numbered h) (s.seg ∷ s.rest) =
-      linked_kept (header_at ps) (header_at ps') (numbered h) (s.seg ∷ s.rest) (λ m q. let i = s.mbufs m q in g.others m (without [] (segments_held v.slots) n m g.nothing (omega (arith, i)))) (subst (Linked (header_at ps) (numbered h)) s.is l) in
+      linked_kept (header_at ps) (header_at ps') (numbered h) (s.seg ∷ s.rest) (λ m q. let i = s.mbufs m q in
+      g.others m (without [] (segments_held v.slots) n m g.nothing (omega (arith, i)))) (subst (Linked (header_at ps) (numbered h)) s.is l) in
       let next : (header_at ps' (numbered h)).next ≡ (header_at ps (numbered h)).next =
       (g.others (numbered h) (without [] (segments_held v.slots) n (numbered h) g.nothing
       (let i = s.mbufs s.seg.mbuf (omega (arith, mbufs_first s.seg s.rest)) in
@@ -340,9 +362,13 @@ module _ (v : Store) (h : ℕ) (p : Packet) (pool : ℕ) (has : Has v h p) (few 
         let some = c.some in
         let in_made = last_of_links (header_at ps) first made (omega (arith, many, some)) c.links in
         subst (HasObject ps1) (sym c.last_is)
-        (object_of ps1 (last_mbuf first made) (all_at (IsNumber (specs_of ps1)) (made ++ segments_held v.slots) (last_mbuf first made) g.whole.counted.numbers.1 (omega (arith, in_made, mbufs-append made (segments_held v.slots) (last_mbuf first made)))))
+        (object_of ps1 (last_mbuf first made) (all_at (IsNumber (specs_of ps1)) (made
+        ++ segments_held v.slots) (last_mbuf first made) g.whole.counted.numbers.1
+        (omega (arith, in_made, mbufs-append made (segments_held v.slots) (last_mbuf first made)))))
 
-    pub step_done : (ps1 ps2 : List PoolView) (n : Number) → n.pool ≡ pool → Cloned ps from n ps1 → HeaderSet ps1 last (record (header_at ps1 last) { next = n }) ps2 → HasObject ps2 from × Cloning ps2 v h p pool first n (header_at ps2 from).next (i + 1)
+    pub step_done : (ps1 ps2 : List PoolView) (n : Number) → n.pool ≡ pool → Cloned ps from n ps1 →
+        HeaderSet ps1 last (record (header_at ps1 last) { next = n }) ps2 →
+        HasObject ps2 from × Cloning ps2 v h p pool first n (header_at ps2 from).next (i + 1)
     step_done ps1 ps2 n ep k done =
         let s = source_at ps made v h p from i c.whole has b c.source in
         let g = grown_clone ps ps1 made v.slots from n s.seg c.whole k s.segment s.refs s.lies in
@@ -353,7 +379,10 @@ module _ (v : Store) (h : ℕ) (p : Packet) (pool : ℕ) (has : Has v h p) (few 
         let links1 : Linked (header_at ps1) first made =
         linked_kept (header_at ps) (header_at ps1) first made (λ m q. g.others m (without made (segments_held v.slots) n m none (omega (arith, q)))) c.links in
         let some = c.some in
-        let j = joined ps1 ps2 made (clone_at n s.seg ∷ []) v.slots first n whole1 (omega (arith, many, some)) links1 (g.segment, tt) (subst (λ m. HeaderSet ps1 m (record (header_at ps1 m) { next = n }) ps2) c.last_is done) in
+        let j = joined ps1 ps2 made (clone_at n s.seg ∷ []) v.slots first n whole1 (omega (arith, many, some)) links1 (
+          g.segment,
+          tt,
+        ) (subst (λ m. HeaderSet ps1 m (record (header_at ps1 m) { next = n }) ps2) c.last_is done) in
         let in_made = last_of_links (header_at ps) first made (omega (arith, many, some)) c.links in
         let once = c.whole.counted.once (last_mbuf first made) in
         let source1 : Linked (header_at ps2) from (s.seg ∷ s.rest) =
@@ -363,7 +392,8 @@ module _ (v : Store) (h : ℕ) (p : Packet) (pool : ℕ) (has : Has v h p) (few 
         let x = g.others m d in
         ⊎_elim
         (λ e. absurd (let l : last ≡ m = e in
-        let y : mbufs (segments_held v.slots) (last_mbuf first made) ≡ mbufs (segments_held v.slots) m = ap (mbufs (segments_held v.slots)) (sym c.last_is ∙ l) in
+        let y : mbufs (segments_held v.slots) (last_mbuf first made) ≡ mbufs (segments_held v.slots) m =
+        ap (mbufs (segments_held v.slots)) (sym c.last_is ∙ l) in
         omega (arith, y, held, once, in_made, mbufs-append made (segments_held v.slots) (last_mbuf first made))))
         (λ o. let z = (alike (header_at ps2 m) (header_at ps1 m) (done.others m o)).link in
         record { offset = z.offset ∙ x.offset; len = z.len ∙ x.len; next = z.next ∙ x.next; buffer = z.buffer ∙ x.buffer })
@@ -371,7 +401,8 @@ module _ (v : Store) (h : ℕ) (p : Packet) (pool : ℕ) (has : Has v h p) (few 
         (subst (Linked (header_at ps) from) s.is c.source) in
         let held_from = s.mbufs s.seg.mbuf (omega (arith, mbufs_first s.seg s.rest)) in
         let number : IsNumber (specs_of ps2) s.seg.mbuf =
-        all_at (IsNumber (specs_of ps2)) (segments_held v.slots) s.seg.mbuf (all_rest (λ t. IsNumber (specs_of ps2) t.mbuf) (made ++ clone_at n s.seg ∷ []) (segments_held v.slots) j.0.counted.numbers) held_from in
+        all_at (IsNumber (specs_of ps2)) (segments_held v.slots) s.seg.mbuf
+        (all_rest (λ t. IsNumber (specs_of ps2) t.mbuf) (made ++ clone_at n s.seg ∷ []) (segments_held v.slots) j.0.counted.numbers) held_from in
         let e1 : length (c.numbers ++ n ∷ []) ≡ i + 1 = let a = c.count in omega (arith, a, length-append c.numbers (n ∷ [])) in (
           subst (HasObject ps2) s.mbuf (object_of ps2 s.seg.mbuf number),
           record {
@@ -383,7 +414,8 @@ module _ (v : Store) (h : ℕ) (p : Packet) (pool : ℕ) (has : Has v h p) (few 
             whole = subst (λ x. Whole ps2 x v.slots) (sym push) j.0;
             links = subst (Linked (header_at ps2) first) (sym push) j.1;
             last_is = sym (ap (last_mbuf first) push ∙ last_mbuf_is (clone_at n s.seg) first made);
-            each = all_join (IsFresh v.pools (segments_of v) pool) c.numbers (n ∷ []) c.each (record { of_pool = ep; exists = subst (λ x. IsNumber x n) c.specs g.number; free = g.free }, tt);
+            each = all_join (IsFresh v.pools (segments_of v) pool) c.numbers (n ∷ []) c.each
+                (record { of_pool = ep; exists = subst (λ x. IsNumber x n) c.specs g.number; free = g.free }, tt);
             ins = let a = subst (λ y. count_in ps1 y + 1 ≡ count_in ps y) ep g.ins in let d = done.ins pool in let o = c.ins in omega (arith, a, d, o);
             specs = done.specs ∙ (g.specs ∙ c.specs);
             buffers = done.buffers ∙ (g.buffers ∙ c.buffers);
@@ -400,15 +432,20 @@ module _ (v : Store) (h : ℕ) (p : Packet) (pool : ℕ) (has : Has v h p) (few 
         let some = c.some in
         let l : length (cloned c.numbers p) ≡ i = length_cloned c.numbers p (omega (arith, n, b)) ∙ n in
         let f = first_in (header_at ps) first (cloned c.numbers p) (omega (arith, l, some)) c.links in
-        object_of ps first (all_at (IsNumber (specs_of ps)) (cloned c.numbers p) first (all_front (λ t. IsNumber (specs_of ps) t.mbuf) (cloned c.numbers p) (segments_held v.slots) c.whole.counted.numbers) f)
+        object_of ps first (all_at (IsNumber (specs_of ps)) (cloned c.numbers p) first
+        (all_front (λ t. IsNumber (specs_of ps) t.mbuf) (cloned c.numbers p) (segments_held v.slots) c.whole.counted.numbers) f)
 
-    pub end_done : (ps' : List PoolView) (segs : ℕ) (r : ℕ) → length p ≤ available v.pools (segments_of v) pool → segs ≡ length p → r ≡ handle first → HeaderSet ps first (record (header_at ps first) { segs = segs; last = last }) ps' → Sound ps' × Gives v pool (length p) (λ ns. cloned ns p) (λ ns old new. new ≡ old) (shown ps') (Some r)
+    pub end_done : (ps' : List PoolView) (segs : ℕ) (r : ℕ) → length p ≤ available v.pools (segments_of v) pool → segs ≡ length p → r ≡ handle first →
+        HeaderSet ps first (record (header_at ps first) { segs = segs; last = last }) ps' →
+        Sound ps' × Gives v pool (length p) (λ ns. cloned ns p) (λ ns old new. new ≡ old) (shown ps') (Some r)
     end_done ps' segs r enough es er done =
         let n = c.count in
         let b = c.below in
         let some = c.some in
         let l : length (cloned c.numbers p) ≡ i = length_cloned c.numbers p (omega (arith, n, b)) ∙ n in
-        let k = hooked ps ps' v.slots first (cloned c.numbers p) (record (header_at ps first) { segs = segs; last = last }) c.whole c.links (omega (arith, l, some)) (omega (arith, l, b, few)) done (omega (arith, es, l, b, all)) c.last_is refl (record { offset = refl; len = refl; next = refl; buffer = refl }) in
+        let k = hooked ps ps' v.slots first (cloned c.numbers p) (record (header_at ps first) { segs = segs; last = last }) c.whole c.links
+        (omega (arith, l, some)) (omega (arith, l, b, few)) done (omega (arith, es, l, b, all)) c.last_is refl
+        (record { offset = refl; len = refl; next = refl; buffer = refl }) in
         let d = settled ps' (set v.slots (handle first) (Some (cloned c.numbers p))) k.0 in
         let there : handle first < length v.slots =
         let m = c.whole.shows.many in
@@ -422,11 +459,13 @@ module _ (v : Store) (h : ℕ) (p : Packet) (pool : ℕ) (has : Has v h p) (few 
             v.buffers,
             record {
               count = omega (arith, n, b, all);
-              distinct = distinct c.numbers p (omega (arith, n, b)) (λ m. let o = c.whole.counted.once m in omega (arith, o, mbufs-append (cloned c.numbers p) (segments_held v.slots) m));
+              distinct = distinct c.numbers p (omega (arith, n, b)) (λ m. let o = c.whole.counted.once m in
+                  omega (arith, o, mbufs-append (cloned c.numbers p) (segments_held v.slots) m));
               each = c.each;
             },
             refl,
-            store_eq (shown ps') (record v { buffers = v.buffers; slots = slice_set v.slots (handle first) (Some (cloned c.numbers p)) }) (done.specs ∙ c.specs) (done.buffers ∙ c.buffers) d.1,
+            store_eq (shown ps') (record v { buffers = v.buffers; slots = slice_set v.slots (handle first) (Some (cloned c.numbers p)) }) (done.specs
+                ∙ c.specs) (done.buffers ∙ c.buffers) d.1,
           ),
         )
 
@@ -442,7 +481,8 @@ pub record Before (ps : List PoolView) (v : Store) (h : ℕ) (p : Packet) (pool 
   pub specs : specs_of ps ≡ v.pools
   pub buffers : buffers_of ps ≡ v.buffers
 
-pub before : (ps : List PoolView) (v : Store) (h : ℕ) (pool : ℕ) → shown ps ≡ v → Sound ps → pool < length v.pools → (p : Packet) → Has v h p → Before ps v h p pool
+pub before : (ps : List PoolView) (v : Store) (h : ℕ) (pool : ℕ) → shown ps ≡ v → Sound ps → pool < length v.pools → (p : Packet) → Has v h p →
+    Before ps v h p pool
 before ps v h pool e sound exists p has =
     let o = opened ps v h p e sound has in
     record {

@@ -1,5 +1,6 @@
 -- Counts over segments, and what holds of all of them, when one slot changes.
-use Rattle.std.proofs.Common.{◌≡◌, ◌≢◌, ℕ, zero, suc, ◌+◌, ◌<◌, ◌≤◌, Bool, true, false, cond, List, [], ◌∷◌, ◌++◌, length, Option, Some, None, refl, ap, arith, get_or, set}
+use Rattle.std.proofs.Common.{◌≡◌, ◌≢◌, ℕ, zero, suc, ◌+◌, ◌<◌, ◌≤◌, Bool, true, false, cond, List, [], ◌∷◌, ◌++◌, length, Option, Some, None, refl, ap}
+use Rattle.std.proofs.Common.{arith, get_or, set}
 use Rattle.std.specs.Prelude.{count_by, ◌&&◌, not}
 use Rattle.std.specs.List.{AllByRecursion}
 use Rattle.std.proofs.lemmas.List.Sums.{sum_by-append, sum_by-cons, count_by-le-length}
@@ -26,7 +27,8 @@ module _ (f : Segment → Bool) where
   held (Some k) slots = count-append k (segments_held slots)
 
   -- one slot set
-  pub slot_counted : (slots : List (Option Packet)) (i : ℕ) (o : Option Packet) → i < length slots → count_by f (segments_held (set slots i o)) + count_of (get_or slots i None) ≡ count_by f (segments_held slots) + count_of o
+  pub slot_counted : (slots : List (Option Packet)) (i : ℕ) (o : Option Packet) → i < length slots →
+      count_by f (segments_held (set slots i o)) + count_of (get_or slots i None) ≡ count_by f (segments_held slots) + count_of o
   slot_counted [] i o h = absurd (omega arith)
   slot_counted (x ∷ slots) zero o h = omega (arith, held x slots, held o slots)
   slot_counted (x ∷ slots) (suc i) o h =
@@ -40,7 +42,8 @@ module _ (f : Segment → Bool) where
   slot_among (x ∷ slots) (suc i) = let q = slot_among slots i in omega (arith, q, held x slots)
 
   -- and those of two slots
-  pub slots_among : (slots : List (Option Packet)) (i j : ℕ) → i ≢ j → count_of (get_or slots i None) + count_of (get_or slots j None) ≤ count_by f (segments_held slots)
+  pub slots_among : (slots : List (Option Packet)) (i j : ℕ) → i ≢ j →
+      count_of (get_or slots i None) + count_of (get_or slots j None) ≤ count_by f (segments_held slots)
   slots_among [] i j ne = omega arith
   slots_among (x ∷ slots) zero zero ne = absurd (ne refl)
   slots_among (x ∷ slots) zero (suc j) ne = let q = slot_among slots j in omega (arith, q, held x slots)
@@ -72,7 +75,8 @@ AllOf P None = Unit {0}
 AllOf P (Some k) = AllByRecursion P k
 
 module _ (P : Segment → Type 0) where
-  all_held : (o : Option Packet) (slots : List (Option Packet)) → AllOf P o → AllByRecursion P (segments_held slots) → AllByRecursion P (segments_held (o ∷ slots))
+  all_held : (o : Option Packet) (slots : List (Option Packet)) → AllOf P o → AllByRecursion P (segments_held slots) →
+      AllByRecursion P (segments_held (o ∷ slots))
   all_held None slots h all = all
   all_held (Some k) slots h all = all_join P k (segments_held slots) h all
 
@@ -89,7 +93,8 @@ module _ (P : Segment → Type 0) where
   all_slot (x ∷ slots) zero all = held_first x slots all
   all_slot (x ∷ slots) (suc i) all = all_slot slots i (held_rest x slots all)
 
-  pub all_set : (slots : List (Option Packet)) (i : ℕ) (o : Option Packet) → AllOf P o → AllByRecursion P (segments_held slots) → AllByRecursion P (segments_held (set slots i o))
+  pub all_set : (slots : List (Option Packet)) (i : ℕ) (o : Option Packet) → AllOf P o → AllByRecursion P (segments_held slots) →
+      AllByRecursion P (segments_held (set slots i o))
   all_set [] i o h all = all
   all_set (x ∷ slots) zero o h all = all_held o slots h (held_rest x slots all)
   all_set (x ∷ slots) (suc i) o h all =
@@ -103,7 +108,8 @@ mbufs-cons s ys m = count-cons (λ s. same_number s.mbuf m) s ys
 pub refs-cons : (s : Segment) (ys : List Segment) (m : Number) → refs (s ∷ ys) m ≡ one_if (same_number s.buffer m) + refs ys m
 refs-cons s ys m = count-cons (λ s. same_number s.buffer m) s ys
 
-pub indirects-cons : (s : Segment) (ys : List Segment) (m : Number) → indirects (s ∷ ys) m ≡ one_if (same_number s.mbuf m && not (same_number s.buffer m)) + indirects ys m
+pub indirects-cons : (s : Segment) (ys : List Segment) (m : Number) → indirects (s ∷ ys) m
+    ≡ one_if (same_number s.mbuf m && not (same_number s.buffer m)) + indirects ys m
 indirects-cons s ys m = count-cons (λ s. same_number s.mbuf m && not (same_number s.buffer m)) s ys
 
 pub mbufs-append : (xs ys : List Segment) (m : Number) → mbufs (xs ++ ys) m ≡ mbufs xs m + mbufs ys m
@@ -154,12 +160,14 @@ each_count ss ss' e = record {
 }
 
 -- a packet taken out of its slot, and put into an empty one
-pub out_of_slot : (slots : List (Option Packet)) (h : ℕ) (k : Packet) → h < length slots → get_or slots h None ≡ Some k → SameCounts (segments_held slots) (k ++ segments_held (set slots h None))
+pub out_of_slot : (slots : List (Option Packet)) (h : ℕ) (k : Packet) → h < length slots → get_or slots h None ≡ Some k →
+    SameCounts (segments_held slots) (k ++ segments_held (set slots h None))
 out_of_slot slots h k b e =
     each_count _ _ (λ f. let c = ap (count_of f) e in
     omega (arith, c, slot_counted f slots h None b, count-append f k (segments_held (set slots h None))))
 
-pub into_slot : (slots : List (Option Packet)) (h : ℕ) (k : Packet) → h < length slots → get_or slots h None ≡ None → SameCounts (k ++ segments_held slots) (segments_held (set slots h (Some k)))
+pub into_slot : (slots : List (Option Packet)) (h : ℕ) (k : Packet) → h < length slots → get_or slots h None ≡ None →
+    SameCounts (k ++ segments_held slots) (segments_held (set slots h (Some k)))
 into_slot slots h k b e =
     each_count _ _ (λ f. let c = ap (count_of f) e in
     omega (arith, c, slot_counted f slots h (Some k) b, count-append f k (segments_held slots)))

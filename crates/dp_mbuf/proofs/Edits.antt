@@ -1,5 +1,6 @@
 -- A packet hooked to its slot, unhooked from it, and changed in it.
-use Rattle.std.proofs.Common.{◌≡◌, ◌≢◌, ℕ, ◌+◌, ◌<◌, ◌≤◌, Bool, true, false, cond, List, [], ◌∷◌, ◌++◌, length, Option, Some, None, refl, sym, ◌∙◌, ap, subst, arith, ⊎_elim, get_or, set}
+use Rattle.std.proofs.Common.{◌≡◌, ◌≢◌, ℕ, ◌+◌, ◌<◌, ◌≤◌, Bool, true, false, cond, List, [], ◌∷◌, ◌++◌, length, Option, Some, None, refl, sym, ◌∙◌, ap, subst}
+use Rattle.std.proofs.Common.{arith, ⊎_elim, get_or, set}
 use Rattle.std.specs.Prelude.{count_by, ◌&&◌, not}
 use Rattle.std.specs.List.{AllByRecursion}
 use Rattle.std.proofs.lemmas.Bool.{cases_lt}
@@ -13,9 +14,11 @@ use Rattle.dp_mbuf.specs.Objects.{header_at, is_out, specs_of, HeaderSet, RoomWr
 use Rattle.dp_mbuf.specs.Steps.{Linkage}
 use Rattle.dp_mbuf.specs.Mbufs.{handle, numbered, is_positive, segment_at, is_head, mbufs, Linked, last_mbuf, Stands, StandsAt, Whole}
 use Rattle.dp_mbuf.proofs.ObjectLemmas.{same_or}
-use Rattle.dp_mbuf.proofs.Counting.{AllOf, count_of, count-cons, count-append, slot_counted, slot_among, slots_among, SameCounts, each_count, into_slot, mbufs-append, all_join, all_front, all_rest, all_slot, all_set}
+use Rattle.dp_mbuf.proofs.Counting.{AllOf, count_of, count-cons, count-append, slot_counted, slot_among, slots_among, SameCounts, each_count, into_slot}
+use Rattle.dp_mbuf.proofs.Counting.{mbufs-append, all_join, all_front, all_rest, all_slot, all_set}
 use Rattle.dp_mbuf.proofs.Links.{alike, first_in, linked_kept, linked_edit, last_edit, length_edit, mbufs_middle, segment_eq}
-use Rattle.dp_mbuf.proofs.Frames.{number_back, numbered_apart, object_of, number_small, same_length, positive, Stays, head_stays, frame, slot_frame, counted_same}
+use Rattle.dp_mbuf.proofs.Frames.{number_back, numbered_apart, object_of, number_small, same_length, positive, Stays, head_stays, frame, slot_frame}
+use Rattle.dp_mbuf.proofs.Frames.{counted_same}
 
 -- a slot that holds a packet is one of the slots
 pub slot_there : (slots : List (Option Packet)) (h : ℕ) (k : Packet) → get_or slots h None ≡ Some k → h < length slots
@@ -67,14 +70,17 @@ apart_number i h ne = ⊎_elim (λ e. absurd (numbered_apart i h ne (sym e))) (�
 
 -- ---- a packet out of its slot: its first header is none any more
 
-all_taken : (P : Segment → Type 0) (hand : Packet) (slots : List (Option Packet)) (h : ℕ) (k : Packet) → get_or slots h None ≡ Some k → AllByRecursion P (hand ++ segments_held slots) → AllByRecursion P ((k ++ hand) ++ segments_held (set slots h None))
+all_taken : (P : Segment → Type 0) (hand : Packet) (slots : List (Option Packet)) (h : ℕ) (k : Packet) → get_or slots h None ≡ Some k →
+    AllByRecursion P (hand ++ segments_held slots) → AllByRecursion P ((k ++ hand) ++ segments_held (set slots h None))
 all_taken P hand slots h k e all =
     let rest = all_rest P hand (segments_held slots) all in
     all_join P (k ++ hand) (segments_held (set slots h None))
     (all_join P k hand (subst (AllOf P) e (all_slot P slots h rest)) (all_front P hand (segments_held slots) all))
     (all_set P slots h None tt rest)
 
-pub unhooked_from : (ps ps' : List PoolView) (hand : Packet) (slots : List (Option Packet)) (h : ℕ) (k : Packet) (x : Header) → Whole ps hand slots → get_or slots h None ≡ Some k → HeaderSet ps (numbered h) x ps' → x.segs ≡ 0 → x.refs ≡ (header_at ps (numbered h)).refs → Linkage x (header_at ps (numbered h)) → Whole ps' (k ++ hand) (set slots h None) × Linked (header_at ps') (numbered h) k × Stands ps (numbered h) k
+pub unhooked_from : (ps ps' : List PoolView) (hand : Packet) (slots : List (Option Packet)) (h : ℕ) (k : Packet) (x : Header) → Whole ps hand slots →
+    get_or slots h None ≡ Some k → HeaderSet ps (numbered h) x ps' → x.segs ≡ 0 → x.refs ≡ (header_at ps (numbered h)).refs →
+    Linkage x (header_at ps (numbered h)) → Whole ps' (k ++ hand) (set slots h None) × Linked (header_at ps') (numbered h) k × Stands ps (numbered h) k
 unhooked_from ps ps' hand slots h k x w e done segs kept link =
     let b = slot_there slots h k e in
     let n : Number = numbered h in
@@ -87,13 +93,23 @@ unhooked_from ps ps' hand slots h k x w e done segs kept link =
         are = done.are;
         counted = counted_same ps ps' (hand ++ segments_held slots) ((k ++ hand) ++ segments_held (set slots h None)) w.counted
             (each_count _ _ (λ f. let c = ap (count_of f) e in
-            omega (arith, c, slot_counted f slots h None b, count-append f hand (segments_held slots), count-append f (k ++ hand) (segments_held (set slots h None)), count-append f k hand)))
-            done.specs done.outs (λ m _. stored_same ps ps' n x done kept m) (all_taken (λ t. IsNumber (specs_of ps) t.mbuf) hand slots h k e w.counted.numbers) (all_taken (Lies (specs_of ps)) hand slots h k e w.counted.lie);
+            omega (
+              arith,
+              c,
+              slot_counted f slots h None b,
+              count-append f hand (segments_held slots),
+              count-append f (k ++ hand) (segments_held (set slots h None)),
+              count-append f k hand,
+            )))
+            done.specs done.outs (λ m _. stored_same ps ps' n x done kept m)
+            (all_taken (λ t. IsNumber (specs_of ps) t.mbuf) hand slots h k e w.counted.numbers)
+            (all_taken (Lies (specs_of ps)) hand slots h k e w.counted.lie);
         shows = slot_frame ps ps' slots h None (same_length ps ps' done.specs) w.shows b
             (λ i ne m q. ⊎_elim
             (λ same. let two = slots_among (λ t. same_number t.mbuf n) slots h i (λ d. ne (sym d)) in
             let c = ap (count_of (λ t. same_number t.mbuf n)) e in
-            let d : count_of (λ t. same_number t.mbuf m) (get_or slots i None) ≡ count_of (λ t. same_number t.mbuf n) (get_or slots i None) = ap (λ z. count_of (λ t. same_number t.mbuf z) (get_or slots i None)) (sym same) in
+            let d : count_of (λ t. same_number t.mbuf m) (get_or slots i None) ≡ count_of (λ t. same_number t.mbuf n) (get_or slots i None) =
+            ap (λ z. count_of (λ t. same_number t.mbuf z) (get_or slots i None)) (sym same) in
             absurd (omega (arith, two, c, d, q, in_k, one, mbufs-append hand (segments_held slots) n)))
             (λ d. stays_other ps ps' n x done m d)
             (same_or n m))
@@ -108,19 +124,24 @@ unhooked_from ps ps' hand slots h k x w e done segs kept link =
     and_false true = refl
     and_false false = refl
 
-pub unhooked : (ps ps' : List PoolView) (slots : List (Option Packet)) (h : ℕ) (k : Packet) (x : Header) → Whole ps [] slots → get_or slots h None ≡ Some k → HeaderSet ps (numbered h) x ps' → x.segs ≡ 0 → x.refs ≡ (header_at ps (numbered h)).refs → Linkage x (header_at ps (numbered h)) → Whole ps' k (set slots h None) × Linked (header_at ps') (numbered h) k × Stands ps (numbered h) k
+pub unhooked : (ps ps' : List PoolView) (slots : List (Option Packet)) (h : ℕ) (k : Packet) (x : Header) → Whole ps [] slots → get_or slots h None ≡ Some k →
+    HeaderSet ps (numbered h) x ps' → x.segs ≡ 0 → x.refs ≡ (header_at ps (numbered h)).refs → Linkage x (header_at ps (numbered h)) →
+    Whole ps' k (set slots h None) × Linked (header_at ps') (numbered h) k × Stands ps (numbered h) k
 unhooked ps ps' slots h k x w e done segs kept link =
     let u = unhooked_from ps ps' [] slots h k x w e done segs kept link in
     (subst (λ t. Whole ps' t (set slots h None)) (append-nil k) u.0, u.1, u.2)
 
 -- ---- the link of a segment in hand set
 
-pub relinked : (ps ps' : List PoolView) (hand : Packet) (slots : List (Option Packet)) (m : Number) (x : Header) → Whole ps hand slots → 1 ≤ mbufs hand m → HeaderSet ps m x ps' → x.refs ≡ (header_at ps m).refs → x.segs ≡ (header_at ps m).segs → Whole ps' hand slots
+pub relinked : (ps ps' : List PoolView) (hand : Packet) (slots : List (Option Packet)) (m : Number) (x : Header) → Whole ps hand slots → 1 ≤ mbufs hand m →
+    HeaderSet ps m x ps' → x.refs ≡ (header_at ps m).refs → x.segs ≡ (header_at ps m).segs → Whole ps' hand slots
 relinked ps ps' hand slots m x w in_hand done kept segs =
     let one = w.counted.once m in
     record {
       are = done.are;
-      counted = counted_same ps ps' (hand ++ segments_held slots) (hand ++ segments_held slots) w.counted (same_counts (hand ++ segments_held slots)) done.specs done.outs (λ b _. stored_same ps ps' m x done kept b) w.counted.numbers w.counted.lie;
+      counted = counted_same ps ps' (hand ++ segments_held slots) (hand
+          ++ segments_held slots) w.counted (same_counts (hand ++ segments_held slots)) done.specs done.outs
+          (λ b _. stored_same ps ps' m x done kept b) w.counted.numbers w.counted.lie;
       shows = frame ps ps' slots (same_length ps ps' done.specs) w.shows
           (λ n q. ⊎_elim
           (λ same. let z = ap (mbufs (segments_held slots)) same in
@@ -137,7 +158,9 @@ relinked ps ps' hand slots m x w in_hand done kept segs =
 
 -- ---- the segments in hand into a slot of their own
 
-pub hooked : (ps ps' : List PoolView) (slots : List (Option Packet)) (n : Number) (k : Packet) (x : Header) → Whole ps k slots → Linked (header_at ps) n k → 1 ≤ length k → length k ≤ 64 → HeaderSet ps n x ps' → x.segs ≡ length k → x.last ≡ last_mbuf n k → x.refs ≡ (header_at ps n).refs → Linkage x (header_at ps n) → Whole ps' [] (set slots (handle n) (Some k)) × (get_or slots (handle n) None ≡ None) × (numbered (handle n) ≡ n)
+pub hooked : (ps ps' : List PoolView) (slots : List (Option Packet)) (n : Number) (k : Packet) (x : Header) → Whole ps k slots → Linked (header_at ps) n k →
+    1 ≤ length k → length k ≤ 64 → HeaderSet ps n x ps' → x.segs ≡ length k → x.last ≡ last_mbuf n k → x.refs ≡ (header_at ps n).refs →
+    Linkage x (header_at ps n) → Whole ps' [] (set slots (handle n) (Some k)) × (get_or slots (handle n) None ≡ None) × (numbered (handle n) ≡ n)
 hooked ps ps' slots n k x w l some few done segs last kept link =
     let in_k = first_in (header_at ps) n k some l in
     let one = w.counted.once n in
@@ -164,13 +187,18 @@ hooked ps ps' slots n k x w l some few done segs last kept link =
     } in (
       record {
         are = done.are;
-        counted = counted_same ps ps' (k ++ segments_held slots) (segments_held (set slots (handle n) (Some k))) w.counted (into_slot slots (handle n) k there none) done.specs done.outs (λ m _. stored_same ps ps' n x done kept m)
-            (all_set (λ t. IsNumber (specs_of ps) t.mbuf) slots (handle n) (Some k) (all_front (λ t. IsNumber (specs_of ps) t.mbuf) k (segments_held slots) w.counted.numbers) (all_rest (λ t. IsNumber (specs_of ps) t.mbuf) k (segments_held slots) w.counted.numbers))
-            (all_set (Lies (specs_of ps)) slots (handle n) (Some k) (all_front (Lies (specs_of ps)) k (segments_held slots) w.counted.lie) (all_rest (Lies (specs_of ps)) k (segments_held slots) w.counted.lie));
+        counted = counted_same ps ps' (k ++ segments_held slots) (segments_held (set slots (handle n) (Some k))) w.counted
+            (into_slot slots (handle n) k there none) done.specs done.outs (λ m _. stored_same ps ps' n x done kept m)
+            (all_set (λ t. IsNumber (specs_of ps) t.mbuf) slots (handle n) (Some k)
+            (all_front (λ t. IsNumber (specs_of ps) t.mbuf) k (segments_held slots) w.counted.numbers)
+            (all_rest (λ t. IsNumber (specs_of ps) t.mbuf) k (segments_held slots) w.counted.numbers))
+            (all_set (Lies (specs_of ps)) slots (handle n) (Some k) (all_front (Lies (specs_of ps)) k (segments_held slots) w.counted.lie)
+            (all_rest (Lies (specs_of ps)) k (segments_held slots) w.counted.lie));
         shows = slot_frame ps ps' slots (handle n) (Some k) (same_length ps ps' done.specs) w.shows there
             (λ i ne m q. ⊎_elim
             (λ same. let a = slot_among (λ t. same_number t.mbuf n) slots i in
-            let d : count_of (λ t. same_number t.mbuf m) (get_or slots i None) ≡ count_of (λ t. same_number t.mbuf n) (get_or slots i None) = ap (λ z. count_of (λ t. same_number t.mbuf z) (get_or slots i None)) (sym same) in
+            let d : count_of (λ t. same_number t.mbuf m) (get_or slots i None) ≡ count_of (λ t. same_number t.mbuf n) (get_or slots i None) =
+            ap (λ z. count_of (λ t. same_number t.mbuf z) (get_or slots i None)) (sym same) in
             absurd (omega (arith, a, d, q, in_k, one, both)))
             (λ d. stays_other ps ps' n x done m d)
             (same_or n m))
@@ -187,7 +215,11 @@ hooked ps ps' slots n k x w l some few done segs last kept link =
 
 -- ---- one segment of a packet, with another offset and length
 
-pub edited : (ps ps' : List PoolView) (slots : List (Option Packet)) (h : ℕ) (before : Packet) (s s' : Segment) (rest : Packet) (x : Header) → Whole ps [] slots → get_or slots h None ≡ Some (before ++ s ∷ rest) → HeaderSet ps s.mbuf x ps' → x.segs ≡ (header_at ps s.mbuf).segs → x.last ≡ (header_at ps s.mbuf).last → x.refs ≡ (header_at ps s.mbuf).refs → x.next ≡ (header_at ps s.mbuf).next → x.buffer ≡ s'.buffer → x.offset ≡ s'.offset → x.len ≡ s'.len → s'.mbuf ≡ s.mbuf → s'.buffer ≡ s.buffer → Lies (specs_of ps) s' → Whole ps' [] (set slots h (Some (before ++ s' ∷ rest)))
+pub edited : (ps ps' : List PoolView) (slots : List (Option Packet)) (h : ℕ) (before : Packet) (s s' : Segment) (rest : Packet) (x : Header) →
+    Whole ps [] slots → get_or slots h None ≡ Some (before ++ s ∷ rest) → HeaderSet ps s.mbuf x ps' → x.segs ≡ (header_at ps s.mbuf).segs →
+    x.last ≡ (header_at ps s.mbuf).last → x.refs ≡ (header_at ps s.mbuf).refs → x.next ≡ (header_at ps s.mbuf).next → x.buffer ≡ s'.buffer →
+    x.offset ≡ s'.offset → x.len ≡ s'.len → s'.mbuf ≡ s.mbuf → s'.buffer ≡ s.buffer → Lies (specs_of ps) s' →
+    Whole ps' [] (set slots h (Some (before ++ s' ∷ rest)))
 edited ps ps' slots h before s s' rest x w e done segs last kept next buffer offset len mb bf lies =
     let k : Packet = before ++ s ∷ rest in
     let k' : Packet = before ++ s' ∷ rest in
@@ -213,7 +245,8 @@ edited ps ps' slots h before s s' rest x w e done segs last kept next buffer off
     (λ d. ap (λ y. y.last) (done.others m d))
     (same_or s.mbuf m) in
     let is : segment_at (header_at ps') s.mbuf ≡ s' =
-    segment_eq (segment_at (header_at ps') s.mbuf) s' (sym mb) (ap (λ y. y.buffer) done.here ∙ buffer) (ap (λ y. y.offset) done.here ∙ offset) (ap (λ y. y.len) done.here ∙ len) in
+    segment_eq (segment_at (header_at ps') s.mbuf) s' (sym mb) (ap (λ y. y.buffer) done.here ∙ buffer) (ap (λ y. y.offset) done.here
+    ∙ offset) (ap (λ y. y.len) done.here ∙ len) in
     let stands : Stands ps' n k' = record {
       out = done.outs n ∙ st.out;
       some = let q = st.some in omega (arith, q, length_edit before s s' rest);
@@ -229,7 +262,16 @@ edited ps ps' slots h before s s' rest x w e done segs last kept next buffer off
     λ f eq. let one : ℕ = 1 in
     let g = ap (λ v. cond v one 0) eq in
     let c = ap (count_of f) e in
-    omega (arith, g, c, slot_counted f slots h (Some k') b, count-append f before (s ∷ rest), count-append f before (s' ∷ rest), count-cons f s rest, count-cons f s' rest) in
+    omega (
+      arith,
+      g,
+      c,
+      slot_counted f slots h (Some k') b,
+      count-append f before (s ∷ rest),
+      count-append f before (s' ∷ rest),
+      count-cons f s rest,
+      count-cons f s' rest,
+    ) in
     let all : (P : Segment → Type 0) → (P s → P s') → AllByRecursion P (segments_held slots) → AllByRecursion P (segments_held (set slots h (Some k'))) =
     λ P f a. all_set P slots h (Some k') (all_edit P before s s' rest f (subst (AllOf P) e (all_slot P slots h a))) a in
     record {
@@ -238,7 +280,8 @@ edited ps ps' slots h before s s' rest x w e done segs last kept next buffer off
           (record {
             mbufs = λ m. counts (λ t. same_number t.mbuf m) (ap (λ y. same_number y m) mb);
             refs = λ m. counts (λ t. same_number t.buffer m) (ap (λ y. same_number y m) bf);
-            indirects = λ m. counts (λ t. same_number t.mbuf m && not (same_number t.buffer m)) (ap (λ y. same_number y m && not (same_number s'.buffer m)) mb ∙ ap (λ y. same_number s.mbuf m && not (same_number y m)) bf);
+            indirects = λ m. counts (λ t. same_number t.mbuf m && not (same_number t.buffer m)) (ap (λ y. same_number y m && not (same_number s'.buffer m)) mb
+                ∙ ap (λ y. same_number s.mbuf m && not (same_number y m)) bf);
           })
           done.specs done.outs (λ m _. stored_same ps ps' s.mbuf x done kept m)
           (all (λ t. IsNumber (specs_of ps) t.mbuf) (λ p. subst (IsNumber (specs_of ps)) (sym mb) p) w.counted.numbers)
@@ -246,7 +289,8 @@ edited ps ps' slots h before s s' rest x w e done segs last kept next buffer off
       shows = slot_frame ps ps' slots h (Some k') (same_length ps ps' done.specs) w.shows b
           (λ i ne m q. ⊎_elim
           (λ same. let two = slots_among (λ t. same_number t.mbuf s.mbuf) slots h i (λ d. ne (sym d)) in
-          let d : count_of (λ t. same_number t.mbuf m) (get_or slots i None) ≡ count_of (λ t. same_number t.mbuf s.mbuf) (get_or slots i None) = ap (λ z. count_of (λ t. same_number t.mbuf z) (get_or slots i None)) (sym same) in
+          let d : count_of (λ t. same_number t.mbuf m) (get_or slots i None) ≡ count_of (λ t. same_number t.mbuf s.mbuf) (get_or slots i None) =
+          ap (λ z. count_of (λ t. same_number t.mbuf z) (get_or slots i None)) (sym same) in
           absurd (omega (arith, two, here, d, q, in_k, one)))
           (λ d. stays_other ps ps' s.mbuf x done m d)
           (same_or s.mbuf m))
@@ -254,18 +298,22 @@ edited ps ps' slots h before s s' rest x w e done segs last kept next buffer off
           stands;
     }
   where
-    all_edit : (P : Segment → Type 0) (before : Packet) (s s' : Segment) (rest : Packet) → (P s → P s') → AllByRecursion P (before ++ s ∷ rest) → AllByRecursion P (before ++ s' ∷ rest)
+    all_edit : (P : Segment → Type 0) (before : Packet) (s s' : Segment) (rest : Packet) → (P s → P s') → AllByRecursion P (before ++ s ∷ rest) →
+        AllByRecursion P (before ++ s' ∷ rest)
     all_edit P [] s s' rest f a = (f a.0, a.1)
     all_edit P (t ∷ before) s s' rest f a = (a.0, all_edit P before s s' rest f a.1)
 
 -- ---- bytes written behind headers
 
-pub bytes_whole : (ps ps' : List PoolView) (hand : Packet) (slots : List (Option Packet)) (n : Number) (at : ℕ) (bytes : List ℕ) → Whole ps hand slots → RoomWritten ps n at bytes ps' → Whole ps' hand slots
+pub bytes_whole : (ps ps' : List PoolView) (hand : Packet) (slots : List (Option Packet)) (n : Number) (at : ℕ) (bytes : List ℕ) → Whole ps hand slots →
+    RoomWritten ps n at bytes ps' → Whole ps' hand slots
 bytes_whole ps ps' hand slots n at bytes w done =
     let stay : (m : Number) → Stays ps ps' m =
     λ m. record { out = done.outs m; header = alike (header_at ps' m) (header_at ps m) (done.headers m) } in
     record {
       are = done.are;
-      counted = counted_same ps ps' (hand ++ segments_held slots) (hand ++ segments_held slots) w.counted (same_counts (hand ++ segments_held slots)) done.specs done.outs (λ b _. ap (λ h. h.refs) (done.headers b)) w.counted.numbers w.counted.lie;
+      counted = counted_same ps ps' (hand ++ segments_held slots) (hand
+          ++ segments_held slots) w.counted (same_counts (hand ++ segments_held slots)) done.specs done.outs
+          (λ b _. ap (λ h. h.refs) (done.headers b)) w.counted.numbers w.counted.lie;
       shows = frame ps ps' slots (same_length ps ps' done.specs) w.shows (λ m _. stay m) (λ m _ f. head_stays ps ps' m (stay m) ∙ f);
     }

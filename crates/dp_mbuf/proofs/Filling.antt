@@ -1,5 +1,6 @@
 -- How a record's bytes go over segments.
-use Rattle.std.proofs.Common.{◌≡◌, ℕ, zero, suc, ◌+◌, ◌-◌, ◌/◌, ◌<◌, ◌≤◌, false, cond, List, [], ◌∷◌, ◌++◌, length, take, drop, refl, sym, ◌∙◌, ap, subst, arith, ⊎_elim}
+use Rattle.std.proofs.Common.{◌≡◌, ℕ, zero, suc, ◌+◌, ◌-◌, ◌/◌, ◌<◌, ◌≤◌, false, cond, List, [], ◌∷◌, ◌++◌, length, take, drop, refl, sym, ◌∙◌, ap, subst}
+use Rattle.std.proofs.Common.{arith, ⊎_elim}
 use Rattle.std.specs.Prelude.{min, max, slice_range}
 use Rattle.std.proofs.Math.Nat.{add-div_left, div-eq_of_lt}
 use Rattle.std.proofs.lemmas.Bool.{cases_lt}
@@ -26,7 +27,8 @@ left_more full total zero = refl
 left_more full total (suc i) =
     let e : suc i + 1 ≡ suc (i + 1) = omega arith in ap (left full total) e ∙ left_more full (total - full) i
 
-pub filled_push : (full : ℕ) (numbers : List Number) (total : ℕ) (n : Number) → filled full (numbers ++ n ∷ []) total ≡ filled full numbers total ++ direct n 128 (min full (left full total (length numbers))) ∷ []
+pub filled_push : (full : ℕ) (numbers : List Number) (total : ℕ) (n : Number) → filled full (numbers ++ n ∷ []) total ≡ filled full numbers total
+    ++ direct n 128 (min full (left full total (length numbers))) ∷ []
 filled_push full [] total n = refl
 filled_push full (m ∷ numbers) total n =
     ap (λ r. direct m 128 (min full total) ∷ r) (filled_push full numbers (total - full) n)
@@ -47,7 +49,8 @@ left_end full zero total e = absurd e
 left_end full (suc zero) total e = omega arith
 left_end full (suc (suc n)) total e = left_end full (suc n) (total - full) e.1
 
-pub received_is : (room full : ℕ) (numbers : List Number) (total : ℕ) → full ≡ room - 128 → Enough full (length numbers) total → filled full numbers total ≡ received room numbers total
+pub received_is : (room full : ℕ) (numbers : List Number) (total : ℕ) → full ≡ room - 128 → Enough full (length numbers) total → filled full numbers total
+    ≡ received room numbers total
 received_is room full [] total e h = absurd h
 received_is room full (n ∷ []) total e h =
     let m : min full total ≡ total = omega (arith, h) in ap (λ l. direct n 128 l ∷ []) m
@@ -91,7 +94,8 @@ needed_enough (suc fuel) full (suc t) f some = ⊎_elim
 -- ---- bytes
 
 -- bytes written elsewhere leave those of the segments
-pub bytes_stay : (buffers : Buffers) (n : Number) (at : ℕ) (new : List ℕ) (k : Packet) → refs k n ≡ 0 → packet_bytes (written buffers n at new) k ≡ packet_bytes buffers k
+pub bytes_stay : (buffers : Buffers) (n : Number) (at : ℕ) (new : List ℕ) (k : Packet) → refs k n ≡ 0 → packet_bytes (written buffers n at new) k
+    ≡ packet_bytes buffers k
 bytes_stay buffers n at new [] z = refl
 bytes_stay buffers n at new (s ∷ k) z =
     let d : same_number n s.buffer ≡ false = ⊎_elim
@@ -100,11 +104,13 @@ bytes_stay buffers n at new (s ∷ k) z =
     omega (arith, t, o, z, refs-cons s k n)))
     (λ f. f)
     (same_or n s.buffer) in
-    ap (λ bs. slice_range bs s.offset (s.offset + s.len) ++ packet_bytes (written buffers n at new) k) (bytes_other buffers n s.buffer (overwritten (bytes_of buffers n) at new) d)
+    ap (λ bs. slice_range bs s.offset (s.offset + s.len) ++ packet_bytes (written buffers n at new) k)
+    (bytes_other buffers n s.buffer (overwritten (bytes_of buffers n) at new) d)
     ∙ ap (λ r. segment_bytes buffers s ++ r) (bytes_stay buffers n at new k (omega (arith, z, refs-cons s k n)))
 
 -- the bytes of the segment that was written
-pub bytes_new : (buffers : Buffers) (n : Number) (at : ℕ) (new : List ℕ) → 0 < length (bytes_of buffers n) → at + length new ≤ length (bytes_of buffers n) → segment_bytes (written buffers n at new) (direct n at (length new)) ≡ new
+pub bytes_new : (buffers : Buffers) (n : Number) (at : ℕ) (new : List ℕ) → 0 < length (bytes_of buffers n) → at + length new ≤ length (bytes_of buffers n) →
+    segment_bytes (written buffers n at new) (direct n at (length new)) ≡ new
 bytes_new buffers n at new some fits =
     let old : List ℕ = bytes_of buffers n in
     let l : length (take at old) ≡ at = length-take-le at old (omega arith) in

@@ -1,5 +1,6 @@
 -- What the headers show, when one packet changes and all others stay.
-use Rattle.std.proofs.Common.{◌≡◌, ◌≢◌, ℕ, zero, suc, ◌+◌, ◌*◌, ◌<◌, ◌≤◌, true, false, List, length, Option, Some, None, refl, sym, ◌∙◌, ap, subst, arith, ⊎_elim, get_or, set}
+use Rattle.std.proofs.Common.{◌≡◌, ◌≢◌, ℕ, zero, suc, ◌+◌, ◌*◌, ◌<◌, ◌≤◌, true, false, List, length, Option, Some, None, refl, sym, ◌∙◌, ap, subst, arith}
+use Rattle.std.proofs.Common.{⊎_elim, get_or, set}
 use Rattle.std.specs.Prelude.{if◌then◌else◌}
 use Rattle.std.specs.List.{AllByRecursion}
 use Rattle.std.proofs.lemmas.Bool.{cases_eq}
@@ -112,7 +113,9 @@ stands_kept ps ps' n k s e =
     }
 
 -- all slots stay, where the mbufs of their packets do, and no other becomes a first one
-pub frame : (ps ps' : List PoolView) (slots : List (Option Packet)) → length ps' ≡ length ps → Shows ps slots → ((m : Number) → 1 ≤ mbufs (segments_held slots) m → Stays ps ps' m) → ((m : Number) → mbufs (segments_held slots) m ≡ 0 → is_head ps m ≡ false → is_head ps' m ≡ false) → Shows ps' slots
+pub frame : (ps ps' : List PoolView) (slots : List (Option Packet)) → length ps' ≡ length ps → Shows ps slots →
+    ((m : Number) → 1 ≤ mbufs (segments_held slots) m → Stays ps ps' m) →
+    ((m : Number) → mbufs (segments_held slots) m ≡ 0 → is_head ps m ≡ false → is_head ps' m ≡ false) → Shows ps' slots
 frame ps ps' slots l s e none = record {
   many = s.many ∙ sym (ap (λ x. 65536 * x) l);
   each = λ h. stays (numbered h) (get_or slots h None)
@@ -129,23 +132,29 @@ frame ps ps' slots l s e none = record {
     stays n (Some k) among t = stands_kept ps ps' n k t among
 
 -- one slot is set, and the packets of all others stay
-pub slot_frame : (ps ps' : List PoolView) (slots : List (Option Packet)) (h : ℕ) (o : Option Packet) → length ps' ≡ length ps → Shows ps slots → h < length slots → ((i : ℕ) → i ≢ h → (m : Number) → 1 ≤ count_of (λ t. same_number t.mbuf m) (get_or slots i None) → Stays ps ps' m) → ((i : ℕ) → i ≢ h → is_head ps (numbered i) ≡ false → is_head ps' (numbered i) ≡ false) → StandsAt ps' (numbered h) o → Shows ps' (set slots h o)
+pub slot_frame : (ps ps' : List PoolView) (slots : List (Option Packet)) (h : ℕ) (o : Option Packet) → length ps' ≡ length ps → Shows ps slots →
+    h < length slots → ((i : ℕ) → i ≢ h → (m : Number) → 1 ≤ count_of (λ t. same_number t.mbuf m) (get_or slots i None) → Stays ps ps' m) →
+    ((i : ℕ) → i ≢ h → is_head ps (numbered i) ≡ false → is_head ps' (numbered i) ≡ false) → StandsAt ps' (numbered h) o → Shows ps' (set slots h o)
 slot_frame ps ps' slots h o l s b others none here = record {
   many = length-set slots h o ∙ (s.many ∙ sym (ap (λ x. 65536 * x) l));
   each = λ i. ⊎_elim
       (λ e. subst (λ j. StandsAt ps' (numbered j) (get_or (set slots h o) j None)) (sym e)
       (subst (StandsAt ps' (numbered h)) (sym (get_or-set_same slots h o None b)) here))
-      (λ ne. subst (StandsAt ps' (numbered i)) (sym (get_or-set_other slots h i o None ne)) (stays i (get_or slots i None) (others i ne) (none i ne) (s.each i)))
+      (λ ne. subst (StandsAt ps' (numbered i)) (sym (get_or-set_other slots h i o None ne))
+      (stays i (get_or slots i None) (others i ne) (none i ne) (s.each i)))
       (cases_eq i h);
 }
   where
-    stays : (i : ℕ) (x : Option Packet) → ((m : Number) → 1 ≤ count_of (λ t. same_number t.mbuf m) x → Stays ps ps' m) → (is_head ps (numbered i) ≡ false → is_head ps' (numbered i) ≡ false) → StandsAt ps (numbered i) x → StandsAt ps' (numbered i) x
+    stays : (i : ℕ) (x : Option Packet) → ((m : Number) → 1 ≤ count_of (λ t. same_number t.mbuf m) x → Stays ps ps' m) →
+        (is_head ps (numbered i) ≡ false → is_head ps' (numbered i) ≡ false) → StandsAt ps (numbered i) x → StandsAt ps' (numbered i) x
     stays i None among f t = f t
     stays i (Some k) among f t = stands_kept ps ps' (numbered i) k t among
 
 -- ---- the counts stay
 
-pub counted_same : (ps ps' : List PoolView) (ss ss' : List Segment) → Counted ps ss → SameCounts ss ss' → specs_of ps' ≡ specs_of ps → ((n : Number) → is_out ps' n ≡ is_out ps n) → ((b : Number) → 1 ≤ refs ss b → (header_at ps' b).refs ≡ (header_at ps b).refs) → AllByRecursion (λ s. IsNumber (specs_of ps) s.mbuf) ss' → AllByRecursion (Lies (specs_of ps)) ss' → Counted ps' ss'
+pub counted_same : (ps ps' : List PoolView) (ss ss' : List Segment) → Counted ps ss → SameCounts ss ss' → specs_of ps' ≡ specs_of ps →
+    ((n : Number) → is_out ps' n ≡ is_out ps n) → ((b : Number) → 1 ≤ refs ss b → (header_at ps' b).refs ≡ (header_at ps b).refs) →
+    AllByRecursion (λ s. IsNumber (specs_of ps) s.mbuf) ss' → AllByRecursion (Lies (specs_of ps)) ss' → Counted ps' ss'
 counted_same ps ps' ss ss' c e specs outs stored numbers lie = record {
   once = λ n. omega (arith, e.mbufs n, c.once n);
   direct = λ n q. e.refs n ∙ c.direct n (omega (arith, e.indirects n, q));

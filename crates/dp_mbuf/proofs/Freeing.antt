@@ -20,10 +20,12 @@ pub record Freeing (ps : List PoolView) (place : Number) (i many : ℕ) (v : Sto
   pub specs : specs_of ps ≡ v.pools
   pub buffers : buffers_of ps ≡ v.buffers
 
-pub freeing_start : (ps ps' : List PoolView) (v : Store) (h : ℕ) → shown ps ≡ v → Sound ps → IsLive v h → HeaderSet ps (numbered h) (record (header_at ps (numbered h)) { segs = 0 }) ps' → Freeing ps' (numbered h) 0 (header_at ps (numbered h)).segs v h
+pub freeing_start : (ps ps' : List PoolView) (v : Store) (h : ℕ) → shown ps ≡ v → Sound ps → IsLive v h →
+    HeaderSet ps (numbered h) (record (header_at ps (numbered h)) { segs = 0 }) ps' → Freeing ps' (numbered h) 0 (header_at ps (numbered h)).segs v h
 freeing_start ps ps' v h e sound live done =
     let o = opened ps v h live.0 e sound live.1 in
-    let u = unhooked ps ps' (slots_of ps) h live.0 (record (header_at ps (numbered h)) { segs = 0 }) sound o.slot done refl refl (record { offset = refl; len = refl; next = refl; buffer = refl }) in
+    let u = unhooked ps ps' (slots_of ps) h live.0 (record (header_at ps (numbered h)) { segs = 0 }) sound o.slot done refl refl
+    (record { offset = refl; len = refl; next = refl; buffer = refl }) in
     record {
       rest = live.0;
       left = let s = o.stands.segs in omega (arith, s);
@@ -37,11 +39,13 @@ module _ (ps : List PoolView) (place : Number) (i many : ℕ) (v : Store) (h : �
   pub freeing_can : i < many → CanRelease ps place (header_at ps place).buffer
   freeing_can b = by f.rest f.left f.whole f.links
     where
-      by : (rest : Packet) → length rest + i ≡ many → Whole ps rest (set v.slots h None) → Linked (header_at ps) place rest → CanRelease ps place (header_at ps place).buffer
+      by : (rest : Packet) → length rest + i ≡ many → Whole ps rest (set v.slots h None) → Linked (header_at ps) place rest →
+          CanRelease ps place (header_at ps place).buffer
       by [] e w l = absurd (omega (arith, e, b))
       by (s ∷ rest) e w l = can_release ps (set v.slots h None) place s rest w l
 
-  pub freeing_step : (ps' : List PoolView) (next : Number) → i < many → Released ps place (header_at ps place).buffer ps' → next ≡ (header_at ps place).next → Freeing ps' next (i + 1) many v h
+  pub freeing_step : (ps' : List PoolView) (next : Number) → i < many → Released ps place (header_at ps place).buffer ps' → next ≡ (header_at ps place).next →
+      Freeing ps' next (i + 1) many v h
   freeing_step ps' next b r n = by f.rest f.left f.whole f.links
     where
       by : (rest : Packet) → length rest + i ≡ many → Whole ps rest (set v.slots h None) → Linked (header_at ps) place rest → Freeing ps' next (i + 1) many v h

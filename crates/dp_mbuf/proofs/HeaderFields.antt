@@ -1,5 +1,6 @@
 -- One field of a header written, with the others as they were.
-use Rattle.std.proofs.Common.{◌≡◌, ℕ, zero, suc, ◌+◌, ◌-◌, ◌/◌, ◌%◌, ◌<◌, ◌≤◌, ltb, List, [], ◌∷◌, ◌++◌, length, take, drop, refl, sym, ◌∙◌, ap, subst, arith, inl, inr, get_or, set}
+use Rattle.std.proofs.Common.{◌≡◌, ℕ, zero, suc, ◌+◌, ◌-◌, ◌/◌, ◌%◌, ◌<◌, ◌≤◌, ltb, List, [], ◌∷◌, ◌++◌, length, take, drop, refl, sym, ◌∙◌, ap, subst, arith}
+use Rattle.std.proofs.Common.{inl, inr, get_or, set}
 use Rattle.std.specs.Int.{to_le_bytes, w32}
 use Rattle.std.proofs.lemmas.Bool.{ltb-true, ltb-false, cases_Bool}
 use Rattle.std.proofs.lemmas.List.{length-take-le, get_or_append_left, get_or-append_right, get_or-take, get_or-drop, ext_get_or}
@@ -70,7 +71,8 @@ small_word x a = two_small x [] a none_small
 pub small_words : (x y : ℕ) → x < 65536 → y < 65536 → Small (then_word x (then_word y []))
 small_words x y a b = two_small x (then_word y []) a (two_small y [] b none_small)
 
-pub words_written : (o : List ℕ) (at x y : ℕ) → at + 4 ≤ length o → overwritten (overwritten o at (then_word x [])) (at + 2) (then_word y []) ≡ overwritten o at (then_word x (then_word y []))
+pub words_written : (o : List ℕ) (at x y : ℕ) → at + 4 ≤ length o → overwritten (overwritten o at (then_word x [])) (at + 2) (then_word y [])
+    ≡ overwritten o at (then_word x (then_word y []))
 words_written o at x y fits =
     let a : List ℕ = then_word x [] in
     let b : List ℕ = then_word y [] in
@@ -131,39 +133,69 @@ module _ (o : List ℕ) (long : 128 ≤ length o) where
   segs_written x =
       let new : List ℕ = then_word x [] in
       let fits : 0 + length new ≤ length o = omega arith in
-      header_eq _ _ (word_in o 0 new fits 0 0 refl (omega arith) ∙ word_back x) (omega (arith, word_behind o 0 new fits 2 (omega arith), word_behind o 0 new fits 4 (omega arith))) (word_behind o 0 new fits 6 (omega arith)) (word_behind o 0 new fits 8 (omega arith)) (place_behind o 0 new fits 10 (omega arith)) (place_behind o 0 new fits 14 (omega arith)) (place_behind o 0 new fits 18 (omega arith))
+      header_eq _ _ (word_in o 0 new fits 0 0 refl (omega arith) ∙ word_back x)
+      (omega (arith, word_behind o 0 new fits 2 (omega arith), word_behind o 0 new fits 4 (omega arith))) (word_behind o 0 new fits 6 (omega arith))
+      (word_behind o 0 new fits 8 (omega arith)) (place_behind o 0 new fits 10 (omega arith)) (place_behind o 0 new fits 14 (omega arith))
+      (place_behind o 0 new fits 18 (omega arith))
 
   refs_written : (x : ℕ) → header_of (overwritten o 2 (then_word (x % 65536) (then_word (x / 65536) []))) ≡ record (header_of o) { refs = x }
   unfolding header_of
   refs_written x =
       let new : List ℕ = then_word (x % 65536) (then_word (x / 65536) []) in
       let fits : 2 + length new ≤ length o = omega arith in
-      header_eq _ _ (word_before o 2 new fits 0 (omega arith)) (omega (arith, word_in o 2 new fits 2 0 refl (omega arith), word_in o 2 new fits 4 2 refl (omega arith), word_back (x % 65536), word_back (x / 65536))) (word_behind o 2 new fits 6 (omega arith)) (word_behind o 2 new fits 8 (omega arith)) (place_behind o 2 new fits 10 (omega arith)) (place_behind o 2 new fits 14 (omega arith)) (place_behind o 2 new fits 18 (omega arith))
+      header_eq _ _ (word_before o 2 new fits 0 (omega arith)) (omega (
+        arith,
+        word_in o 2 new fits 2 0 refl (omega arith),
+        word_in o 2 new fits 4 2 refl (omega arith),
+        word_back (x % 65536),
+        word_back (x / 65536),
+      )) (word_behind o 2 new fits 6 (omega arith))
+      (word_behind o 2 new fits 8 (omega arith)) (place_behind o 2 new fits 10 (omega arith)) (place_behind o 2 new fits 14 (omega arith))
+      (place_behind o 2 new fits 18 (omega arith))
 
   bounds_written : (x y : ℕ) → header_of (overwritten o 6 (then_word x (then_word y []))) ≡ record (header_of o) { offset = x; len = y }
   unfolding header_of
   bounds_written x y =
       let new : List ℕ = then_word x (then_word y []) in
       let fits : 6 + length new ≤ length o = omega arith in
-      header_eq _ _ (word_before o 6 new fits 0 (omega arith)) (omega (arith, word_before o 6 new fits 2 (omega arith), word_before o 6 new fits 4 (omega arith))) (word_in o 6 new fits 6 0 refl (omega arith) ∙ word_back x) (word_in o 6 new fits 8 2 refl (omega arith) ∙ word_back y) (place_behind o 6 new fits 10 (omega arith)) (place_behind o 6 new fits 14 (omega arith)) (place_behind o 6 new fits 18 (omega arith))
+      header_eq _ _ (word_before o 6 new fits 0 (omega arith)) (omega (
+        arith,
+        word_before o 6 new fits 2 (omega arith),
+        word_before o 6 new fits 4 (omega arith),
+      )) (word_in o 6 new fits 6 0 refl (omega arith) ∙ word_back x) (word_in o 6 new fits 8 2 refl (omega arith)
+      ∙ word_back y) (place_behind o 6 new fits 10 (omega arith)) (place_behind o 6 new fits 14 (omega arith))
+      (place_behind o 6 new fits 18 (omega arith))
 
   next_written : (n : Number) → header_of (overwritten o 10 (then_word n.pool (then_word n.index []))) ≡ record (header_of o) { next = n }
   unfolding header_of
   next_written n =
       let new : List ℕ = then_word n.pool (then_word n.index []) in
       let fits : 10 + length new ≤ length o = omega arith in
-      header_eq _ _ (word_before o 10 new fits 0 (omega arith)) (omega (arith, word_before o 10 new fits 2 (omega arith), word_before o 10 new fits 4 (omega arith))) (word_before o 10 new fits 6 (omega arith)) (word_before o 10 new fits 8 (omega arith)) (number_eq _ _ (word_in o 10 new fits 10 0 refl (omega arith)) (word_in o 10 new fits 12 2 refl (omega arith)) ∙ place_back n) (place_behind o 10 new fits 14 (omega arith)) (place_behind o 10 new fits 18 (omega arith))
+      header_eq _ _ (word_before o 10 new fits 0 (omega arith)) (omega (
+        arith,
+        word_before o 10 new fits 2 (omega arith),
+        word_before o 10 new fits 4 (omega arith),
+      )) (word_before o 10 new fits 6 (omega arith)) (word_before o 10 new fits 8 (omega arith))
+      (number_eq _ _ (word_in o 10 new fits 10 0 refl (omega arith)) (word_in o 10 new fits 12 2 refl (omega arith))
+      ∙ place_back n) (place_behind o 10 new fits 14 (omega arith)) (place_behind o 10 new fits 18 (omega arith))
 
   last_written : (n : Number) → header_of (overwritten o 14 (then_word n.pool (then_word n.index []))) ≡ record (header_of o) { last = n }
   unfolding header_of
   last_written n =
       let new : List ℕ = then_word n.pool (then_word n.index []) in
       let fits : 14 + length new ≤ length o = omega arith in
-      header_eq _ _ (word_before o 14 new fits 0 (omega arith)) (omega (arith, word_before o 14 new fits 2 (omega arith), word_before o 14 new fits 4 (omega arith))) (word_before o 14 new fits 6 (omega arith)) (word_before o 14 new fits 8 (omega arith)) (place_before o 14 new fits 10 (omega arith)) (number_eq _ _ (word_in o 14 new fits 14 0 refl (omega arith)) (word_in o 14 new fits 16 2 refl (omega arith)) ∙ place_back n) (place_behind o 14 new fits 18 (omega arith))
+      header_eq _ _ (word_before o 14 new fits 0 (omega arith)) (omega (
+        arith,
+        word_before o 14 new fits 2 (omega arith),
+        word_before o 14 new fits 4 (omega arith),
+      )) (word_before o 14 new fits 6 (omega arith)) (word_before o 14 new fits 8 (omega arith))
+      (place_before o 14 new fits 10 (omega arith)) (number_eq _ _ (word_in o 14 new fits 14 0 refl (omega arith))
+      (word_in o 14 new fits 16 2 refl (omega arith)) ∙ place_back n) (place_behind o 14 new fits 18 (omega arith))
 
 -- ---- what became of the header
 
-pub written_is : (ps ps' : List PoolView) (n : Number) (at : ℕ) (bytes new : List ℕ) (h : Header) → bytes ≡ new → header_with ps n at new ≡ h → HeaderSet ps n (header_with ps n at bytes) ps' → HeaderSet ps n h ps'
+pub written_is : (ps ps' : List PoolView) (n : Number) (at : ℕ) (bytes new : List ℕ) (h : Header) → bytes ≡ new → header_with ps n at new ≡ h →
+    HeaderSet ps n (header_with ps n at bytes) ps' → HeaderSet ps n h ps'
 written_is ps ps' n at bytes new h e is done = subst (λ x. HeaderSet ps n x ps') (ap (header_with ps n at) e ∙ is) done
 
 module _ (ps ps' : List PoolView) (n : Number) (long : 128 ≤ length (object_in (pool_in ps n.pool) n.index)) (bytes : List ℕ) where
@@ -176,30 +208,36 @@ module _ (ps ps' : List PoolView) (n : Number) (long : 128 ≤ length (object_in
   pub segs_done : (x : ℕ) → bytes ≡ then_word x [] → HeaderSet ps n (header_with ps n 0 bytes) ps' → HeaderSet ps n (record (header_at ps n) { segs = x }) ps'
   segs_done x e = written_is ps ps' n 0 bytes _ _ e (segs_written object long x)
 
-  pub refs_done : (x : ℕ) → bytes ≡ then_word (x % 65536) (then_word (x / 65536) []) → HeaderSet ps n (header_with ps n 2 bytes) ps' → HeaderSet ps n (record (header_at ps n) { refs = x }) ps'
+  pub refs_done : (x : ℕ) → bytes ≡ then_word (x % 65536) (then_word (x / 65536) []) → HeaderSet ps n (header_with ps n 2 bytes) ps' →
+      HeaderSet ps n (record (header_at ps n) { refs = x }) ps'
   refs_done x e = written_is ps ps' n 2 bytes _ _ e (refs_written object long x)
 
-  pub bounds_done : (x y : ℕ) → bytes ≡ then_word x (then_word y []) → HeaderSet ps n (header_with ps n 6 bytes) ps' → HeaderSet ps n (record (header_at ps n) { offset = x; len = y }) ps'
+  pub bounds_done : (x y : ℕ) → bytes ≡ then_word x (then_word y []) → HeaderSet ps n (header_with ps n 6 bytes) ps' →
+      HeaderSet ps n (record (header_at ps n) { offset = x; len = y }) ps'
   bounds_done x y e = written_is ps ps' n 6 bytes _ _ e (bounds_written object long x y)
 
-  pub next_done : (m : Number) (x y : ℕ) → x ≡ m.pool → y ≡ m.index → bytes ≡ then_word x (then_word y []) → HeaderSet ps n (header_with ps n 10 bytes) ps' → HeaderSet ps n (record (header_at ps n) { next = m }) ps'
+  pub next_done : (m : Number) (x y : ℕ) → x ≡ m.pool → y ≡ m.index → bytes ≡ then_word x (then_word y []) → HeaderSet ps n (header_with ps n 10 bytes) ps' →
+      HeaderSet ps n (record (header_at ps n) { next = m }) ps'
   next_done m x y ex ey e =
       written_is ps ps' n 10 bytes _ _
       (e ∙ (ap (λ a. then_word a (then_word y [])) ex ∙ ap (λ b. then_word m.pool (then_word b [])) ey)) (next_written object long m)
 
-  pub last_done : (m : Number) (x y : ℕ) → x ≡ m.pool → y ≡ m.index → bytes ≡ then_word x (then_word y []) → HeaderSet ps n (header_with ps n 14 bytes) ps' → HeaderSet ps n (record (header_at ps n) { last = m }) ps'
+  pub last_done : (m : Number) (x y : ℕ) → x ≡ m.pool → y ≡ m.index → bytes ≡ then_word x (then_word y []) → HeaderSet ps n (header_with ps n 14 bytes) ps' →
+      HeaderSet ps n (record (header_at ps n) { last = m }) ps'
   last_done m x y ex ey e =
       written_is ps ps' n 14 bytes _ _
       (e ∙ (ap (λ a. then_word a (then_word y [])) ex ∙ ap (λ b. then_word m.pool (then_word b [])) ey)) (last_written object long m)
 
-pub header_set : (ps : List PoolView) (n : Number) (h : Header) → ArePools ps → HasObject ps n → Small (header_bytes h) → HeaderSet ps n h (set ps n.pool (with_written (pool_in ps n.pool) n.index 0 (header_bytes h)))
+pub header_set : (ps : List PoolView) (n : Number) (h : Header) → ArePools ps → HasObject ps n → Small (header_bytes h) →
+    HeaderSet ps n h (set ps n.pool (with_written (pool_in ps n.pool) n.index 0 (header_bytes h)))
 header_set ps n h are object small =
     let bytes : List ℕ = header_bytes h in
     let size = (are.rooms n.pool (object_pool ps n object)).header in
     header_done ps _ n (object_long ps n are object) bytes h refl (front_set ps n 0 bytes are object small (omega arith) (omega (arith, size)))
 
 -- two fields written, one after the other
-pub hooked_twice : (ps middle ps' : List PoolView) (n : Number) (s : ℕ) (l : Number) → HeaderSet ps n (record (header_at ps n) { segs = s }) middle → HeaderSet middle n (record (header_at middle n) { last = l }) ps' → HeaderSet ps n (record (header_at ps n) { segs = s; last = l }) ps'
+pub hooked_twice : (ps middle ps' : List PoolView) (n : Number) (s : ℕ) (l : Number) → HeaderSet ps n (record (header_at ps n) { segs = s }) middle →
+    HeaderSet middle n (record (header_at middle n) { last = l }) ps' → HeaderSet ps n (record (header_at ps n) { segs = s; last = l }) ps'
 hooked_twice ps middle ps' n s l a b =
     let f : Header → Header = λ h. record h { last = l } in
     record {

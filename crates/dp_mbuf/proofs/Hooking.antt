@@ -11,11 +11,13 @@ use Rattle.dp_mbuf.proofs.HeaderFields.{small_word, small_words, segs_done, last
 use Rattle.dp_mbuf.proofs.InHand.{object_after}
 
 -- bytes written twice into an object of a pool
-pub written_again : (p : PoolView) (i a b : ℕ) (x y : List ℕ) → i < length p.objects → with_object p i (overwritten (overwritten (object_in p i) a x) b y) ≡ with_written (with_written p i a x) i b y
+pub written_again : (p : PoolView) (i a b : ℕ) (x y : List ℕ) → i < length p.objects → with_object p i (overwritten (overwritten (object_in p i) a x) b y)
+    ≡ with_written (with_written p i a x) i b y
 written_again p i a b x y there =
     let first : List ℕ = overwritten (object_in p i) a x in
     ap (λ os. record p { objects = os })
-    (sym (ap (λ z. set (set p.objects i first) i (overwritten z b y)) (get_or-set_same p.objects i first [] there) ∙ set-set p.objects i first (overwritten first b y)))
+    (sym (ap (λ z. set (set p.objects i first) i (overwritten z b y)) (get_or-set_same p.objects i first [] there)
+    ∙ set-set p.objects i first (overwritten first b y)))
 
 module _ (pools : List (Option PoolView)) (ps : List PoolView) (e : present pools ≡ ps) (inv : ArePlaces pools) where
   -- at the number of the object itself
@@ -39,13 +41,16 @@ module _ (pools : List (Option PoolView)) (ps : List PoolView) (e : present pool
       let left : o ≡ Some (with_object p n.index (with_hook (object_in p n.index) segs last)) =
       subst (λ v. SlotBecomes (λ p. with_object p n.index (with_hook (object_in p n.index) segs last)) v o) is b in
       let again : o ≡ Some (with_written q n.index 14 y) = left ∙ ap Some (written_again p n.index 0 14 x y object) in
-      let g = front_done middle (present middle) refl f.0 n n.pool n.index 14 y d o refl refl (small_words last.pool last.index pool index) object' (omega arith)
+      let g = front_done middle (present middle) refl f.0 n n.pool n.index 14 y d o refl refl (small_words last.pool last.index pool index) object'
+      (omega arith)
       (subst (λ v. SlotBecomes (λ p. with_written p n.index 14 y) v o) (sym (get_or-set_same pools n.pool (Some q) d below)) again) in
-      let second = last_done (present middle) (present (set middle n.pool o)) n (object_long (present middle) n first.are object') y last last.pool last.index refl refl refl g.1 in
+      let second = last_done (present middle) (present (set middle n.pool o)) n (object_long (present middle) n first.are object') y last last.pool last.index
+      refl refl refl g.1 in
       subst (λ l. ArePlaces l × HeaderSet ps n (record (header_at ps n) { segs = segs; last = last }) (present l)) (set-set pools n.pool (Some q) o)
       (g.0, hooked_twice ps (present middle) (present (set middle n.pool o)) n segs last first second)
 
-  pub hook_done : (n : Number) (k i segs : ℕ) (last : Number) (d o : Option PoolView) → k ≡ n.pool → i ≡ n.index → segs < 65536 → last.pool < 65536 → last.index < 65536 → HasObject ps n
+  pub hook_done : (n : Number) (k i segs : ℕ) (last : Number) (d o : Option PoolView) → k ≡ n.pool → i ≡ n.index → segs < 65536 → last.pool < 65536 →
+      last.index < 65536 → HasObject ps n
       → SlotBecomes (λ p. with_object p i (with_hook (object_in p i) segs last)) (get_or pools k d) o
       → ArePlaces (set pools k o) × HeaderSet ps n (record (header_at ps n) { segs = segs; last = last }) (present (set pools k o))
   hook_done n k i segs last d o ek ei few pool index object b =

@@ -1,5 +1,6 @@
 -- Segments in hand: given up, taken, and linked.
-use Rattle.std.proofs.Common.{◌≡◌, ◌≢◌, ◌⊎◌, ℕ, zero, suc, ◌+◌, ◌-◌, ◌≤◌, Bool, true, false, cond, List, [], ◌∷◌, ◌++◌, Option, refl, sym, ◌∙◌, ap, subst, arith, ⊎_elim}
+use Rattle.std.proofs.Common.{◌≡◌, ◌≢◌, ◌⊎◌, ℕ, zero, suc, ◌+◌, ◌-◌, ◌≤◌, Bool, true, false, cond, List, [], ◌∷◌, ◌++◌, Option, refl, sym, ◌∙◌, ap, subst}
+use Rattle.std.proofs.Common.{arith, ⊎_elim}
 use Rattle.std.specs.Prelude.{◌&&◌, not}
 use Rattle.std.specs.List.{AllByRecursion}
 use Rattle.dp_model.specs.Buffers.{Number, same_number, IsNumber}
@@ -38,7 +39,10 @@ and_false : (a : Bool) → (a && false) ≡ false
 and_false true = refl
 and_false false = refl
 
-pub less : (ps ps' : List PoolView) (slots : List (Option Packet)) (s : Segment) (more : Packet) → Whole ps (s ∷ more) slots → Fewer ps ps' → ((b : Number) → 1 ≤ refs (more ++ segments_held slots) b → (header_at ps' b).refs ≡ refs (more ++ segments_held slots) b) → ((n : Number) → IsNumber (specs_of ps) n → is_out ps' n ≡ is_positive (mbufs (more ++ segments_held slots) n + refs (more ++ segments_held slots) n)) → Whole ps' more slots
+pub less : (ps ps' : List PoolView) (slots : List (Option Packet)) (s : Segment) (more : Packet) → Whole ps (s ∷ more) slots → Fewer ps ps' →
+    ((b : Number) → 1 ≤ refs (more ++ segments_held slots) b → (header_at ps' b).refs ≡ refs (more ++ segments_held slots) b) →
+    ((n : Number) → IsNumber (specs_of ps) n → is_out ps' n ≡ is_positive (mbufs (more ++ segments_held slots) n + refs (more ++ segments_held slots) n)) →
+    Whole ps' more slots
 less ps ps' slots s more w f stored outs =
     let ss : List Segment = more ++ segments_held slots in
     let c = w.counted in
@@ -55,7 +59,8 @@ less ps ps' slots s more w f stored outs =
       shows = frame ps ps' slots (same_length ps ps' f.specs) w.shows
           (λ m q. let e = mbufs-append more (segments_held slots) m in
           let number : IsNumber (specs_of ps) m =
-          all_at (IsNumber (specs_of ps)) (segments_held slots) m (all_rest (λ t. IsNumber (specs_of ps) t.mbuf) (s ∷ more) (segments_held slots) c.numbers) q in
+          all_at (IsNumber (specs_of ps)) (segments_held slots) m (all_rest (λ t. IsNumber (specs_of ps) t.mbuf) (s ∷ more) (segments_held slots) c.numbers)
+          q in
           let new : is_out ps' m ≡ true =
           outs m number ∙ positive (mbufs ss m + refs ss m) (omega (arith, e, q)) in
           let old : is_out ps m ≡ true =
@@ -66,7 +71,8 @@ less ps ps' slots s more w f stored outs =
     }
 
 -- the links of what is left
-pub less_links : (ps ps' : List PoolView) (n : Number) (s : Segment) (more : Packet) → Linked (header_at ps) n (s ∷ more) → Fewer ps ps' → Linked (header_at ps') (header_at ps n).next more
+pub less_links : (ps ps' : List PoolView) (n : Number) (s : Segment) (more : Packet) → Linked (header_at ps) n (s ∷ more) → Fewer ps ps' →
+    Linked (header_at ps') (header_at ps n).next more
 less_links ps ps' n s more l f =
     linked_kept (header_at ps) (header_at ps') (header_at ps n).next more (λ m _. (f.headers m).link) l.1
 
@@ -131,7 +137,8 @@ module _ (ps : List PoolView) (slots : List (Option Packet)) (s : Segment) (more
   pub elsewhere : (n : Number) → same_number s.mbuf n ≡ false → same_number s.buffer n ≡ false → (mbufs (s ∷ ss) n ≡ mbufs ss n) × (refs (s ∷ ss) n ≡ refs ss n)
   elsewhere n d e = (omega (arith, zero_at s.mbuf n d, mbufs-cons s ss n), omega (arith, zero_at s.buffer n e, refs-cons s ss n))
 
-  pub out_elsewhere : (n : Number) → IsNumber (specs_of ps) n → same_number s.mbuf n ≡ false → same_number s.buffer n ≡ false → is_out ps n ≡ is_positive (mbufs ss n + refs ss n)
+  pub out_elsewhere : (n : Number) → IsNumber (specs_of ps) n → same_number s.mbuf n ≡ false → same_number s.buffer n ≡ false →
+      is_out ps n ≡ is_positive (mbufs ss n + refs ss n)
   out_elsewhere n h d e =
       let q = elsewhere n d e in
       w.counted.out n h
@@ -162,7 +169,8 @@ fewer_fewer a b c f g = record {
 }
 
 -- one segment given up: its mbuf is back if it is indirect, and its buffer has one reference less
-pub released : (ps ps1 ps' : List PoolView) (slots : List (Option Packet)) (s : Segment) (more : Packet) → Whole ps (s ∷ more) slots → MbufBack ps s.mbuf s.buffer ps1 → BufferLess ps1 s.buffer ps' → Whole ps' more slots × Fewer ps ps'
+pub released : (ps ps1 ps' : List PoolView) (slots : List (Option Packet)) (s : Segment) (more : Packet) → Whole ps (s ∷ more) slots →
+    MbufBack ps s.mbuf s.buffer ps1 → BufferLess ps1 s.buffer ps' → Whole ps' more slots × Fewer ps ps'
 released ps ps1 ps' slots s more w a b =
     let ts : List Segment = more ++ segments_held slots in
     let f : Fewer ps ps' = fewer_fewer ps ps1 ps' a.fewer b.fewer in (
@@ -200,20 +208,26 @@ released ps ps1 ps' slots s more w a b =
         (λ d. a.others s.buffer d)
         (same_or s.mbuf s.buffer)
 
-    at_buffer : (r : ℕ) → refs (more ++ segments_held slots) s.buffer ≡ r → (1 ≤ r → (header_at ps' s.buffer).refs ≡ refs (more ++ segments_held slots) s.buffer) × (is_out ps' s.buffer ≡ is_positive (mbufs (more ++ segments_held slots) s.buffer + refs (more ++ segments_held slots) s.buffer))
+    at_buffer : (r : ℕ) → refs (more ++ segments_held slots) s.buffer ≡ r →
+        (1 ≤ r → (header_at ps' s.buffer).refs ≡ refs (more ++ segments_held slots) s.buffer)
+        × (is_out ps' s.buffer ≡ is_positive (mbufs (more ++ segments_held slots) s.buffer + refs (more ++ segments_held slots) s.buffer))
     at_buffer zero e = (
       (λ q. absurd (omega arith)),
-      b.last (a.refs s.buffer ∙ (buffer_refs ps slots s more w ∙ ap suc e)) ∙ sym (none_positive (mbufs (more ++ segments_held slots) s.buffer) (refs (more ++ segments_held slots) s.buffer) (buffer_gone ps slots s more w e) e),
+      b.last (a.refs s.buffer ∙ (buffer_refs ps slots s more w ∙ ap suc e))
+          ∙ sym (none_positive (mbufs (more ++ segments_held slots) s.buffer) (refs (more ++ segments_held slots) s.buffer) (buffer_gone ps slots s more w e)
+          e),
     )
     at_buffer (suc r) e =
         let less = b.one_less r (a.refs s.buffer ∙ (buffer_refs ps slots s more w ∙ ap suc e)) in (
           (λ _. less.0 ∙ sym e),
           less.1
               ∙ (still
-              ∙ (buffer_out ps slots s more w ∙ sym (positive (mbufs (more ++ segments_held slots) s.buffer + refs (more ++ segments_held slots) s.buffer) (omega (arith, e))))),
+              ∙ (buffer_out ps slots s more w ∙ sym (positive (mbufs (more ++ segments_held slots) s.buffer + refs (more ++ segments_held slots) s.buffer)
+              (omega (arith, e))))),
         )
 
-pub released_whole : (ps ps' : List PoolView) (slots : List (Option Packet)) (s : Segment) (more : Packet) → Whole ps (s ∷ more) slots → Released ps s.mbuf s.buffer ps' → Whole ps' more slots × Fewer ps ps'
+pub released_whole : (ps ps' : List PoolView) (slots : List (Option Packet)) (s : Segment) (more : Packet) → Whole ps (s ∷ more) slots →
+    Released ps s.mbuf s.buffer ps' → Whole ps' more slots × Fewer ps ps'
 released_whole ps ps' slots s more w r = released ps r.middle ps' slots s more w r.mbuf r.buffer
 
 -- ---- one segment more
@@ -234,11 +248,14 @@ none_of zero e = refl
 none_of (suc n) e = cc
 
 -- what is in has no segment
-pub nothing_at : (ps : List PoolView) (hand : Packet) (slots : List (Option Packet)) (n : Number) → Whole ps hand slots → IsNumber (specs_of ps) n → is_out ps n ≡ false → mbufs (hand ++ segments_held slots) n + refs (hand ++ segments_held slots) n ≡ 0
+pub nothing_at : (ps : List PoolView) (hand : Packet) (slots : List (Option Packet)) (n : Number) → Whole ps hand slots → IsNumber (specs_of ps) n →
+    is_out ps n ≡ false → mbufs (hand ++ segments_held slots) n + refs (hand ++ segments_held slots) n ≡ 0
 nothing_at ps hand slots n w number was =
     none_of (mbufs (hand ++ segments_held slots) n + refs (hand ++ segments_held slots) n) (sym (w.counted.out n number) ∙ was)
 
-pub grown : (ps ps' : List PoolView) (hand : Packet) (slots : List (Option Packet)) (s : Segment) → Whole ps hand slots → More ps ps' s.mbuf → Lies (specs_of ps) s → ((b : Number) → 1 ≤ refs (s ∷ hand ++ segments_held slots) b → (header_at ps' b).refs ≡ refs (s ∷ hand ++ segments_held slots) b) → (s.mbuf ≡ s.buffer) ⊎ ((same_number s.mbuf s.buffer ≡ false) × (1 ≤ refs (hand ++ segments_held slots) s.buffer)) → Whole ps' (s ∷ hand) slots
+pub grown : (ps ps' : List PoolView) (hand : Packet) (slots : List (Option Packet)) (s : Segment) → Whole ps hand slots → More ps ps' s.mbuf →
+    Lies (specs_of ps) s → ((b : Number) → 1 ≤ refs (s ∷ hand ++ segments_held slots) b → (header_at ps' b).refs ≡ refs (s ∷ hand ++ segments_held slots) b) →
+    (s.mbuf ≡ s.buffer) ⊎ ((same_number s.mbuf s.buffer ≡ false) × (1 ≤ refs (hand ++ segments_held slots) s.buffer)) → Whole ps' (s ∷ hand) slots
 grown ps ps' hand slots s w f lies stored kind =
     let ss : List Segment = hand ++ segments_held slots in
     let n : Number = s.mbuf in
@@ -336,7 +353,8 @@ filled_zones ps ps' n bytes f = f.bytes_in.zones ∙ (f.header.zones ∙ f.taken
 pub object_after : (ps ps' : List PoolView) (n : Number) → specs_of ps' ≡ specs_of ps → HasObject ps n → HasObject ps' n
 object_after ps ps' n e h = object_of ps' n (subst (λ x. IsNumber x n) (sym e) (number_of ps n h))
 
-pub less_set : (ps ps' : List PoolView) (b : Number) (j : ℕ) → HeaderSet ps b (record (header_at ps b) { refs = j }) ps' → (header_at ps b).refs ≡ suc j → 1 ≤ j → BufferLess ps b ps'
+pub less_set : (ps ps' : List PoolView) (b : Number) (j : ℕ) → HeaderSet ps b (record (header_at ps b) { refs = j }) ps' → (header_at ps b).refs ≡ suc j →
+    1 ≤ j → BufferLess ps b ps'
 less_set ps ps' b j done was some = record {
   fewer = record {
     are = done.are;
@@ -357,7 +375,8 @@ less_set ps ps' b j done was some = record {
   one_less = λ r e. (ap (λ h. h.refs) done.here ∙ omega (arith, was, e), done.outs b);
 }
 
-pub can_release : (ps : List PoolView) (slots : List (Option Packet)) (n : Number) (s : Segment) (more : Packet) → Whole ps (s ∷ more) slots → Linked (header_at ps) n (s ∷ more) → CanRelease ps n (header_at ps n).buffer
+pub can_release : (ps : List PoolView) (slots : List (Option Packet)) (n : Number) (s : Segment) (more : Packet) → Whole ps (s ∷ more) slots →
+    Linked (header_at ps) n (s ∷ more) → CanRelease ps n (header_at ps n).buffer
 can_release ps slots n s more w l =
     let mb : s.mbuf ≡ n = first_mbuf (header_at ps) n s more l in
     let bf : s.buffer ≡ (header_at ps n).buffer = sym (ap (λ t. t.buffer) l.0) in
@@ -371,7 +390,9 @@ can_release ps slots n s more w l =
     } in
     subst (λ b. CanRelease ps n b) bf (subst (λ m. CanRelease ps m s.buffer) mb at)
 
-pub release_done : (ps ps' : List PoolView) (slots : List (Option Packet)) (n : Number) (s : Segment) (more : Packet) → Whole ps (s ∷ more) slots → Linked (header_at ps) n (s ∷ more) → Released ps n (header_at ps n).buffer ps' → Whole ps' more slots × Linked (header_at ps') (header_at ps n).next more × (specs_of ps' ≡ specs_of ps) × (buffers_of ps' ≡ buffers_of ps)
+pub release_done : (ps ps' : List PoolView) (slots : List (Option Packet)) (n : Number) (s : Segment) (more : Packet) → Whole ps (s ∷ more) slots →
+    Linked (header_at ps) n (s ∷ more) → Released ps n (header_at ps n).buffer ps' → Whole ps' more slots × Linked (header_at ps') (header_at ps n).next more
+    × (specs_of ps' ≡ specs_of ps) × (buffers_of ps' ≡ buffers_of ps)
 release_done ps ps' slots n s more w l r =
     let mb : s.mbuf ≡ n = first_mbuf (header_at ps) n s more l in
     let bf : s.buffer ≡ (header_at ps n).buffer = sym (ap (λ t. t.buffer) l.0) in

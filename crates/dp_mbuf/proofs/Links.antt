@@ -56,7 +56,9 @@ linked_kept h h' n (s ∷ rest) e l =
     )
 
 -- the last one's link set to more segments
-pub linked_join : (h h' : Number → Header) (n m : Number) (k t : Packet) → 1 ≤ length k → ((x : Number) → mbufs k x ≤ 1) → Linked h n k → Linked h' m t → ((x : Number) → 1 ≤ mbufs k x → (x ≡ last_mbuf n k) ⊎ Linkage (h' x) (h x)) → segment_at h' (last_mbuf n k) ≡ segment_at h (last_mbuf n k) → (h' (last_mbuf n k)).next ≡ m → Linked h' n (k ++ t)
+pub linked_join : (h h' : Number → Header) (n m : Number) (k t : Packet) → 1 ≤ length k → ((x : Number) → mbufs k x ≤ 1) → Linked h n k → Linked h' m t →
+    ((x : Number) → 1 ≤ mbufs k x → (x ≡ last_mbuf n k) ⊎ Linkage (h' x) (h x)) → segment_at h' (last_mbuf n k) ≡ segment_at h (last_mbuf n k) →
+    (h' (last_mbuf n k)).next ≡ m → Linked h' n (k ++ t)
 linked_join h h' n m [] t some once l lt e s nx = absurd (omega arith)
 linked_join h h' n m (a ∷ []) t some once l lt e s nx =
     let first = first_mbuf h n a [] l in
@@ -89,7 +91,10 @@ pub mbufs_middle : (before : Packet) (s : Segment) (rest : Packet) → 1 ≤ mbu
 mbufs_middle before s rest =
     omega (arith, mbufs-append before (s ∷ rest) s.mbuf, mbufs_first s rest)
 
-pub linked_edit : (h h' : Number → Header) (n : Number) (before : Packet) (s s' : Segment) (rest : Packet) → ((x : Number) → mbufs (before ++ s ∷ rest) x ≤ 1) → Linked h n (before ++ s ∷ rest) → ((x : Number) → same_number s.mbuf x ≡ false → Linkage (h' x) (h x)) → segment_at h' s.mbuf ≡ s' → (h' s.mbuf).next ≡ (h s.mbuf).next → Linked h' n (before ++ s' ∷ rest)
+pub linked_edit : (h h' : Number → Header) (n : Number) (before : Packet) (s s' : Segment) (rest : Packet) →
+    ((x : Number) → mbufs (before ++ s ∷ rest) x ≤ 1) → Linked h n (before ++ s ∷ rest) →
+    ((x : Number) → same_number s.mbuf x ≡ false → Linkage (h' x) (h x)) → segment_at h' s.mbuf ≡ s' → (h' s.mbuf).next ≡ (h s.mbuf).next →
+    Linked h' n (before ++ s' ∷ rest)
 linked_edit h h' n [] s s' rest once l e is nx =
     let first = first_mbuf h n s rest l in (
       subst (λ m. segment_at h' m ≡ s') first is,
@@ -116,7 +121,8 @@ linked_edit h h' n (a ∷ before) s s' rest once l e is nx =
           (linked_edit h h' (h n).next before s s' rest (λ x. let q = once x in omega (arith, q, mbufs-cons a (before ++ s ∷ rest) x)) l.1 e is nx),
     )
 
-pub last_edit : (n : Number) (before : Packet) (s s' : Segment) (rest : Packet) → s'.mbuf ≡ s.mbuf → last_mbuf n (before ++ s' ∷ rest) ≡ last_mbuf n (before ++ s ∷ rest)
+pub last_edit : (n : Number) (before : Packet) (s s' : Segment) (rest : Packet) → s'.mbuf ≡ s.mbuf → last_mbuf n (before ++ s' ∷ rest)
+    ≡ last_mbuf n (before ++ s ∷ rest)
 last_edit n [] s s' rest e = ap (λ m. last_mbuf m rest) e
 last_edit n (a ∷ before) s s' rest e = last_edit a.mbuf before s s' rest e
 

@@ -1,5 +1,6 @@
 -- What the headers say of a live packet, and what a call leaves of the store.
-use Rattle.std.proofs.Common.{◌≡◌, ℕ, zero, suc, ◌+◌, ◌-◌, ◌<◌, ◌≤◌, List, [], ◌∷◌, ◌++◌, length, Option, Some, None, refl, sym, ◌∙◌, ap, subst, arith, ⊎_elim, get_or, set}
+use Rattle.std.proofs.Common.{◌≡◌, ℕ, zero, suc, ◌+◌, ◌-◌, ◌<◌, ◌≤◌, List, [], ◌∷◌, ◌++◌, length, Option, Some, None, refl, sym, ◌∙◌, ap, subst, arith}
+use Rattle.std.proofs.Common.{⊎_elim, get_or, set}
 use Rattle.std.specs.Prelude.{slice_set, replicate}
 use Rattle.std.specs.List.{AllByRecursion}
 use Rattle.std.proofs.lemmas.Bool.{cases_lt}
@@ -7,7 +8,8 @@ use Rattle.std.proofs.lemmas.Option.{same_Some}
 use Rattle.dp_model.specs.declared.env.PoolSpec.{PoolSpec}
 use Rattle.dp_model.specs.Environments.{room_at}
 use Rattle.dp_model.specs.Buffers.{Number, same_number, IsNumber, Buffers, written}
-use Rattle.dp_model.specs.Packets.{Segment, Packet, Lies, headroom, tailroom, first_len, last_len, room_behind, at_front, at_end, less_before, less_behind, zeroed_behind}
+use Rattle.dp_model.specs.Packets.{Segment, Packet, Lies, headroom, tailroom, first_len, last_len, room_behind, at_front, at_end, less_before, less_behind}
+use Rattle.dp_model.specs.Packets.{zeroed_behind}
 use Rattle.dp_model.specs.Stores.{Store, Has, HasSome, IsLive, Of, Becomes, unwritten}
 use Rattle.dp_mbuf.specs.declared.header.Header.{Header}
 use Rattle.dp_pool.specs.Pools.{PoolView}
@@ -44,7 +46,8 @@ settled ps slots w =
     (subst (Whole ps []) (sym e) w, e)
 
 -- what is seen after a call
-pub seen : (ps ps' : List PoolView) (v : Store) (buffers : Buffers) (slots : List (Option Packet)) → shown ps ≡ v → specs_of ps' ≡ specs_of ps → buffers_of ps' ≡ buffers → slots_of ps' ≡ slots → shown ps' ≡ record v { buffers = buffers; slots = slots }
+pub seen : (ps ps' : List PoolView) (v : Store) (buffers : Buffers) (slots : List (Option Packet)) → shown ps ≡ v → specs_of ps' ≡ specs_of ps →
+    buffers_of ps' ≡ buffers → slots_of ps' ≡ slots → shown ps' ≡ record v { buffers = buffers; slots = slots }
 seen ps ps' v buffers slots e a b c =
     store_eq (shown ps') (record v { buffers = buffers; slots = slots }) (a ∙ ap (λ s. s.pools) e) b c
 
@@ -80,7 +83,8 @@ opened ps v h k e sound has =
     record {
       slot = slot;
       stands = stands;
-      object = object_of ps (numbered h) (all_at (IsNumber (specs_of ps)) k (numbered h) numbers (first_in (header_at ps) (numbered h) k stands.some stands.links));
+      object = object_of ps (numbered h) (all_at (IsNumber (specs_of ps)) k (numbered h) numbers
+          (first_in (header_at ps) (numbered h) k stands.some stands.links));
       numbers = numbers;
       lie = subst (AllOf (Lies (specs_of ps))) slot (all_slot (Lies (specs_of ps)) (slots_of ps) h sound.counted.lie);
       once = λ m. let c = ap (count_of (λ t. same_number t.mbuf m)) slot in
@@ -141,7 +145,8 @@ module _ (s : Segment) where
   at_end_is f (a ∷ []) = refl
   at_end_is f (a ∷ b ∷ before) = ap (λ r. a ∷ r) (at_end_is f (b ∷ before))
 
-  pub zeroed_is : (n : ℕ) (before : Packet) (buffers : Buffers) → zeroed_behind n (before ++ s ∷ []) buffers ≡ written buffers s.buffer (s.offset + s.len) (replicate n 0)
+  pub zeroed_is : (n : ℕ) (before : Packet) (buffers : Buffers) → zeroed_behind n (before ++ s ∷ []) buffers
+      ≡ written buffers s.buffer (s.offset + s.len) (replicate n 0)
   zeroed_is n [] buffers = refl
   zeroed_is n (a ∷ []) buffers = refl
   zeroed_is n (a ∷ b ∷ before) buffers = zeroed_is n (b ∷ before) buffers
@@ -170,7 +175,8 @@ last_at ps v h k o =
       is = l.is;
       mbuf = o.stands.last ∙ (ap (last_mbuf n) l.is ∙ last_mbuf_is l.seg n l.before);
       header = linked_at (header_at ps) n l.before l.seg [] (subst (Linked (header_at ps) n) l.is o.stands.links);
-      object = object_of ps l.seg.mbuf (all_rest (λ s. IsNumber (specs_of ps) s.mbuf) l.before (l.seg ∷ []) (subst (AllByRecursion (λ s. IsNumber (specs_of ps) s.mbuf)) l.is o.numbers)).0;
+      object = object_of ps l.seg.mbuf (all_rest (λ s. IsNumber (specs_of ps) s.mbuf) l.before (l.seg ∷ [])
+          (subst (AllByRecursion (λ s. IsNumber (specs_of ps) s.mbuf)) l.is o.numbers)).0;
       lies = (all_rest (Lies (specs_of ps)) l.before (l.seg ∷ []) (subst (AllByRecursion (Lies (specs_of ps))) l.is o.lie)).0;
     }
 
@@ -179,7 +185,10 @@ last_at ps v h k o =
 abbrev pub moved : Header → ℕ → ℕ → Header
 moved x o l = record x { offset = o; len = l }
 
-pub front_edited : (ps ps' : List PoolView) (h : ℕ) (s : Segment) (rest : Packet) (f : Segment → Segment) (o l : ℕ) → Sound ps → get_or (slots_of ps) h None ≡ Some (s ∷ rest) → s.mbuf ≡ numbered h → segment_at (header_at ps) (numbered h) ≡ s → HeaderSet ps (numbered h) (moved (header_at ps (numbered h)) o l) ps' → f s ≡ record s { offset = o; len = l } → Lies (specs_of ps) (f s) → Sound ps' × (slots_of ps' ≡ set (slots_of ps) h (Some (f s ∷ rest)))
+pub front_edited : (ps ps' : List PoolView) (h : ℕ) (s : Segment) (rest : Packet) (f : Segment → Segment) (o l : ℕ) → Sound ps → get_or (slots_of ps) h None
+    ≡ Some (s ∷ rest) → s.mbuf ≡ numbered h → segment_at (header_at ps) (numbered h) ≡ s →
+    HeaderSet ps (numbered h) (moved (header_at ps (numbered h)) o l) ps' → f s ≡ record s { offset = o; len = l } → Lies (specs_of ps) (f s) →
+    Sound ps' × (slots_of ps' ≡ set (slots_of ps) h (Some (f s ∷ rest)))
 front_edited ps ps' h s rest f o l sound slot mb is done ef lies =
     let n : Number = numbered h in
     let x : Header = moved (header_at ps n) o l in
@@ -188,14 +197,18 @@ front_edited ps ps' h s rest f o l sound slot mb is done ef lies =
     settled ps' (set (slots_of ps) h (Some (f s ∷ rest)))
     (edited ps ps' (slots_of ps) h [] s (f s) rest x sound slot (subst (λ m. HeaderSet ps m x ps') back done)
     (ap (λ m. (header_at ps m).segs) back) (ap (λ m. (header_at ps m).last) back) (ap (λ m. (header_at ps m).refs) back) (ap (λ m. (header_at ps m).next) back)
-    (ap (λ t. t.buffer) is ∙ sym (ap (λ t. t.buffer) ef)) (sym (ap (λ t. t.offset) ef)) (sym (ap (λ t. t.len) ef)) (ap (λ t. t.mbuf) ef) (ap (λ t. t.buffer) ef) lies)
+    (ap (λ t. t.buffer) is ∙ sym (ap (λ t. t.buffer) ef)) (sym (ap (λ t. t.offset) ef)) (sym (ap (λ t. t.len) ef)) (ap (λ t. t.mbuf) ef)
+    (ap (λ t. t.buffer) ef) lies)
 
-pub end_edited : (ps ps' : List PoolView) (h : ℕ) (before : Packet) (s : Segment) (f : Segment → Segment) (o l : ℕ) → Sound ps → get_or (slots_of ps) h None ≡ Some (before ++ s ∷ []) → segment_at (header_at ps) s.mbuf ≡ s → HeaderSet ps s.mbuf (moved (header_at ps s.mbuf) o l) ps' → f s ≡ record s { offset = o; len = l } → Lies (specs_of ps) (f s) → Sound ps' × (slots_of ps' ≡ set (slots_of ps) h (Some (before ++ f s ∷ [])))
+pub end_edited : (ps ps' : List PoolView) (h : ℕ) (before : Packet) (s : Segment) (f : Segment → Segment) (o l : ℕ) → Sound ps → get_or (slots_of ps) h None
+    ≡ Some (before ++ s ∷ []) → segment_at (header_at ps) s.mbuf ≡ s → HeaderSet ps s.mbuf (moved (header_at ps s.mbuf) o l) ps' →
+    f s ≡ record s { offset = o; len = l } → Lies (specs_of ps) (f s) → Sound ps' × (slots_of ps' ≡ set (slots_of ps) h (Some (before ++ f s ∷ [])))
 end_edited ps ps' h before s f o l sound slot is done ef lies =
     let x : Header = moved (header_at ps s.mbuf) o l in
     settled ps' (set (slots_of ps) h (Some (before ++ f s ∷ [])))
     (edited ps ps' (slots_of ps) h before s (f s) [] x sound slot done refl refl refl refl
-    (ap (λ t. t.buffer) is ∙ sym (ap (λ t. t.buffer) ef)) (sym (ap (λ t. t.offset) ef)) (sym (ap (λ t. t.len) ef)) (ap (λ t. t.mbuf) ef) (ap (λ t. t.buffer) ef) lies)
+    (ap (λ t. t.buffer) is ∙ sym (ap (λ t. t.buffer) ef)) (sym (ap (λ t. t.offset) ef)) (sym (ap (λ t. t.len) ef)) (ap (λ t. t.mbuf) ef)
+    (ap (λ t. t.buffer) ef) lies)
 
 -- ---- what readers answer
 
@@ -230,7 +243,8 @@ module _ (ps : List PoolView) (v : Store) (h : ℕ) (e : shown ps ≡ v) (sound 
       ∙ (ap (λ m. (header_at ps m).len) l.mbuf
       ∙ (ap (λ t. t.len) l.header ∙ sym (ap last_len l.is ∙ last_len_is l.seg l.before)))
 
-  pub last_room : IsLive v h → (x : Header) → x ≡ header_at ps (header_at ps (numbered h)).last → (x.buffer.pool < length ps) × (x.offset + x.len ≤ room_at (specs_of ps) x.buffer.pool)
+  pub last_room : IsLive v h → (x : Header) → x ≡ header_at ps (header_at ps (numbered h)).last →
+      (x.buffer.pool < length ps) × (x.offset + x.len ≤ room_at (specs_of ps) x.buffer.pool)
   last_room live x ex =
       let l = last_at ps v h live.0 (opened ps v h live.0 e sound live.1) in
       let b : x.buffer ≡ l.seg.buffer = ap (λ y. y.buffer) ex ∙ (ap (λ m. (header_at ps m).buffer) l.mbuf ∙ ap (λ s. s.buffer) l.header) in
@@ -240,7 +254,8 @@ module _ (ps : List PoolView) (v : Store) (h : ℕ) (e : shown ps ≡ v) (sound 
         subst (λ y. x.offset + x.len ≤ room_at (specs_of ps) y.pool) (sym b) (let f = l.lies.fits in omega (arith, f, o, n)),
       )
 
-  pub tailroom_is_left : (x : Header) (room : ℕ) → x ≡ header_at ps (header_at ps (numbered h)).last → room ≡ room_at (specs_of ps) x.buffer.pool → Of v h (λ k. room - x.offset - x.len ≡ tailroom v.pools k)
+  pub tailroom_is_left : (x : Header) (room : ℕ) → x ≡ header_at ps (header_at ps (numbered h)).last → room ≡ room_at (specs_of ps) x.buffer.pool →
+      Of v h (λ k. room - x.offset - x.len ≡ tailroom v.pools k)
   tailroom_is_left x room ex er k has =
       let l = last_at ps v h k (opened ps v h k e sound has) in
       let lift : (g : Header → ℕ) → g x ≡ g (header_at ps l.seg.mbuf) = λ g. ap g ex ∙ ap (λ m. g (header_at ps m)) l.mbuf in
@@ -255,7 +270,8 @@ module _ (ps : List PoolView) (v : Store) (h : ℕ) (e : shown ps ≡ v) (sound 
 
   -- ---- adj and trim
 
-  pub first_fits : (x : Header) (n : ℕ) → x ≡ header_at ps (numbered h) → HasSome v h (λ k. n ≤ first_len k) → (n ≤ x.len) × (x.offset + x.len ≤ 4096) × HasObject ps (numbered h)
+  pub first_fits : (x : Header) (n : ℕ) → x ≡ header_at ps (numbered h) → HasSome v h (λ k. n ≤ first_len k) →
+      (n ≤ x.len) × (x.offset + x.len ≤ 4096) × HasObject ps (numbered h)
   first_fits x n ex r =
       let o = opened ps v h r.0 e sound r.1 in
       let f = first_of ps v h r.0 o in
@@ -270,7 +286,9 @@ module _ (ps : List PoolView) (v : Store) (h : ℕ) (e : shown ps ≡ v) (sound 
   pub last_fits : (x : Header) (n : ℕ) → x ≡ header_at ps (header_at ps (numbered h)).last → HasSome v h (λ k. n ≤ last_len k) → n ≤ x.len
   last_fits x n ex r = let l = last_length_is x ex r.0 r.1 in let fit = r.2 in omega (arith, l, fit)
 
-  pub adj_done : (ps' : List PoolView) (n : ℕ) → HasSome v h (λ k. n ≤ first_len k) → HeaderSet ps (numbered h) (moved (header_at ps (numbered h)) ((header_at ps (numbered h)).offset + n) ((header_at ps (numbered h)).len - n)) ps' → Sound ps' × Becomes v (shown ps') h (at_front (less_before n)) unwritten
+  pub adj_done : (ps' : List PoolView) (n : ℕ) → HasSome v h (λ k. n ≤ first_len k) →
+      HeaderSet ps (numbered h) (moved (header_at ps (numbered h)) ((header_at ps (numbered h)).offset + n) ((header_at ps (numbered h)).len - n)) ps' →
+      Sound ps' × Becomes v (shown ps') h (at_front (less_before n)) unwritten
   adj_done ps' n r done =
       let all : (k : Packet) → Has v h k → Sound ps' × (slots_of ps' ≡ set (slots_of ps) h (Some (at_front (less_before n) k))) =
       λ k has. let o = opened ps v h k e sound has in
@@ -280,8 +298,10 @@ module _ (ps : List PoolView) (v : Store) (h : ℕ) (e : shown ps ≡ v) (sound 
       let same : first_len r.0 ≡ f.seg.len = ap first_len (has_same v h r.0 k r.1 has ∙ f.is) in
       let fit = r.2 in
       let lies = f.lies.fits in
-      let d = front_edited ps ps' h f.seg f.rest (less_before n) ((header_at ps (numbered h)).offset + n) ((header_at ps (numbered h)).len - n) sound (o.slot ∙ ap Some f.is) f.mbuf f.header done
-      (ap (λ x. record f.seg { offset = x + n; len = f.seg.len - n }) (sym off) ∙ ap (λ x. record f.seg { offset = (header_at ps (numbered h)).offset + n; len = x - n }) (sym len))
+      let d = front_edited ps ps' h f.seg f.rest (less_before n) ((header_at ps (numbered h)).offset + n) ((header_at ps (numbered h)).len - n) sound (o.slot
+      ∙ ap Some f.is) f.mbuf f.header done
+      (ap (λ x. record f.seg { offset = x + n; len = f.seg.len - n }) (sym off)
+      ∙ ap (λ x. record f.seg { offset = (header_at ps (numbered h)).offset + n; len = x - n }) (sym len))
       (record { fits = omega (arith, lies, same, fit); number = f.lies.number }) in
       (d.0, d.1 ∙ sym (ap (λ j. set (slots_of ps) h (Some (at_front (less_before n) j))) f.is)) in (
         (all r.0 r.1).0,
@@ -289,7 +309,9 @@ module _ (ps : List PoolView) (v : Store) (h : ℕ) (e : shown ps ≡ v) (sound 
             ((all k has).1 ∙ ap (λ s. set s.slots h (Some (at_front (less_before n) k))) e),
       )
 
-  pub trim_done : (ps' : List PoolView) (n : ℕ) → HasSome v h (λ k. n ≤ last_len k) → HeaderSet ps (header_at ps (numbered h)).last (record (header_at ps (header_at ps (numbered h)).last) { len = (header_at ps (header_at ps (numbered h)).last).len - n }) ps' → Sound ps' × Becomes v (shown ps') h (at_end (less_behind n)) unwritten
+  pub trim_done : (ps' : List PoolView) (n : ℕ) → HasSome v h (λ k. n ≤ last_len k) →
+      HeaderSet ps (header_at ps (numbered h)).last (record (header_at ps (header_at ps (numbered h)).last)
+      { len = (header_at ps (header_at ps (numbered h)).last).len - n }) ps' → Sound ps' × Becomes v (shown ps') h (at_end (less_behind n)) unwritten
   trim_done ps' n r done =
       let all : (k : Packet) → Has v h k → Sound ps' × (slots_of ps' ≡ set (slots_of ps) h (Some (at_end (less_behind n) k))) =
       λ k has. let o = opened ps v h k e sound has in
@@ -299,8 +321,10 @@ module _ (ps : List PoolView) (v : Store) (h : ℕ) (e : shown ps ≡ v) (sound 
       let off : (header_at ps l.seg.mbuf).offset ≡ l.seg.offset = ap (λ t. t.offset) l.header in
       let len : (header_at ps l.seg.mbuf).len ≡ l.seg.len = ap (λ t. t.len) l.header in
       let lies = l.lies.fits in
-      let d = end_edited ps ps' h l.before l.seg (less_behind n) (header_at ps l.seg.mbuf).offset ((header_at ps l.seg.mbuf).len - n) sound (o.slot ∙ ap Some l.is) l.header done'
-      (ap (λ x. record l.seg { offset = x; len = l.seg.len - n }) (sym off) ∙ ap (λ x. record l.seg { offset = (header_at ps l.seg.mbuf).offset; len = x - n }) (sym len))
+      let d = end_edited ps ps' h l.before l.seg (less_behind n) (header_at ps l.seg.mbuf).offset ((header_at ps l.seg.mbuf).len - n) sound (o.slot
+      ∙ ap Some l.is) l.header done'
+      (ap (λ x. record l.seg { offset = x; len = l.seg.len - n }) (sym off)
+      ∙ ap (λ x. record l.seg { offset = (header_at ps l.seg.mbuf).offset; len = x - n }) (sym len))
       (record { fits = omega (arith, lies); number = l.lies.number }) in
       (d.0, d.1 ∙ ap (λ j. set (slots_of ps) h (Some j)) (sym (ap (at_end (less_behind n)) l.is ∙ at_end_is l.seg (less_behind n) l.before))) in (
         (all r.0 r.1).0,

@@ -1,5 +1,6 @@
 -- The calls on objects: what they ask of a place for a pool, and what they leave.
-use Rattle.std.proofs.Common.{◌≡◌, ℕ, zero, suc, ◌+◌, ◌<◌, ◌≤◌, Bool, true, false, List, [], ◌∷◌, length, Option, Some, None, refl, sym, ◌∙◌, ap, subst, arith, get_or, set}
+use Rattle.std.proofs.Common.{◌≡◌, ℕ, zero, suc, ◌+◌, ◌<◌, ◌≤◌, Bool, true, false, List, [], ◌∷◌, length, Option, Some, None, refl, sym, ◌∙◌, ap, subst}
+use Rattle.std.proofs.Common.{arith, get_or, set}
 use Rattle.std.specs.Prelude.{slice_get, count_by, not}
 use Rattle.std.proofs.lemmas.List.{length-set, get_or_past}
 use Rattle.std.proofs.lemmas.List.Sums.{sum_by-cons}
@@ -7,9 +8,11 @@ use Rattle.std.specs.List.{AllByRecursion}
 use Rattle.dp_model.specs.Environments.{room_at}
 use Rattle.dp_model.specs.Buffers.{Number}
 use Rattle.dp_pool.specs.Pools.{PoolView, with_written, got, put_back}
-use Rattle.dp_mbuf.specs.Objects.{present, pool_in, header_with, is_out, count_in, specs_of, HasObject, HasRooms, PoolsFirst, objects_in_all, ArePlaces, ArePools, HeaderSet, RoomWritten, Taken, Given, SlotHas, SlotFits, SlotIsOut, SlotBecomes, SlotGives, slot_count, no_pool}
+use Rattle.dp_mbuf.specs.Objects.{present, pool_in, header_with, is_out, count_in, specs_of, HasObject, HasRooms, PoolsFirst, objects_in_all, ArePlaces}
+use Rattle.dp_mbuf.specs.Objects.{ArePools, HeaderSet, RoomWritten, Taken, Given, SlotHas, SlotFits, SlotIsOut, SlotBecomes, SlotGives, slot_count, no_pool}
 use Rattle.dp_mbuf.proofs.PoolLemmas.{Small, pool_out}
-use Rattle.dp_mbuf.proofs.ObjectLemmas.{are_pools, object_pool, room_is, front_set, room_written, rooms_written, taken, given, slot_is, slot_below, slot_set, slot_first}
+use Rattle.dp_mbuf.proofs.ObjectLemmas.{are_pools, object_pool, room_is, front_set, room_written, rooms_written, taken, given, slot_is, slot_below, slot_set}
+use Rattle.dp_mbuf.proofs.ObjectLemmas.{slot_first}
 
 -- where an index is out, that is what stands in the row
 out_there : (row : List Bool) (i : ℕ) → get_or row i false ≡ true → slice_get row i ≡ Some true
@@ -27,7 +30,12 @@ as_many : (ps : List PoolView) (k : ℕ) (p : PoolView) → length p.objects ≡
 as_many [] k p many = refl
 as_many (q ∷ ps) zero p many = omega (arith, many, sum_by-cons (λ (x : PoolView). length x.objects) p ps, sum_by-cons (λ (x : PoolView). length x.objects) q ps)
 as_many (q ∷ ps) (suc k) p many =
-    let more = as_many ps k p many in omega (arith, more, sum_by-cons (λ (x : PoolView). length x.objects) q (set ps k p), sum_by-cons (λ (x : PoolView). length x.objects) q ps)
+    let more = as_many ps k p many in omega (
+      arith,
+      more,
+      sum_by-cons (λ (x : PoolView). length x.objects) q (set ps k p),
+      sum_by-cons (λ (x : PoolView). length x.objects) q ps,
+    )
 
 module _ (pools : List (Option PoolView)) (ps : List PoolView) (e : present pools ≡ ps) (inv : ArePlaces pools) where
   pub are : ArePools ps
@@ -39,7 +47,8 @@ module _ (pools : List (Option PoolView)) (ps : List PoolView) (e : present pool
   pub has : (k : ℕ) (d : Option PoolView) → k < length ps → SlotHas (get_or pools k d)
   has k d h = subst SlotHas (sym (slot_is pools ps k d e h)) (are.rooms k h)
 
-  pub fits : (n : Number) (k i m : ℕ) (d : Option PoolView) → k ≡ n.pool → i ≡ n.index → HasObject ps n → m ≤ (pool_in ps n.pool).size → SlotFits (get_or pools k d) i m
+  pub fits : (n : Number) (k i m : ℕ) (d : Option PoolView) → k ≡ n.pool → i ≡ n.index → HasObject ps n → m ≤ (pool_in ps n.pool).size →
+      SlotFits (get_or pools k d) i m
   fits n k i m d ek ei object h =
       let there : n.pool < length ps = object_pool ps n object in
       subst (λ j. SlotFits (get_or pools j d) i m) (sym ek)
@@ -59,7 +68,8 @@ module _ (pools : List (Option PoolView)) (ps : List PoolView) (e : present pool
   becomes k d o f h b = subst (λ x. SlotBecomes f x o) (slot_is pools ps k d e h) b
 
   -- the pools with one of them replaced
-  replaced : (k : ℕ) (o : Option PoolView) (p : PoolView) → k < length ps → o ≡ Some p → HasRooms p → length p.objects ≡ length (pool_in ps k).objects → ArePlaces (set pools k o) × (present (set pools k o) ≡ set ps k p)
+  replaced : (k : ℕ) (o : Option PoolView) (p : PoolView) → k < length ps → o ≡ Some p → HasRooms p → length p.objects ≡ length (pool_in ps k).objects →
+      ArePlaces (set pools k o) × (present (set pools k o) ≡ set ps k p)
   replaced k o p h eo rooms many =
       let is = slot_set pools ps k o p e h eo in (
         (
@@ -74,14 +84,18 @@ module _ (pools : List (Option PoolView)) (ps : List PoolView) (e : present pool
   front_fits n at m object front =
       omega (arith, front, (are.rooms n.pool (object_pool ps n object)).header)
 
-  pub front_done : (n : Number) (k i at : ℕ) (bytes : List ℕ) (d o : Option PoolView) → k ≡ n.pool → i ≡ n.index → Small bytes → HasObject ps n → at + length bytes ≤ 128 → SlotBecomes (λ p. with_written p i at bytes) (get_or pools k d) o → ArePlaces (set pools k o) × HeaderSet ps n (header_with ps n at bytes) (present (set pools k o))
+  pub front_done : (n : Number) (k i at : ℕ) (bytes : List ℕ) (d o : Option PoolView) → k ≡ n.pool → i ≡ n.index → Small bytes → HasObject ps n →
+      at + length bytes ≤ 128 → SlotBecomes (λ p. with_written p i at bytes) (get_or pools k d) o → ArePlaces (set pools k o)
+      × HeaderSet ps n (header_with ps n at bytes) (present (set pools k o))
   front_done n k i at bytes d o ek ei small object front b =
       let there : n.pool < length ps = object_pool ps n object in
       let fit : at + length bytes ≤ (pool_in ps n.pool).size = front_fits n at (length bytes) object front in
       let left : o ≡ Some (with_written (pool_in ps n.pool) n.index at bytes) =
       subst (λ j. o ≡ Some (with_written (pool_in ps n.pool) j at bytes)) ei
-      (subst (λ j. o ≡ Some (with_written (pool_in ps j) i at bytes)) ek (becomes k d o (λ p. with_written p i at bytes) (subst (λ j. j < length ps) (sym ek) there) b)) in
-      let r = replaced n.pool o (with_written (pool_in ps n.pool) n.index at bytes) there left (rooms_written ps n are object at bytes small fit) (length-set (pool_in ps n.pool).objects n.index _) in
+      (subst (λ j. o ≡ Some (with_written (pool_in ps j) i at bytes)) ek
+      (becomes k d o (λ p. with_written p i at bytes) (subst (λ j. j < length ps) (sym ek) there) b)) in
+      let r = replaced n.pool o (with_written (pool_in ps n.pool) n.index at bytes) there left (rooms_written ps n are object at bytes small fit)
+      (length-set (pool_in ps n.pool).objects n.index _) in
       subst (λ j. ArePlaces (set pools j o) × HeaderSet ps n (header_with ps n at bytes) (present (set pools j o))) (sym ek)
       (r.0, subst (HeaderSet ps n (header_with ps n at bytes)) (sym r.1) (front_set ps n at bytes are object small front fit))
 
@@ -92,37 +106,53 @@ module _ (pools : List (Option PoolView)) (ps : List PoolView) (e : present pool
   pub room_small : (n : Number) → HasObject ps n → room_at (specs_of ps) n.pool ≤ 4096
   room_small n object = omega (arith, room_is ps n.pool, (are.rooms n.pool (object_pool ps n object)).room)
 
-  pub room_done : (n : Number) (k i at : ℕ) (bytes : List ℕ) (d o : Option PoolView) → k ≡ n.pool → i ≡ n.index → Small bytes → HasObject ps n → 128 + at + length bytes ≤ (pool_in ps n.pool).size → SlotBecomes (λ p. with_written p i (128 + at) bytes) (get_or pools k d) o → ArePlaces (set pools k o) × RoomWritten ps n at bytes (present (set pools k o))
+  pub room_done : (n : Number) (k i at : ℕ) (bytes : List ℕ) (d o : Option PoolView) → k ≡ n.pool → i ≡ n.index → Small bytes → HasObject ps n →
+      128 + at + length bytes ≤ (pool_in ps n.pool).size → SlotBecomes (λ p. with_written p i (128 + at) bytes) (get_or pools k d) o →
+      ArePlaces (set pools k o) × RoomWritten ps n at bytes (present (set pools k o))
   room_done n k i at bytes d o ek ei small object fit b =
       let there : n.pool < length ps = object_pool ps n object in
       let left : o ≡ Some (with_written (pool_in ps n.pool) n.index (128 + at) bytes) =
       subst (λ j. o ≡ Some (with_written (pool_in ps n.pool) j (128 + at) bytes)) ei
-      (subst (λ j. o ≡ Some (with_written (pool_in ps j) i (128 + at) bytes)) ek (becomes k d o (λ p. with_written p i (128 + at) bytes) (subst (λ j. j < length ps) (sym ek) there) b)) in
-      let r = replaced n.pool o (with_written (pool_in ps n.pool) n.index (128 + at) bytes) there left (rooms_written ps n are object (128 + at) bytes small fit) (length-set (pool_in ps n.pool).objects n.index _) in
+      (subst (λ j. o ≡ Some (with_written (pool_in ps j) i (128 + at) bytes)) ek
+      (becomes k d o (λ p. with_written p i (128 + at) bytes) (subst (λ j. j < length ps) (sym ek) there) b)) in
+      let r = replaced n.pool o (with_written (pool_in ps n.pool) n.index (128 + at) bytes) there left
+      (rooms_written ps n are object (128 + at) bytes small fit) (length-set (pool_in ps n.pool).objects n.index _) in
       subst (λ j. ArePlaces (set pools j o) × RoomWritten ps n at bytes (present (set pools j o))) (sym ek)
       (r.0, subst (RoomWritten ps n at bytes) (sym r.1) (room_written ps n at bytes are object small fit))
 
-  pub give_done : (n : Number) (k i : ℕ) (d o : Option PoolView) → k ≡ n.pool → i ≡ n.index → is_out ps n ≡ true → SlotBecomes (λ p. put_back p i) (get_or pools k d) o → ArePlaces (set pools k o) × Given ps n (present (set pools k o))
+  pub give_done : (n : Number) (k i : ℕ) (d o : Option PoolView) → k ≡ n.pool → i ≡ n.index → is_out ps n ≡ true →
+      SlotBecomes (λ p. put_back p i) (get_or pools k d) o → ArePlaces (set pools k o) × Given ps n (present (set pools k o))
   give_done n k i d o ek ei out b =
       let there : n.pool < length ps = out_pool ps n.pool n.index out in
       let rooms = are.rooms n.pool there in
       let left : o ≡ Some (put_back (pool_in ps n.pool) n.index) =
       subst (λ j. o ≡ Some (put_back (pool_in ps n.pool) j)) ei
       (subst (λ j. o ≡ Some (put_back (pool_in ps j) i)) ek (becomes k d o (λ p. put_back p i) (subst (λ j. j < length ps) (sym ek) there) b)) in
-      let r = replaced n.pool o (put_back (pool_in ps n.pool) n.index) there left (record { pool = pool_out (pool_in ps n.pool) n.index false (put_back (pool_in ps n.pool) n.index).cached rooms.pool; header = rooms.header; room = rooms.room }) refl in
+      let r = replaced n.pool o (put_back (pool_in ps n.pool) n.index) there left
+      (record {
+        pool = pool_out (pool_in ps n.pool) n.index false (put_back (pool_in ps n.pool) n.index).cached rooms.pool;
+        header = rooms.header;
+        room = rooms.room;
+      }) refl in
       subst (λ j. ArePlaces (set pools j o) × Given ps n (present (set pools j o))) (sym ek)
       (r.0, subst (Given ps n) (sym r.1) (given ps n are there (out_there (pool_in ps n.pool).out n.index out)))
 
   -- an object handed out
-  pub take_some : (k i : ℕ) (d o : Option PoolView) → k < length ps → SlotGives (get_or pools k d) (Some i) o → ArePlaces (set pools k o) × Taken ps (record { pool = k; index = i }) (present (set pools k o))
+  pub take_some : (k i : ℕ) (d o : Option PoolView) → k < length ps → SlotGives (get_or pools k d) (Some i) o → ArePlaces (set pools k o)
+      × Taken ps (record { pool = k; index = i }) (present (set pools k o))
   take_some k i d o there b =
       let rooms = are.rooms k there in
       let g : (slice_get (pool_in ps k).out i ≡ Some false) × (o ≡ Some (got (pool_in ps k) i)) =
       subst (λ x. SlotGives x (Some i) o) (slot_is pools ps k d e there) b in
-      let r = replaced k o (got (pool_in ps k) i) there g.1 (record { pool = pool_out (pool_in ps k) i true (got (pool_in ps k) i).cached rooms.pool; header = rooms.header; room = rooms.room }) refl in
+      let r = replaced k o (got (pool_in ps k) i) there g.1 (record {
+        pool = pool_out (pool_in ps k) i true (got (pool_in ps k) i).cached rooms.pool;
+        header = rooms.header;
+        room = rooms.room;
+      }) refl in
       (r.0, subst (Taken ps (record { pool = k; index = i })) (sym r.1) (taken ps (record { pool = k; index = i }) are there g.0))
 
-  pub take_none : (k : ℕ) (d o : Option PoolView) → k < length ps → SlotGives (get_or pools k d) None o → ArePlaces (set pools k o) × (count_in ps k ≡ 0) × (present (set pools k o) ≡ ps)
+  pub take_none : (k : ℕ) (d o : Option PoolView) → k < length ps → SlotGives (get_or pools k d) None o → ArePlaces (set pools k o) × (count_in ps k ≡ 0)
+      × (present (set pools k o) ≡ ps)
   take_none k d o there b =
       let g : (count_by not (pool_in ps k).out ≡ 0) × (o ≡ Some (pool_in ps k)) =
       subst (λ x. SlotGives x None o) (slot_is pools ps k d e there) b in
@@ -136,24 +166,28 @@ module _ (pools : List (Option PoolView)) (ps : List PoolView) (e : present pool
 
 -- ---- how many objects there are
 
-no_slot : (pools : List (Option PoolView)) (k : ℕ) (d : Option PoolView) → AllByRecursion (λ o. o ≡ None) pools → k < length pools → slot_count (get_or pools k d) ≡ 0
+no_slot : (pools : List (Option PoolView)) (k : ℕ) (d : Option PoolView) → AllByRecursion (λ o. o ≡ None) pools → k < length pools →
+    slot_count (get_or pools k d) ≡ 0
 no_slot [] k d all h = absurd (omega arith)
 no_slot (o ∷ pools) zero d all h = ap slot_count all.0
 no_slot (o ∷ pools) (suc k) d all h = no_slot pools k d all.1 (omega arith)
 
-slot_count_is : (pools : List (Option PoolView)) (k : ℕ) (d : Option PoolView) → PoolsFirst pools → k < length pools → slot_count (get_or pools k d) ≡ length (pool_in (present pools) k).objects
+slot_count_is : (pools : List (Option PoolView)) (k : ℕ) (d : Option PoolView) → PoolsFirst pools → k < length pools → slot_count (get_or pools k d)
+    ≡ length (pool_in (present pools) k).objects
 slot_count_is [] k d first h = absurd (omega arith)
 slot_count_is (None ∷ pools) zero d first h = refl
 slot_count_is (None ∷ pools) (suc k) d first h = no_slot pools k d first (omega arith)
 slot_count_is (Some p ∷ pools) zero d first h = refl
 slot_count_is (Some p ∷ pools) (suc k) d first h = slot_count_is pools k d first.1 (omega arith)
 
-pub counted : (pools : List (Option PoolView)) (ps : List PoolView) (k j : ℕ) (d : Option PoolView) → present pools ≡ ps → ArePlaces pools → k ≡ j → j < 8 → slot_count (get_or pools k d) ≡ length (pool_in ps j).objects
+pub counted : (pools : List (Option PoolView)) (ps : List PoolView) (k j : ℕ) (d : Option PoolView) → present pools ≡ ps → ArePlaces pools → k ≡ j → j < 8 →
+    slot_count (get_or pools k d) ≡ length (pool_in ps j).objects
 counted pools ps k j d e inv ek h =
     ap (λ i. slot_count (get_or pools i d)) ek
     ∙ (slot_count_is pools j d inv.1 (omega (arith, h, inv.0)) ∙ ap (λ q. length (pool_in q j).objects) e)
 
-pub counted_none : (pools : List (Option PoolView)) (ps : List PoolView) (j : ℕ) → present pools ≡ ps → ArePlaces pools → 8 ≤ j → length (pool_in ps j).objects ≡ 0
+pub counted_none : (pools : List (Option PoolView)) (ps : List PoolView) (j : ℕ) → present pools ≡ ps → ArePlaces pools → 8 ≤ j →
+    length (pool_in ps j).objects ≡ 0
 counted_none pools ps j e inv h =
     let few = (are pools ps e inv).few in
     ap (λ p. length p.objects) (get_or_past ps j no_pool (omega (arith, few, h)))

@@ -1,8 +1,10 @@
 -- The pools of mbufs after a write into one.
-use Rattle.std.proofs.Common.{◌≡◌, ◌≢◌, ◌⊎◌, ℕ, zero, suc, ◌+◌, ◌-◌, ◌*◌, ◌/◌, ◌%◌, ◌<◌, ◌≤◌, Bool, true, false, List, [], ◌∷◌, ◌++◌, length, take, drop, Option, Some, None, refl, sym, ◌∙◌, ap, subst, arith, inl, inr, ⊎_elim, get_or, set, map}
+use Rattle.std.proofs.Common.{◌≡◌, ◌≢◌, ◌⊎◌, ℕ, zero, suc, ◌+◌, ◌-◌, ◌*◌, ◌/◌, ◌%◌, ◌<◌, ◌≤◌, Bool, true, false, List, [], ◌∷◌, ◌++◌, length, take, drop}
+use Rattle.std.proofs.Common.{Option, Some, None, refl, sym, ◌∙◌, ap, subst, arith, inl, inr, ⊎_elim, get_or, set, map}
 use Rattle.std.specs.Prelude.{count_by, not, slice_get, ◌&&◌, IfSome}
 use Rattle.std.proofs.lemmas.Bool.{cases_eq, cases_Bool, eq-eqb, eqb-true, and_from}
-use Rattle.std.proofs.lemmas.List.{length-set, length-take-le, get_or-set_same, get_or-set_other, get_or_append_left, get_or-take, drop-drop, drop-take, drop-append-le}
+use Rattle.std.proofs.lemmas.List.{length-set, length-take-le, get_or-set_same, get_or-set_other, get_or_append_left, get_or-take, drop-drop, drop-take}
+use Rattle.std.proofs.lemmas.List.{drop-append-le}
 use Rattle.std.proofs.Math.Seq.{drop-append-add}
 use Rattle.std.proofs.lemmas.Option.{same_Some}
 use Rattle.dp_model.specs.declared.env.PoolSpec.{PoolSpec}
@@ -11,7 +13,8 @@ use Rattle.dp_model.specs.Buffers.{Number, same_number, bytes_of, overwritten}
 use Rattle.dp_mbuf.specs.declared.header.Header.{Header}
 use Rattle.dp_mbuf.specs.Headers.{header_of, header_bytes, word, place}
 use Rattle.dp_pool.specs.Pools.{PoolView, IsPool, object_in, with_written, got, put_back}
-use Rattle.dp_mbuf.specs.Objects.{present, no_pool, pool_in, header_at, header_with, is_out, count_in, spec_of, specs_of, rooms_of, buffers_of, zones_of, HasObject, HasRooms, HeadersFirst, PoolsFirst, ArePools, HeaderSet, RoomWritten, Taken, Given}
+use Rattle.dp_mbuf.specs.Objects.{present, no_pool, pool_in, header_at, header_with, is_out, count_in, spec_of, specs_of, rooms_of, buffers_of, zones_of}
+use Rattle.dp_mbuf.specs.Objects.{HasObject, HasRooms, HeadersFirst, PoolsFirst, ArePools, HeaderSet, RoomWritten, Taken, Given}
 use Rattle.dp_mbuf.proofs.PoolLemmas.{one_if, with_out, count_set, some_below, get_some, Small, pool_out, pool_written, map_set, length_map}
 
 -- ---- numbers
@@ -46,7 +49,8 @@ other_index n m f e i =
 
 -- ---- reading a header back
 
-pub header_eq : (g h : Header) → g.segs ≡ h.segs → g.refs ≡ h.refs → g.offset ≡ h.offset → g.len ≡ h.len → g.next ≡ h.next → g.last ≡ h.last → g.buffer ≡ h.buffer → g ≡ h
+pub header_eq : (g h : Header) → g.segs ≡ h.segs → g.refs ≡ h.refs → g.offset ≡ h.offset → g.len ≡ h.len → g.next ≡ h.next → g.last ≡ h.last →
+    g.buffer ≡ h.buffer → g ≡ h
 header_eq g h a b c d e f i =
     let m : (s r o l : ℕ) (x y z : Number) → Header =
     λ s r o l x y z. record { segs = s; refs = r; offset = o; len = l; next = x; last = y; buffer = z } in
@@ -67,7 +71,8 @@ place_back n = number_eq _ n (word_back n.pool) (word_back n.index)
 pub header_back : (h : Header) (rest : List ℕ) → header_of (header_bytes h ++ rest) ≡ h
 unfolding header_of
 header_back h rest =
-    header_eq _ h (word_back h.segs) (omega (arith, word_back (h.refs % 65536), word_back (h.refs / 65536))) (word_back h.offset) (word_back h.len) (place_back h.next) (place_back h.last) (place_back h.buffer)
+    header_eq _ h (word_back h.segs) (omega (arith, word_back (h.refs % 65536), word_back (h.refs / 65536))) (word_back h.offset) (word_back h.len)
+    (place_back h.next) (place_back h.last) (place_back h.buffer)
 
 word_same : (xs ys : List ℕ) (a : ℕ) → ((k : ℕ) → k < 128 → get_or xs k 0 ≡ get_or ys k 0) → a + 1 < 128 → word xs a ≡ word ys a
 word_same xs ys a e h = omega (arith, e a (omega arith), e (a + 1) h)
@@ -79,7 +84,9 @@ place_same xs ys a e h = number_eq _ _ (word_same xs ys a e (omega arith)) (word
 pub header_same : (xs ys : List ℕ) → ((k : ℕ) → k < 128 → get_or xs k 0 ≡ get_or ys k 0) → header_of xs ≡ header_of ys
 unfolding header_of
 header_same xs ys e =
-    header_eq (header_of xs) (header_of ys) (word_same xs ys 0 e (omega arith)) (omega (arith, word_same xs ys 2 e (omega arith), word_same xs ys 4 e (omega arith))) (word_same xs ys 6 e (omega arith)) (word_same xs ys 8 e (omega arith)) (place_same xs ys 10 e (omega arith)) (place_same xs ys 14 e (omega arith)) (place_same xs ys 18 e (omega arith))
+    header_eq (header_of xs) (header_of ys) (word_same xs ys 0 e (omega arith))
+    (omega (arith, word_same xs ys 2 e (omega arith), word_same xs ys 4 e (omega arith))) (word_same xs ys 6 e (omega arith))
+    (word_same xs ys 8 e (omega arith)) (place_same xs ys 10 e (omega arith)) (place_same xs ys 14 e (omega arith)) (place_same xs ys 18 e (omega arith))
 
 -- ---- tables
 
@@ -100,20 +107,23 @@ present_below [] = omega arith
 present_below (None ∷ pools) = omega arith
 present_below (Some p ∷ pools) = let q = present_below pools in omega (arith, q)
 
-pub present_at : (pools : List (Option PoolView)) (k : ℕ) (d : Option PoolView) → k < length (present pools) → get_or pools k d ≡ Some (pool_in (present pools) k)
+pub present_at : (pools : List (Option PoolView)) (k : ℕ) (d : Option PoolView) → k < length (present pools) →
+    get_or pools k d ≡ Some (pool_in (present pools) k)
 present_at [] k d h = absurd (omega arith)
 present_at (None ∷ pools) k d h = absurd (omega arith)
 present_at (Some p ∷ pools) zero d h = refl
 present_at (Some p ∷ pools) (suc k) d h = present_at pools k d (omega arith)
 
-pub present_set : (pools : List (Option PoolView)) (k : ℕ) (p : PoolView) → k < length (present pools) → present (set pools k (Some p)) ≡ set (present pools) k p
+pub present_set : (pools : List (Option PoolView)) (k : ℕ) (p : PoolView) → k < length (present pools) → present (set pools k (Some p))
+    ≡ set (present pools) k p
 present_set [] k p h = absurd (omega arith)
 present_set (None ∷ pools) k p h = absurd (omega arith)
 present_set (Some q ∷ pools) zero p h = refl
 present_set (Some q ∷ pools) (suc k) p h = ap (λ ps. q ∷ ps) (present_set pools k p (omega arith))
 
 -- pools with room for a header are pools of mbufs
-pub places_first : (pools : List (Option PoolView)) → HeadersFirst pools → ((k : ℕ) (p : PoolView) → slice_get pools k ≡ Some (Some p) → IsPool p) → PoolsFirst pools
+pub places_first : (pools : List (Option PoolView)) → HeadersFirst pools → ((k : ℕ) (p : PoolView) → slice_get pools k ≡ Some (Some p) → IsPool p) →
+    PoolsFirst pools
 places_first [] first known = tt
 places_first (None ∷ pools) first known = first
 places_first (Some p ∷ pools) first known =
@@ -123,7 +133,8 @@ places_first (Some p ∷ pools) first known =
     )
 
 -- what is known of the pools before a place, and of the place's, is known up to there
-pub told_more : (pools : List (Option PoolView)) (i : ℕ) (o : Option PoolView) → o ≡ get_or pools i o → IfSome o IsPool → ((k : ℕ) (p : PoolView) → k < i → slice_get pools k ≡ Some (Some p) → IsPool p)
+pub told_more : (pools : List (Option PoolView)) (i : ℕ) (o : Option PoolView) → o ≡ get_or pools i o → IfSome o IsPool →
+    ((k : ℕ) (p : PoolView) → k < i → slice_get pools k ≡ Some (Some p) → IsPool p)
     → (k : ℕ) (p : PoolView) → k < i + 1 → slice_get pools k ≡ Some (Some p) → IsPool p
 told_more pools i o is known before k p low at = ⊎_elim
     (λ (e : k ≡ i). subst (λ x. IfSome x IsPool) (is ∙ get_some pools i (Some p) o (ap (slice_get pools) (sym e) ∙ at)) known)
@@ -136,7 +147,8 @@ first_at (None ∷ pools) k f h = absurd (omega arith)
 first_at (Some p ∷ pools) zero f h = f.0
 first_at (Some p ∷ pools) (suc k) f h = first_at pools k f.1 (omega arith)
 
-pub first_set : (pools : List (Option PoolView)) (k : ℕ) (p : PoolView) → PoolsFirst pools → k < length (present pools) → HasRooms p → PoolsFirst (set pools k (Some p))
+pub first_set : (pools : List (Option PoolView)) (k : ℕ) (p : PoolView) → PoolsFirst pools → k < length (present pools) → HasRooms p →
+    PoolsFirst (set pools k (Some p))
 first_set [] k p f h r = absurd (omega arith)
 first_set (None ∷ pools) k p f h r = absurd (omega arith)
 first_set (Some q ∷ pools) zero p f h r = (r, f.1)
@@ -212,7 +224,8 @@ bytes_are ps n =
 
 -- ---- an object written
 
-module _ (ps : List PoolView) (n : Number) (are : ArePools ps) (object : HasObject ps n) (at : ℕ) (bytes : List ℕ) (small : Small bytes) (fits : at + length bytes ≤ (pool_in ps n.pool).size) where
+module _ (ps : List PoolView) (n : Number) (are : ArePools ps) (object : HasObject ps n) (at : ℕ) (bytes : List ℕ) (small : Small bytes)
+    (fits : at + length bytes ≤ (pool_in ps n.pool).size) where
   abbrev p : PoolView
   p = pool_in ps n.pool
 
@@ -283,7 +296,9 @@ pub object_long : (ps : List PoolView) (n : Number) → ArePools ps → HasObjec
 object_long ps n are object =
     let r = are.rooms n.pool (object_pool ps n object) in omega (arith, r.pool.sizes n.index object, r.header)
 
-pub front_set : (ps : List PoolView) (n : Number) (at : ℕ) (bytes : List ℕ) → ArePools ps → HasObject ps n → Small bytes → at + length bytes ≤ 128 → at + length bytes ≤ (pool_in ps n.pool).size → HeaderSet ps n (header_with ps n at bytes) (set ps n.pool (with_written (pool_in ps n.pool) n.index at bytes))
+pub front_set : (ps : List PoolView) (n : Number) (at : ℕ) (bytes : List ℕ) → ArePools ps → HasObject ps n → Small bytes → at + length bytes ≤ 128 →
+    at + length bytes ≤ (pool_in ps n.pool).size → HeaderSet ps n (header_with ps n at bytes)
+    (set ps n.pool (with_written (pool_in ps n.pool) n.index at bytes))
 front_set ps n at bytes are object small front fits =
     let p : PoolView = pool_in ps n.pool in
     let old : List ℕ = object_in p n.index in
@@ -302,13 +317,15 @@ front_set ps n at bytes are object small front fits =
 
 -- ---- a room written
 
-head_kept : (old : List ℕ) (at : ℕ) (new : List ℕ) (k : ℕ) → 128 + at + length new ≤ length old → k < 128 → get_or (overwritten old (128 + at) new) k 0 ≡ get_or old k 0
+head_kept : (old : List ℕ) (at : ℕ) (new : List ℕ) (k : ℕ) → 128 + at + length new ≤ length old → k < 128 → get_or (overwritten old (128 + at) new) k 0
+    ≡ get_or old k 0
 head_kept old at new k h b =
     let l : length (take (128 + at) old) ≡ 128 + at = length-take-le (128 + at) old (omega arith) in
     get_or_append_left (take (128 + at) old) (new ++ drop (128 + at + length new) old) 0 k (omega (arith, l, b))
     ∙ get_or-take (128 + at) old k 0 (omega arith)
 
-rest_written : (old : List ℕ) (at : ℕ) (new : List ℕ) → 128 + at + length new ≤ length old → drop 128 (overwritten old (128 + at) new) ≡ overwritten (drop 128 old) at new
+rest_written : (old : List ℕ) (at : ℕ) (new : List ℕ) → 128 + at + length new ≤ length old → drop 128 (overwritten old (128 + at) new)
+    ≡ overwritten (drop 128 old) at new
 rest_written old at new h =
     let l : length (take (128 + at) old) ≡ 128 + at = length-take-le (128 + at) old (omega arith) in
     let s : 128 + (at + length new) ≡ 128 + at + length new = omega arith in
@@ -316,7 +333,8 @@ rest_written old at new h =
     ∙ (ap (λ x. x ++ (new ++ drop (128 + at + length new) old)) (drop-take 128 at old)
     ∙ ap (λ y. take at (drop 128 old) ++ (new ++ y)) (sym (drop-drop (at + length new) 128 old ∙ ap (λ i. drop i old) s)))
 
-pub room_written : (ps : List PoolView) (n : Number) (at : ℕ) (bytes : List ℕ) → ArePools ps → HasObject ps n → Small bytes → 128 + at + length bytes ≤ (pool_in ps n.pool).size → RoomWritten ps n at bytes (set ps n.pool (with_written (pool_in ps n.pool) n.index (128 + at) bytes))
+pub room_written : (ps : List PoolView) (n : Number) (at : ℕ) (bytes : List ℕ) → ArePools ps → HasObject ps n → Small bytes →
+    128 + at + length bytes ≤ (pool_in ps n.pool).size → RoomWritten ps n at bytes (set ps n.pool (with_written (pool_in ps n.pool) n.index (128 + at) bytes))
 room_written ps n at bytes are object small fits =
     let p : PoolView = pool_in ps n.pool in
     let old : List ℕ = object_in p n.index in
@@ -332,7 +350,8 @@ room_written ps n at bytes are object small fits =
           ∙ (ap (λ r. set (buffers_of ps) n.pool r) (map_set (drop 128) p.objects n.index (overwritten old (128 + at) bytes))
           ∙ (ap (λ o. set (buffers_of ps) n.pool (set (rooms_of p) n.index o)) (rest_written old at bytes fit)
           ∙ (ap (λ o. set (buffers_of ps) n.pool (set (rooms_of p) n.index (overwritten o at bytes))) (sym (bytes_are ps n))
-          ∙ ap (λ r. set (buffers_of ps) n.pool (set r n.index (overwritten (bytes_of (buffers_of ps) n) at bytes))) (sym (map_get rooms_of ps n.pool no_pool)))));
+          ∙ ap (λ r. set (buffers_of ps) n.pool (set r n.index (overwritten (bytes_of (buffers_of ps) n) at bytes)))
+          (sym (map_get rooms_of ps n.pool no_pool)))));
       outs = outs_written ps n are object (128 + at) bytes small fits;
       ins = ins_written ps n are object (128 + at) bytes small fits;
       headers = λ m. ⊎_elim
@@ -350,7 +369,8 @@ out_at [] i b h = cc
 out_at (x ∷ row) zero b h = same_Some x b h
 out_at (x ∷ row) (suc i) b h = out_at row i b h
 
-module _ (ps : List PoolView) (n : Number) (are : ArePools ps) (there : n.pool < length ps) (b : Bool) (was : Bool) (is : slice_get (pool_in ps n.pool).out n.index ≡ Some was) (cached : ℕ) where
+module _ (ps : List PoolView) (n : Number) (are : ArePools ps) (there : n.pool < length ps) (b : Bool) (was : Bool)
+    (is : slice_get (pool_in ps n.pool).out n.index ≡ Some was) (cached : ℕ) where
   abbrev q : PoolView
   q = pool_in ps n.pool
 
@@ -389,7 +409,8 @@ module _ (ps : List PoolView) (n : Number) (are : ArePools ps) (there : n.pool <
       let e = ap (λ x. count_by not x.out) (here ps n.pool there (with_out q n.index b cached)) in
       omega (arith, e, count_set q.out n.index was b is)
 
-pub taken : (ps : List PoolView) (n : Number) → ArePools ps → n.pool < length ps → slice_get (pool_in ps n.pool).out n.index ≡ Some false → Taken ps n (set ps n.pool (got (pool_in ps n.pool) n.index))
+pub taken : (ps : List PoolView) (n : Number) → ArePools ps → n.pool < length ps → slice_get (pool_in ps n.pool).out n.index ≡ Some false →
+    Taken ps n (set ps n.pool (got (pool_in ps n.pool) n.index))
 taken ps n are there is = record {
   are = are_moved ps n are there true false is (got (pool_in ps n.pool) n.index).cached;
   specs = specs_kept ps n.pool there (got (pool_in ps n.pool) n.index) refl;
@@ -403,7 +424,8 @@ taken ps n are there is = record {
   ins = omega (arith, counted_moved ps n are there true false is (got (pool_in ps n.pool) n.index).cached);
 }
 
-pub given : (ps : List PoolView) (n : Number) → ArePools ps → n.pool < length ps → slice_get (pool_in ps n.pool).out n.index ≡ Some true → Given ps n (set ps n.pool (put_back (pool_in ps n.pool) n.index))
+pub given : (ps : List PoolView) (n : Number) → ArePools ps → n.pool < length ps → slice_get (pool_in ps n.pool).out n.index ≡ Some true →
+    Given ps n (set ps n.pool (put_back (pool_in ps n.pool) n.index))
 given ps n are there is = record {
   are = are_moved ps n are there false true is (put_back (pool_in ps n.pool) n.index).cached;
   specs = specs_kept ps n.pool there (put_back (pool_in ps n.pool) n.index) refl;
@@ -416,7 +438,8 @@ given ps n are there is = record {
 
 -- ---- places for pools
 
-pub slot_is : (pools : List (Option PoolView)) (ps : List PoolView) (k : ℕ) (d : Option PoolView) → present pools ≡ ps → k < length ps → get_or pools k d ≡ Some (pool_in ps k)
+pub slot_is : (pools : List (Option PoolView)) (ps : List PoolView) (k : ℕ) (d : Option PoolView) → present pools ≡ ps → k < length ps →
+    get_or pools k d ≡ Some (pool_in ps k)
 slot_is pools ps k d e h =
     subst (λ q. get_or pools k d ≡ Some (pool_in q k)) e (present_at pools k d (subst (λ q. k < length q) (sym e) h))
 
@@ -424,11 +447,13 @@ pub slot_below : (pools : List (Option PoolView)) (ps : List PoolView) (k : ℕ)
 slot_below pools ps k e h =
     let b : k < length (present pools) = subst (λ q. k < length q) (sym e) h in omega (arith, b, present_below pools)
 
-pub slot_set : (pools : List (Option PoolView)) (ps : List PoolView) (k : ℕ) (o : Option PoolView) (p : PoolView) → present pools ≡ ps → k < length ps → o ≡ Some p → present (set pools k o) ≡ set ps k p
+pub slot_set : (pools : List (Option PoolView)) (ps : List PoolView) (k : ℕ) (o : Option PoolView) (p : PoolView) → present pools ≡ ps → k < length ps →
+    o ≡ Some p → present (set pools k o) ≡ set ps k p
 slot_set pools ps k o p e h eo =
     ap (λ x. present (set pools k x)) eo
     ∙ (present_set pools k p (subst (λ q. k < length q) (sym e) h) ∙ ap (λ q. set q k p) e)
 
-pub slot_first : (pools : List (Option PoolView)) (ps : List PoolView) (k : ℕ) (o : Option PoolView) (p : PoolView) → present pools ≡ ps → k < length ps → o ≡ Some p → PoolsFirst pools → HasRooms p → PoolsFirst (set pools k o)
+pub slot_first : (pools : List (Option PoolView)) (ps : List PoolView) (k : ℕ) (o : Option PoolView) (p : PoolView) → present pools ≡ ps → k < length ps →
+    o ≡ Some p → PoolsFirst pools → HasRooms p → PoolsFirst (set pools k o)
 slot_first pools ps k o p e h eo first rooms =
     subst (λ x. PoolsFirst (set pools k x)) (sym eo) (first_set pools k p first (subst (λ q. k < length q) (sym e) h) rooms)

@@ -37,7 +37,9 @@ distinct (s ∷ ss) once = (
 )
 
 -- each of some segments, with its counts among all
-each_of : (P : Segment → Type 0) (all ss : List Segment) → ((s : Segment) → ((n : Number) → one_if (same_number s.buffer n) ≤ refs all n) → ((n : Number) → one_if (same_number s.mbuf n && not (same_number s.buffer n)) ≤ indirects all n) → P s) → ((n : Number) → refs ss n ≤ refs all n) → ((n : Number) → indirects ss n ≤ indirects all n) → AllByRecursion P ss
+each_of : (P : Segment → Type 0) (all ss : List Segment) → ((s : Segment) → ((n : Number) → one_if (same_number s.buffer n) ≤ refs all n) →
+    ((n : Number) → one_if (same_number s.mbuf n && not (same_number s.buffer n)) ≤ indirects all n) → P s) → ((n : Number) → refs ss n ≤ refs all n) →
+    ((n : Number) → indirects ss n ≤ indirects all n) → AllByRecursion P ss
 each_of P all [] f r i = tt
 each_of P all (s ∷ ss) f r i = (
   f s (λ n. let q = r n in omega (arith, q, refs-cons s ss n)) (λ n. let q = i n in omega (arith, q, indirects-cons s ss n)),
@@ -47,7 +49,8 @@ each_of P all (s ∷ ss) f r i = (
 one_true : (b : Bool) → b ≡ true → one_if b ≡ 1
 one_true b e = let one : ℕ = 1 in ap (λ x. cond x one 0) e
 
-directs : (ss : List Segment) → ((n : Number) → 1 ≤ indirects ss n → refs ss n ≡ 0) → AllByRecursion (λ s. AllByRecursion (λ t. s.buffer ≡ t.mbuf → t.buffer ≡ t.mbuf) ss) ss
+directs : (ss : List Segment) → ((n : Number) → 1 ≤ indirects ss n → refs ss n ≡ 0) →
+    AllByRecursion (λ s. AllByRecursion (λ t. s.buffer ≡ t.mbuf → t.buffer ≡ t.mbuf) ss) ss
 directs ss direct =
     each_of (λ s. AllByRecursion (λ t. s.buffer ≡ t.mbuf → t.buffer ≡ t.mbuf) ss) ss ss
     (λ s rs _. each_of (λ t. s.buffer ≡ t.mbuf → t.buffer ≡ t.mbuf) ss ss
@@ -55,7 +58,8 @@ directs ss direct =
     (λ own. own)
     (λ d. absurd (let some = it t.mbuf in
     let is : one_if (same_number t.mbuf t.mbuf && not (same_number t.buffer t.mbuf)) ≡ 1 =
-    one_true (same_number t.mbuf t.mbuf && not (same_number t.buffer t.mbuf)) (ap (λ b. b && not (same_number t.buffer t.mbuf)) (same_self t.mbuf) ∙ ap not d) in
+    one_true (same_number t.mbuf t.mbuf && not (same_number t.buffer t.mbuf)) (ap (λ b. b && not (same_number t.buffer t.mbuf)) (same_self t.mbuf)
+    ∙ ap not d) in
     let none = direct t.mbuf (omega (arith, some, is)) in
     let has = rs t.mbuf in
     let at : one_if (same_number s.buffer t.mbuf) ≡ 1 = one_true (same_number s.buffer t.mbuf) (ap (λ m. same_number m t.mbuf) e ∙ same_self t.mbuf) in
@@ -116,7 +120,8 @@ rows_more f g k [] h = omega arith
 rows_more f g k (s ∷ specs) h =
     let q = rows_more f g (suc k) specs h in omega (arith, q, row_more f g k s.count h)
 
-row_one : (f g : Number → ℕ) (k i j : ℕ) → j < i → ((n : Number) → f n ≤ g n) → f (record { pool = k; index = j }) + 1 ≤ g (record { pool = k; index = j }) → row f k i + 1 ≤ row g k i
+row_one : (f g : Number → ℕ) (k i j : ℕ) → j < i → ((n : Number) → f n ≤ g n) → f (record { pool = k; index = j }) + 1 ≤ g (record { pool = k; index = j }) →
+    row f k i + 1 ≤ row g k i
 unfolding row
 row_one f g k zero j b h o = absurd (omega arith)
 row_one f g k (suc i) j b h o = ⊎_elim
@@ -126,16 +131,19 @@ row_one f g k (suc i) j b h o = ⊎_elim
     (λ ne. let q = row_one f g k i j (omega (arith, b, ne)) h o in let c = h (record { pool = k; index = i }) in omega (arith, q, c))
     (cases_eq j i)
 
-rows_one : (f g : Number → ℕ) (k p j : ℕ) (specs : List PoolSpec) → j < count_at specs p → ((n : Number) → f n ≤ g n) → f (record { pool = k + p; index = j }) + 1 ≤ g (record { pool = k + p; index = j }) → rows f k specs + 1 ≤ rows g k specs
+rows_one : (f g : Number → ℕ) (k p j : ℕ) (specs : List PoolSpec) → j < count_at specs p → ((n : Number) → f n ≤ g n) →
+    f (record { pool = k + p; index = j }) + 1 ≤ g (record { pool = k + p; index = j }) → rows f k specs + 1 ≤ rows g k specs
 unfolding rows
 rows_one f g k p j [] b h o = absurd (omega arith)
 rows_one f g k zero j (s ∷ specs) b h o =
     let e : k + 0 ≡ k = omega arith in
-    let o' : f (record { pool = k; index = j }) + 1 ≤ g (record { pool = k; index = j }) = subst (λ x. f (record { pool = x; index = j }) + 1 ≤ g (record { pool = x; index = j })) e o in
+    let o' : f (record { pool = k; index = j }) + 1 ≤ g (record { pool = k; index = j }) =
+    subst (λ x. f (record { pool = x; index = j }) + 1 ≤ g (record { pool = x; index = j })) e o in
     omega (arith, row_one f g k s.count j b h o', rows_more f g (suc k) specs h)
 rows_one f g k (suc p) j (s ∷ specs) b h o =
     let e : k + suc p ≡ suc k + p = omega arith in
-    let o' : f (record { pool = suc k + p; index = j }) + 1 ≤ g (record { pool = suc k + p; index = j }) = subst (λ x. f (record { pool = x; index = j }) + 1 ≤ g (record { pool = x; index = j })) e o in
+    let o' : f (record { pool = suc k + p; index = j }) + 1 ≤ g (record { pool = suc k + p; index = j }) =
+    subst (λ x. f (record { pool = x; index = j }) + 1 ≤ g (record { pool = x; index = j })) e o in
     omega (arith, rows_one f g (suc k) p j specs b h o', row_more f g k s.count h)
 
 nothing_rows : (k : ℕ) (specs : List PoolSpec) → 0 ≤ rows (mbufs []) k specs
@@ -155,7 +163,12 @@ all_counted specs (s ∷ ss) a =
 pub few_refs : (ps : List PoolView) (v : Store) → shown ps ≡ v → Sound ps → (b : Number) → refs (segments_of v) b ≤ mbufs_in_all v.pools
 few_refs ps v e sound b =
     subst (λ s. refs (segments_of s) b ≤ mbufs_in_all s.pools) e
-    (omega (arith, refs_le (segments_held (slots_of ps)) b, all_counted (specs_of ps) (segments_held (slots_of ps)) sound.counted.numbers, rows_few (mbufs (segments_held (slots_of ps))) 0 (specs_of ps) sound.counted.once))
+    (omega (
+      arith,
+      refs_le (segments_held (slots_of ps)) b,
+      all_counted (specs_of ps) (segments_held (slots_of ps)) sound.counted.numbers,
+      rows_few (mbufs (segments_held (slots_of ps))) 0 (specs_of ps) sound.counted.once,
+    ))
 
 -- ---- so many mbufs
 

@@ -1,5 +1,6 @@
 -- Pools stay pools, and what is read of them after a write.
-use Rattle.std.proofs.Common.{◌≡◌, ℕ, zero, suc, ◌+◌, ◌<◌, ◌≤◌, Bool, cond, List, [], ◌∷◌, ◌++◌, length, take, drop, Some, refl, sym, ◌∙◌, ap, subst, arith, ⊎_elim, get_or, set, map}
+use Rattle.std.proofs.Common.{◌≡◌, ℕ, zero, suc, ◌+◌, ◌<◌, ◌≤◌, Bool, cond, List, [], ◌∷◌, ◌++◌, length, take, drop, Some, refl, sym, ◌∙◌, ap, subst, arith}
+use Rattle.std.proofs.Common.{⊎_elim, get_or, set, map}
 use Rattle.std.specs.Prelude.{count_by, not, slice_get, replicate}
 use Rattle.std.proofs.lemmas.Bool.{cases_eq}
 use Rattle.std.proofs.lemmas.List.{length-set, length-append, length-take-le, length-drop, get_or-set_same, get_or-set_other}
@@ -13,7 +14,8 @@ one_if b = cond b 1 0
 
 -- ---- how many are in
 
-pub count_set : (row : List Bool) (i : ℕ) (a b : Bool) → slice_get row i ≡ Some a → count_by not (set row i b) + one_if (not a) ≡ count_by not row + one_if (not b)
+pub count_set : (row : List Bool) (i : ℕ) (a b : Bool) → slice_get row i ≡ Some a → count_by not (set row i b) + one_if (not a)
+    ≡ count_by not row + one_if (not b)
 count_set [] i a b h = cc
 count_set (x ∷ row) zero a b h =
     let e : one_if (not x) ≡ one_if (not a) = ap (λ v. one_if (not v)) (same_Some x a h) in
@@ -64,7 +66,13 @@ small_overwritten old at new ho hn =
 
 pub length_overwritten : (old : List ℕ) (at : ℕ) (new : List ℕ) → at + length new ≤ length old → length (overwritten old at new) ≡ length old
 length_overwritten old at new h =
-    omega (arith, length-append (take at old) (new ++ drop (at + length new) old), length-append new (drop (at + length new) old), length-take-le at old (omega arith), length-drop (at + length new) old)
+    omega (
+      arith,
+      length-append (take at old) (new ++ drop (at + length new) old),
+      length-append new (drop (at + length new) old),
+      length-take-le at old (omega arith),
+      length-drop (at + length new) old,
+    )
 
 -- ---- pools stay pools
 
@@ -83,7 +91,8 @@ pool_out p i b cached h = record {
   cache = h.cache;
 }
 
-pub pool_written : (p : PoolView) (i at : ℕ) (new : List ℕ) → IsPool p → i < length p.objects → at + length new ≤ p.size → Small new → IsPool (with_written p i at new)
+pub pool_written : (p : PoolView) (i at : ℕ) (new : List ℕ) → IsPool p → i < length p.objects → at + length new ≤ p.size → Small new →
+    IsPool (with_written p i at new)
 pool_written p i at new h there fits small =
     let now : List ℕ = overwritten (object_in p i) at new in
     let size : length (object_in p i) ≡ p.size = h.sizes i there in

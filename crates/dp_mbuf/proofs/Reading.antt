@@ -19,13 +19,15 @@ use Rattle.dp_mbuf.proofs.Cloning.{source_at, drop_some, all_drop}
 
 -- ---- along the links
 
-pub walk_object : (ps : List PoolView) (first place : Number) (k i : ℕ) (w : HasWalk ps first k) → Linked (header_at ps) place (drop i w.0) → i < k → HasObject ps place
+pub walk_object : (ps : List PoolView) (first place : Number) (k i : ℕ) (w : HasWalk ps first k) → Linked (header_at ps) place (drop i w.0) → i < k →
+    HasObject ps place
 walk_object ps first place k i w l b =
     let d = drop_some i w.0 (let q = w.3 in omega (arith, b, q)) in
     let n = subst (AllByRecursion (λ s. IsNumber (specs_of ps) s.mbuf)) d.2 (all_drop (λ s. IsNumber (specs_of ps) s.mbuf) i w.0 w.2) in
     subst (HasObject ps) (first_mbuf (header_at ps) place d.0 d.1 (subst (Linked (header_at ps) place) d.2 l)) (object_of ps d.0.mbuf n.0)
 
-pub walk_next : (h : Number → Header) (place : Number) (i : ℕ) (p : Packet) → i < length p → Linked h place (drop i p) → Linked h (h place).next (drop (i + 1) p)
+pub walk_next : (h : Number → Header) (place : Number) (i : ℕ) (p : Packet) → i < length p → Linked h place (drop i p) →
+    Linked h (h place).next (drop (i + 1) p)
 walk_next h place i p b l =
     let d = drop_some i p b in
     subst (Linked h (h place).next) (sym d.3) (subst (Linked h place) d.2 l).1
@@ -83,12 +85,15 @@ module _ (ps : List PoolView) (v : Store) (h : ℕ) (e : shown ps ≡ v) (sound 
 
   -- ---- whether it is sole
 
-  pub sole_more : (p : Packet) (n : Number) (i : ℕ) → Has v h p → i < length p → Linked (header_at ps) n (drop i p) → (header_at ps (header_at ps n).buffer).refs ≡ 1 → (IsSole (segments_of v) (drop i p) → IsSole (segments_of v) p) → IsSole (segments_of v) (drop (i + 1) p) → IsSole (segments_of v) p
+  pub sole_more : (p : Packet) (n : Number) (i : ℕ) → Has v h p → i < length p → Linked (header_at ps) n (drop i p) →
+      (header_at ps (header_at ps n).buffer).refs ≡ 1 → (IsSole (segments_of v) (drop i p) → IsSole (segments_of v) p) →
+      IsSole (segments_of v) (drop (i + 1) p) → IsSole (segments_of v) p
   sole_more p n i has b l one so rest =
       let q = part p n i has b l in
       so (subst (IsSole (segments_of v)) (sym q.is) (sym q.refs ∙ one, subst (IsSole (segments_of v)) q.next rest))
 
-  pub sole_not : (p : Packet) (n : Number) (i : ℕ) → Has v h p → i < length p → Linked (header_at ps) n (drop i p) → ((header_at ps (header_at ps n).buffer).refs ≡ 1 → ⊥) → IsSole (segments_of v) p → ⊥
+  pub sole_not : (p : Packet) (n : Number) (i : ℕ) → Has v h p → i < length p → Linked (header_at ps) n (drop i p) →
+      ((header_at ps (header_at ps n).buffer).refs ≡ 1 → ⊥) → IsSole (segments_of v) p → ⊥
   sole_not p n i has b l other sole =
       let q = part p n i has b l in
       other (q.refs ∙ (subst (IsSole (segments_of v)) q.is (all_drop (λ s. refs (segments_of v) s.buffer ≡ 1) i p sole)).0)
@@ -113,7 +118,8 @@ module _ (ps : List PoolView) (v : Store) (h : ℕ) (e : shown ps ≡ v) (sound 
       let t = length-take-le (s.offset + s.len - s.offset) (drop s.offset (bytes_of (buffers_of ps) s.buffer)) (omega (arith, d, l, f)) in
       ap (λ x. length (segment_bytes x.buffers s)) (sym e) ∙ (t ∙ omega arith)
 
-  pub length_more : (p : Packet) (n : Number) (i total : ℕ) → Has v h p → i < length p → Linked (header_at ps) n (drop i p) → total + bytes_left (drop i p) ≡ bytes_left p → total + (header_at ps n).len + bytes_left (drop (i + 1) p) ≡ bytes_left p
+  pub length_more : (p : Packet) (n : Number) (i total : ℕ) → Has v h p → i < length p → Linked (header_at ps) n (drop i p) → total + bytes_left (drop i p)
+      ≡ bytes_left p → total + (header_at ps n).len + bytes_left (drop (i + 1) p) ≡ bytes_left p
   length_more p n i total has b l so =
       let q = part p n i has b l in
       let a : bytes_left (drop i p) ≡ bytes_left (q.seg ∷ q.rest) = ap bytes_left q.is in

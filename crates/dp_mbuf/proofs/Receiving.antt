@@ -1,5 +1,6 @@
 -- A record received, segment by segment.
-use Rattle.std.proofs.Common.{◌≡◌, ℕ, zero, suc, ◌+◌, ◌-◌, ◌/◌, ◌<◌, ◌≤◌, Bool, true, false, List, [], ◌∷◌, ◌++◌, length, take, drop, Option, Some, None, refl, sym, ◌∙◌, ap, subst, arith, ⊎_elim, set}
+use Rattle.std.proofs.Common.{◌≡◌, ℕ, zero, suc, ◌+◌, ◌-◌, ◌/◌, ◌<◌, ◌≤◌, Bool, true, false, List, [], ◌∷◌, ◌++◌, length, take, drop, Option, Some, None}
+use Rattle.std.proofs.Common.{refl, sym, ◌∙◌, ap, subst, arith, ⊎_elim, set}
 use Rattle.std.specs.Prelude.{slice_set, min, max, ◌||◌}
 use Rattle.std.specs.List.{AllByRecursion, list_any}
 use Rattle.std.proofs.lemmas.Bool.{cases_lt}
@@ -26,7 +27,8 @@ use Rattle.dp_mbuf.proofs.Chaining.{joined, last_of_links}
 use Rattle.dp_mbuf.proofs.Live.{rooms_small, settled, store_eq, last_mbuf_is}
 use Rattle.dp_mbuf.proofs.Allocs.{get_there, free_in}
 use Rattle.dp_mbuf.proofs.Cloning.{reordered, without}
-use Rattle.dp_mbuf.proofs.Filling.{filled, left, left_more, filled_push, length_filled, Enough, needed_enough, left_end, received_is, bytes_stay, bytes_new, packet_append}
+use Rattle.dp_mbuf.proofs.Filling.{filled, left, left_more, filled_push, length_filled, Enough, needed_enough, left_end, received_is, bytes_stay, bytes_new}
+use Rattle.dp_mbuf.proofs.Filling.{packet_append}
 
 -- ---- one segment filled
 
@@ -41,7 +43,8 @@ pub record GrownFill (ps ps' : List PoolView) (hand : Packet) (slots : List (Opt
   pub number : IsNumber (specs_of ps) n
   pub free : is_free (segments_held slots) n ≡ true
 
-pub grown_fill : (ps ps' : List PoolView) (hand : Packet) (slots : List (Option Packet)) (n : Number) (chunk : List ℕ) → Whole ps hand slots → FilledBy ps n chunk ps' → 128 + length chunk ≤ room_at (specs_of ps) n.pool → GrownFill ps ps' hand slots n chunk
+pub grown_fill : (ps ps' : List PoolView) (hand : Packet) (slots : List (Option Packet)) (n : Number) (chunk : List ℕ) → Whole ps hand slots →
+    FilledBy ps n chunk ps' → 128 + length chunk ≤ room_at (specs_of ps) n.pool → GrownFill ps ps' hand slots n chunk
 grown_fill ps ps' hand slots n chunk w f fits =
     let t = f.taken in
     let number = number_of ps n t.object in
@@ -63,7 +66,8 @@ grown_fill ps ps' hand slots n chunk w f fits =
 
 -- ---- buffers of pools
 
-pub buffer_long : (ps : List PoolView) (n : Number) → ArePools ps → IsNumber (specs_of ps) n → length (bytes_of (buffers_of ps) n) ≡ room_at (specs_of ps) n.pool
+pub buffer_long : (ps : List PoolView) (n : Number) → ArePools ps → IsNumber (specs_of ps) n → length (bytes_of (buffers_of ps) n)
+    ≡ room_at (specs_of ps) n.pool
 buffer_long ps n are number =
     let object = object_of ps n number in
     let r = are.rooms n.pool (object_pool ps n object) in
@@ -89,7 +93,8 @@ or_parts : (a b : Bool) → (a || b) ≡ false → (a ≡ false) × (b ≡ false
 or_parts true b e = absurd (cc)
 or_parts false b e = (refl, e)
 
-any_push : (b : Number) (numbers : List Number) (n : Number) → list_any (same_number b) (numbers ++ n ∷ []) ≡ false → (list_any (same_number b) numbers ≡ false) × (same_number b n ≡ false)
+any_push : (b : Number) (numbers : List Number) (n : Number) → list_any (same_number b) (numbers ++ n ∷ []) ≡ false →
+    (list_any (same_number b) numbers ≡ false) × (same_number b n ≡ false)
 any_push b [] n e = (refl, (or_parts (same_number b n) _ e).0)
 any_push b (m ∷ numbers) n e =
     let h = or_parts (same_number b m) _ e in
@@ -103,7 +108,10 @@ turned a b f = ⊎_elim
     (same_or b a)
 
 -- the bytes with one more segment behind
-spelled_more : (buffers buffers' : Buffers) (made : Packet) (n : Number) (full : ℕ) (rest bytes : List ℕ) → buffers' ≡ written buffers n 128 (take full rest) → refs made n ≡ 0 → 0 < length (bytes_of buffers n) → 128 + length (take full rest) ≤ length (bytes_of buffers n) → packet_bytes buffers made ++ rest ≡ bytes → packet_bytes buffers' (made ++ direct n 128 (length (take full rest)) ∷ []) ++ drop full rest ≡ bytes
+spelled_more : (buffers buffers' : Buffers) (made : Packet) (n : Number) (full : ℕ) (rest bytes : List ℕ) →
+    buffers' ≡ written buffers n 128 (take full rest) → refs made n ≡ 0 → 0 < length (bytes_of buffers n) →
+    128 + length (take full rest) ≤ length (bytes_of buffers n) → packet_bytes buffers made ++ rest ≡ bytes →
+    packet_bytes buffers' (made ++ direct n 128 (length (take full rest)) ∷ []) ++ drop full rest ≡ bytes
 spelled_more buffers buffers' made n full rest bytes eb none some fits so =
     let chunk : List ℕ = take full rest in
     let s : Segment = direct n 128 (length chunk) in
@@ -120,7 +128,9 @@ module _ (v : Store) (pool full : ℕ) (bytes : List ℕ) (room : 128 + full ≡
   abbrev total : ℕ
   total = length bytes
 
-  pub receiving_start : (ps ps' : List PoolView) (n : Number) (rest : List ℕ) → Whole ps [] v.slots → pool < length ps → n.pool ≡ pool → specs_of ps ≡ v.pools → buffers_of ps ≡ v.buffers → count_in ps pool ≡ available v.pools (segments_of v) pool → FilledBy ps n (take full bytes) ps' → rest ≡ drop full bytes → Receiving ps' v pool full bytes n n rest 1
+  pub receiving_start : (ps ps' : List PoolView) (n : Number) (rest : List ℕ) → Whole ps [] v.slots → pool < length ps → n.pool ≡ pool →
+      specs_of ps ≡ v.pools → buffers_of ps ≡ v.buffers → count_in ps pool ≡ available v.pools (segments_of v) pool → FilledBy ps n (take full bytes) ps' →
+      rest ≡ drop full bytes → Receiving ps' v pool full bytes n n rest 1
   receiving_start ps ps' n rest w there ep es eb ea f er =
       let l = length-take full bytes in
       let room' : 128 + full ≡ room_at (specs_of ps) n.pool = room ∙ (ap (λ k. room_at v.pools k) (sym ep) ∙ ap (λ s. room_at s n.pool) (sym es)) in
@@ -140,7 +150,8 @@ module _ (v : Store) (pool full : ℕ) (bytes : List ℕ) (room : 128 + full ≡
         there = let a = ap length g.specs in omega (arith, there, a, length_specs ps, length_specs ps');
         spells = ap (λ k. packet_bytes (buffers_of ps') k ++ rest) is
             ∙ (ap (λ r. packet_bytes (buffers_of ps') (direct n 128 (length (take full bytes)) ∷ []) ++ r) er
-            ∙ spelled_more (buffers_of ps) (buffers_of ps') [] n full bytes bytes g.buffers refl (omega (arith, long, room')) (omega (arith, long, room', l)) refl);
+            ∙ spelled_more (buffers_of ps) (buffers_of ps') [] n full bytes bytes g.buffers refl (omega (arith, long, room')) (omega (arith, long, room', l))
+            refl);
         rest_long = let d = length-drop full bytes in ap length er ∙ d;
         others = λ b e. let d = any_push b [] n e in
             ap (λ x. bytes_of x b) g.buffers
@@ -158,13 +169,15 @@ module _ (v : Store) (pool full : ℕ) (bytes : List ℕ) (room : 128 + full ≡
     room_here n ep =
         room ∙ (ap (λ k. room_at v.pools k) (sym ep) ∙ ap (λ s. room_at s n.pool) (sym c.specs))
 
-    fill_at : (ps1 : List PoolView) (n : Number) → n.pool ≡ pool → FilledBy ps n (take full rest) ps1 → GrownFill ps ps1 (filled full c.numbers total) v.slots n (take full rest)
+    fill_at : (ps1 : List PoolView) (n : Number) → n.pool ≡ pool → FilledBy ps n (take full rest) ps1 →
+        GrownFill ps ps1 (filled full c.numbers total) v.slots n (take full rest)
     fill_at ps1 n ep f =
         let l = length-take full rest in
         let r = room_here n ep in
         grown_fill ps ps1 made v.slots n (take full rest) c.whole f (omega (arith, l, r))
 
-    pub fill_can : (need : ℕ) → i < need → need ≤ available v.pools (segments_of v) pool → (pool < length ps) × (1 ≤ count_in ps pool) × (128 + full ≤ room_at (specs_of ps) pool) × ArePools ps
+    pub fill_can : (need : ℕ) → i < need → need ≤ available v.pools (segments_of v) pool →
+        (pool < length ps) × (1 ≤ count_in ps pool) × (128 + full ≤ room_at (specs_of ps) pool) × ArePools ps
     fill_can need b enough =
         let n = c.ins in
         let r : 128 + full ≡ room_at (specs_of ps) pool = room ∙ ap (λ s. room_at s pool) (sym c.specs) in
@@ -176,9 +189,12 @@ module _ (v : Store) (pool full : ℕ) (bytes : List ℕ) (room : 128 + full ≡
         let some = c.some in
         let in_made = last_of_links (header_at ps) first made (omega (arith, many, some)) c.links in
         subst (HasObject ps1) (sym c.last_is)
-        (object_of ps1 (last_mbuf first made) (all_at (IsNumber (specs_of ps1)) (made ++ segments_held v.slots) (last_mbuf first made) g.whole.counted.numbers.1 (omega (arith, in_made, mbufs-append made (segments_held v.slots) (last_mbuf first made)))))
+        (object_of ps1 (last_mbuf first made) (all_at (IsNumber (specs_of ps1)) (made
+        ++ segments_held v.slots) (last_mbuf first made) g.whole.counted.numbers.1
+        (omega (arith, in_made, mbufs-append made (segments_held v.slots) (last_mbuf first made)))))
 
-    pub fill_done : (ps1 ps2 : List PoolView) (n : Number) (rest' : List ℕ) → n.pool ≡ pool → FilledBy ps n (take full rest) ps1 → HeaderSet ps1 last (record (header_at ps1 last) { next = n }) ps2 → rest' ≡ drop full rest → Receiving ps2 v pool full bytes first n rest' (i + 1)
+    pub fill_done : (ps1 ps2 : List PoolView) (n : Number) (rest' : List ℕ) → n.pool ≡ pool → FilledBy ps n (take full rest) ps1 →
+        HeaderSet ps1 last (record (header_at ps1 last) { next = n }) ps2 → rest' ≡ drop full rest → Receiving ps2 v pool full bytes first n rest' (i + 1)
     fill_done ps1 ps2 n rest' ep f done er =
         let g = fill_at ps1 n ep f in
         let no = g.nothing in
@@ -193,9 +209,13 @@ module _ (v : Store) (pool full : ℕ) (bytes : List ℕ) (room : 128 + full ≡
         filled_push full c.numbers total n ∙ ap (λ x. made ++ direct n 128 x ∷ []) size in
         let whole1 = reordered ps1 s made v.slots g.whole in
         let links1 : Linked (header_at ps1) first made =
-        linked_kept (header_at ps) (header_at ps1) first made (λ m q. g.others m (without made (segments_held v.slots) n m (omega (arith, no)) (omega (arith, q)))) c.links in
+        linked_kept (header_at ps) (header_at ps1) first made (λ m q. g.others m
+        (without made (segments_held v.slots) n m (omega (arith, no)) (omega (arith, q)))) c.links in
         let some = c.some in
-        let j = joined ps1 ps2 made (s ∷ []) v.slots first n whole1 (omega (arith, many, some)) links1 (g.segment, tt) (subst (λ m. HeaderSet ps1 m (record (header_at ps1 m) { next = n }) ps2) c.last_is done) in
+        let j = joined ps1 ps2 made (s ∷ []) v.slots first n whole1 (omega (arith, many, some)) links1 (
+          g.segment,
+          tt,
+        ) (subst (λ m. HeaderSet ps1 m (record (header_at ps1 m) { next = n }) ps2) c.last_is done) in
         record {
           numbers = c.numbers ++ n ∷ [];
           count = let a = c.count in omega (arith, a, length-append c.numbers (n ∷ []));
@@ -203,13 +223,16 @@ module _ (v : Store) (pool full : ℕ) (bytes : List ℕ) (room : 128 + full ≡
           whole = subst (λ x. Whole ps2 x v.slots) (sym push) j.0;
           links = subst (Linked (header_at ps2) first) (sym push) j.1;
           last_is = sym (ap (last_mbuf first) push ∙ last_mbuf_is s first made);
-          each = all_join (IsFresh v.pools (segments_of v) pool) c.numbers (n ∷ []) c.each (record { of_pool = ep; exists = subst (λ x. IsNumber x n) c.specs g.number; free = g.free }, tt);
+          each = all_join (IsFresh v.pools (segments_of v) pool) c.numbers (n ∷ []) c.each
+              (record { of_pool = ep; exists = subst (λ x. IsNumber x n) c.specs g.number; free = g.free }, tt);
           ins = let a = subst (λ y. count_in ps1 y + 1 ≡ count_in ps y) ep g.ins in let d = done.ins pool in let o = c.ins in omega (arith, a, d, o);
           specs = done.specs ∙ (g.specs ∙ c.specs);
           there = let a = ap length (done.specs ∙ g.specs) in let t = c.there in omega (arith, t, a, length_specs ps, length_specs ps2);
           spells = ap (λ k. packet_bytes (buffers_of ps2) k ++ rest') push
               ∙ (ap (λ r. packet_bytes (buffers_of ps2) (made ++ s ∷ []) ++ r) er
-              ∙ spelled_more (buffers_of ps) (buffers_of ps2) made n full rest bytes (done.buffers ∙ g.buffers) (omega (arith, no, refs-append made (segments_held v.slots) n)) (omega (arith, long, room')) (omega (arith, long, room', l)) c.spells);
+              ∙ spelled_more (buffers_of ps) (buffers_of ps2) made n full rest bytes (done.buffers
+              ∙ g.buffers) (omega (arith, no, refs-append made (segments_held v.slots) n)) (omega (arith, long, room')) (omega (arith, long, room', l))
+              c.spells);
           rest_long = let d = length-drop full rest in let r = c.rest_long in ap length er ∙ (d ∙ (ap (λ x. x - full) r ∙ sym (left_more full total i)));
           others = λ b e. let d = any_push b c.numbers n e in
               ap (λ x. bytes_of x b) (done.buffers ∙ g.buffers)
@@ -218,11 +241,13 @@ module _ (v : Store) (pool full : ℕ) (bytes : List ℕ) (room : 128 + full ≡
 
 -- ---- all of it
 
-apart_filled : (n : Number) (full : ℕ) (numbers : List Number) (total : ℕ) → mbufs (filled full numbers total) n ≡ 0 → AllByRecursion (λ m. same_number n m ≡ false) numbers
+apart_filled : (n : Number) (full : ℕ) (numbers : List Number) (total : ℕ) → mbufs (filled full numbers total) n ≡ 0 →
+    AllByRecursion (λ m. same_number n m ≡ false) numbers
 apart_filled n full [] total z = tt
 apart_filled n full (m ∷ numbers) total z = (
   ⊎_elim
-      (λ e. absurd (let y : mbufs (filled full (m ∷ numbers) total) n ≡ mbufs (filled full (m ∷ numbers) total) m = ap (mbufs (filled full (m ∷ numbers) total)) e in
+      (λ e. absurd (let y : mbufs (filled full (m ∷ numbers) total) n ≡ mbufs (filled full (m ∷ numbers) total) m =
+      ap (mbufs (filled full (m ∷ numbers) total)) e in
       omega (arith, z, y, mbufs_first (direct m 128 (min full total)) (filled full numbers (total - full)))))
       (λ d. d)
       (same_or n m),
@@ -242,7 +267,8 @@ no_object : (ps : List PoolView) (b : Number) → count_at (specs_of ps) b.pool 
 no_object ps b past =
     ap length (bytes_are ps b ∙ ap (drop 128) (get_or_past (pool_in ps b.pool).objects b.index [] (omega (arith, past, count_is ps b.pool))))
 
-lengths_same : (ps ps' : List PoolView) (b : Number) → ArePools ps → ArePools ps' → specs_of ps' ≡ specs_of ps → length (bytes_of (buffers_of ps') b) ≡ length (bytes_of (buffers_of ps) b)
+lengths_same : (ps ps' : List PoolView) (b : Number) → ArePools ps → ArePools ps' → specs_of ps' ≡ specs_of ps → length (bytes_of (buffers_of ps') b)
+    ≡ length (bytes_of (buffers_of ps) b)
 lengths_same ps ps' b are are' e = ⊎_elim
     (λ h. buffer_long ps' b are' (subst (λ s. IsNumber s b) (sym e) h) ∙ (ap (λ s. room_at s b.pool) e ∙ sym (buffer_long ps b are h)))
     (λ past. no_object ps' b (subst (λ s. count_at s b.pool ≤ b.index) (sym e) past) ∙ sym (no_object ps b past))
@@ -282,7 +308,8 @@ pub pool_of_room : (ps : List PoolView) (v : Store) (pool : ℕ) → shown ps �
 pool_of_room ps v pool e h =
     room_there ps pool (let r = ap (λ s. room_at s.pools pool) e in omega (arith, h, r))
 
-pub ready : (ps : List PoolView) (v : Store) (pool full r : ℕ) → shown ps ≡ v → Sound ps → 129 ≤ room_at v.pools pool → r ≡ room_at (specs_of ps) pool → full ≡ r - 128 → Ready ps v pool full
+pub ready : (ps : List PoolView) (v : Store) (pool full r : ℕ) → shown ps ≡ v → Sound ps → 129 ≤ room_at v.pools pool → r ≡ room_at (specs_of ps) pool →
+    full ≡ r - 128 → Ready ps v pool full
 ready ps v pool full r e sound h er ef =
     let there = pool_of_room ps v pool e h in
     let same = ap (λ s. room_at s.pools pool) e in
@@ -299,19 +326,24 @@ ready ps v pool full r e sound h er ef =
       few = let s = rooms_small ps sound.are pool in omega (arith, er, ef, s);
     }
 
-pub need_is : (v : Store) (pool full total need : ℕ) → full ≡ room_at v.pools pool - 128 → need ≡ max 1 ((total + (full - 1)) / full) → need ≡ needed v.pools pool total
+pub need_is : (v : Store) (pool full total need : ℕ) → full ≡ room_at v.pools pool - 128 → need ≡ max 1 ((total + (full - 1)) / full) →
+    need ≡ needed v.pools pool total
 need_is v pool full total need ef en =
     en ∙ ap (λ f. max 1 ((total + (f - 1)) / f)) ef
 
-module _ (v : Store) (pool full : ℕ) (bytes : List ℕ) (ps0 ps : List PoolView) (first last : Number) (rest : List ℕ) (i need : ℕ) (c : Receiving ps v pool full bytes first last rest i) (before : Ready ps0 v pool full) (en : need ≡ max 1 ((length bytes + (full - 1)) / full)) (few : needed v.pools pool (length bytes) ≤ 64) (ei : i ≡ need) where
+module _ (v : Store) (pool full : ℕ) (bytes : List ℕ) (ps0 ps : List PoolView) (first last : Number) (rest : List ℕ) (i need : ℕ)
+    (c : Receiving ps v pool full bytes first last rest i) (before : Ready ps0 v pool full) (en : need
+    ≡ max 1 ((length bytes + (full - 1)) / full)) (few : needed v.pools pool (length bytes) ≤ 64) (ei : i ≡ need) where
   pub receive_object : HasObject ps first
   receive_object =
       let some = c.some in
       let l : length (filled full c.numbers (length bytes)) ≡ i = length_filled full c.numbers (length bytes) ∙ c.count in
       let f = first_in (header_at ps) first (filled full c.numbers (length bytes)) (omega (arith, l, some)) c.links in
-      object_of ps first (all_at (IsNumber (specs_of ps)) (filled full c.numbers (length bytes)) first (all_front (λ t. IsNumber (specs_of ps) t.mbuf) (filled full c.numbers (length bytes)) (segments_held v.slots) c.whole.counted.numbers) f)
+      object_of ps first (all_at (IsNumber (specs_of ps)) (filled full c.numbers (length bytes)) first
+      (all_front (λ t. IsNumber (specs_of ps) t.mbuf) (filled full c.numbers (length bytes)) (segments_held v.slots) c.whole.counted.numbers) f)
 
-  pub receive_done : (ps' : List PoolView) (r : ℕ) → need ≤ available v.pools (segments_of v) pool → r ≡ handle first → HeaderSet ps first (record (header_at ps first) { segs = need; last = last }) ps' → Sound ps' × ReceivesInto v pool bytes (shown ps') (Some r)
+  pub receive_done : (ps' : List PoolView) (r : ℕ) → need ≤ available v.pools (segments_of v) pool → r ≡ handle first →
+      HeaderSet ps first (record (header_at ps first) { segs = need; last = last }) ps' → Sound ps' × ReceivesInto v pool bytes (shown ps') (Some r)
   receive_done ps' r enough er done =
       let total : ℕ = length bytes in
       let made : Packet = filled full c.numbers total in
@@ -325,7 +357,9 @@ module _ (v : Store) (pool full : ℕ) (bytes : List ℕ) (ps0 ps : List PoolVie
       let is : made ≡ k = received_is (room_at v.pools pool) full c.numbers total before.is just in
       let none : rest ≡ [] =
       nil_from_length rest (c.rest_long ∙ (ap (left full total) (sym n) ∙ left_end full (length c.numbers) total just)) in
-      let h = hooked ps ps' v.slots first made (record (header_at ps first) { segs = need; last = last }) c.whole c.links (omega (arith, l, some)) (omega (arith, l, ei, is_need, few)) done (omega (arith, l, ei)) c.last_is refl (record { offset = refl; len = refl; next = refl; buffer = refl }) in
+      let h = hooked ps ps' v.slots first made (record (header_at ps first) { segs = need; last = last }) c.whole c.links (omega (arith, l, some))
+      (omega (arith, l, ei, is_need, few)) done (omega (arith, l, ei)) c.last_is refl
+      (record { offset = refl; len = refl; next = refl; buffer = refl }) in
       let d = settled ps' (set v.slots (handle first) (Some made)) h.0 in
       let there : handle first < length v.slots =
       let m = c.whole.shows.many in
@@ -339,17 +373,20 @@ module _ (v : Store) (pool full : ℕ) (bytes : List ℕ) (ps0 ps : List PoolVie
           buffers_of ps,
           record {
             count = n ∙ (ei ∙ is_need);
-            distinct = distinct_filled full c.numbers total (λ m. let o = c.whole.counted.once m in omega (arith, o, mbufs-append made (segments_held v.slots) m));
+            distinct = distinct_filled full c.numbers total (λ m. let o = c.whole.counted.once m in
+                omega (arith, o, mbufs-append made (segments_held v.slots) m));
             each = c.each;
           },
           record {
-            spells = ap (packet_bytes (buffers_of ps)) (sym is) ∙ (sym (append-nil (packet_bytes (buffers_of ps) made)) ∙ (ap (λ x. packet_bytes (buffers_of ps) made ++ x) (sym none) ∙ c.spells));
+            spells = ap (packet_bytes (buffers_of ps)) (sym is) ∙ (sym (append-nil (packet_bytes (buffers_of ps) made))
+                ∙ (ap (λ x. packet_bytes (buffers_of ps) made ++ x) (sym none) ∙ c.spells));
             others = record {
               others = c.others;
               lengths = λ b. lengths_same ps0 ps b before.whole.are c.whole.are (c.specs ∙ sym before.specs) ∙ ap (λ x. length (bytes_of x b)) before.buffers;
               bytes = λ _. are_bytes ps c.whole.are;
             };
           },
-          store_eq (shown ps') (record v { buffers = buffers_of ps; slots = slice_set v.slots (handle first) (Some k) }) (done.specs ∙ c.specs) done.buffers (d.1 ∙ ap (λ x. set v.slots (handle first) (Some x)) is),
+          store_eq (shown ps') (record v { buffers = buffers_of ps; slots = slice_set v.slots (handle first) (Some k) }) (done.specs
+              ∙ c.specs) done.buffers (d.1 ∙ ap (λ x. set v.slots (handle first) (Some x)) is),
         ),
       )

@@ -1,5 +1,6 @@
 -- Packets over pools at their start, and pools whole again.
-use Rattle.std.proofs.Common.{◌≡◌, ℕ, zero, suc, ◌+◌, ◌*◌, ◌<◌, ◌≤◌, Bool, true, false, List, [], ◌∷◌, length, Option, Some, None, refl, sym, ◌∙◌, ap, subst, arith, ⊎_elim, get_or}
+use Rattle.std.proofs.Common.{◌≡◌, ℕ, zero, suc, ◌+◌, ◌*◌, ◌<◌, ◌≤◌, Bool, true, false, List, [], ◌∷◌, length, Option, Some, None, refl, sym, ◌∙◌, ap, subst}
+use Rattle.std.proofs.Common.{arith, ⊎_elim, get_or}
 use Rattle.std.specs.Prelude.{replicate, slice_get, ◌&&◌, not, nat_eq, IsTrue, ◌↔◌, count_by}
 use Rattle.std.specs.List.{AllByRecursion, list_all}
 use Rattle.std.proofs.lemmas.Bool.{cases_lt, cases_Bool, eqb-true, eq-eqb, and_from}
@@ -12,7 +13,8 @@ use Rattle.dp_model.specs.Machine.{segments_held}
 use Rattle.dp_model.specs.Stores.{Store, IsLive}
 use Rattle.dp_pool.specs.Pools.{PoolView}
 use Rattle.dp_mbuf.specs.Objects.{header_at, is_out, specs_of, buffers_of, zones_of, present, pool_in, PoolsFirst, ArePools, Unhooked, AreAllIn, slot_whole}
-use Rattle.dp_mbuf.specs.Mbufs.{numbered, is_positive, is_head, mbufs, slots_of, shown, MbufsView, viewed, StandsAt, Counted, Whole, Sound, AreReady, IsNew, HasNone, AreBack}
+use Rattle.dp_mbuf.specs.Mbufs.{numbered, is_positive, is_head, mbufs, slots_of, shown, MbufsView, viewed, StandsAt, Counted, Whole, Sound, AreReady, IsNew}
+use Rattle.dp_mbuf.specs.Mbufs.{HasNone, AreBack}
 use Rattle.dp_mbuf.proofs.PoolLemmas.{one_if}
 use Rattle.dp_mbuf.proofs.ObjectLemmas.{length_specs, count_is}
 use Rattle.dp_mbuf.proofs.Frames.{head_of}
@@ -49,7 +51,8 @@ whole_new ps are all_in heads = record {
     none None n e = ap is_positive (heads n)
     none (Some k) n e = absurd (cc)
 
-pub new_is : (pools : List (Option PoolView)) (ps ps' : List PoolView) → ps ≡ present pools → Unhooked (λ m. Unit {0}) ps ps' → AreReady pools → Sound ps' × IsNew pools (viewed ps')
+pub new_is : (pools : List (Option PoolView)) (ps ps' : List PoolView) → ps ≡ present pools → Unhooked (λ m. Unit {0}) ps ps' → AreReady pools →
+    Sound ps' × IsNew pools (viewed ps')
 new_is pools ps ps' e u ready =
     let all_in : AreAllIn ps = subst AreAllIn (sym e) ready.all_in in
     let d = settled ps' (replicate (65536 * length ps') None) (whole_new ps' u.are (λ n. u.outs n ∙ all_in n) (λ m. u.heads m tt)) in (
@@ -81,7 +84,8 @@ all_in_is ps slots w e n = ⊎_elim
     (λ past. past_out ps n w.are past)
     (cases_lt n.index (count_at (specs_of ps) n.pool))
 
-pub back_is : (ps : List PoolView) (v : MbufsView) (pools : List (Option PoolView)) → viewed ps ≡ v → Sound ps → HasNone v.store → present pools ≡ ps → PoolsFirst pools → AreBack v pools
+pub back_is : (ps : List PoolView) (v : MbufsView) (pools : List (Option PoolView)) → viewed ps ≡ v → Sound ps → HasNone v.store → present pools ≡ ps →
+    PoolsFirst pools → AreBack v pools
 back_is ps v pools e sound none same first = record {
   first = first;
   all_in = subst AreAllIn (sym same) (all_in_is ps (slots_of ps) sound (λ h. ap (λ m. get_or m.store.slots h None) e ∙ none h));
@@ -112,7 +116,8 @@ row_whole [] f = refl
 row_whole (true ∷ row) f = absurd (let q = f 0 in cc)
 row_whole (false ∷ row) f = let q = row_whole row (λ i. f (suc i)) in omega (arith, q, sum_by-cons (λ s. one_if (not s)) false row)
 
-in_from_whole : (pools : List (Option PoolView)) (k i : ℕ) → PoolsFirst pools → list_all slot_whole pools ≡ true → get_or (pool_in (present pools) k).out i false ≡ false
+in_from_whole : (pools : List (Option PoolView)) (k i : ℕ) → PoolsFirst pools → list_all slot_whole pools ≡ true →
+    get_or (pool_in (present pools) k).out i false ≡ false
 in_from_whole [] k i f e = refl
 in_from_whole (None ∷ pools) k i f e = refl
 in_from_whole (Some p ∷ pools) zero i f e =
@@ -124,7 +129,8 @@ none_whole : (pools : List (Option PoolView)) → AllByRecursion (λ o. o ≡ No
 none_whole [] all = refl
 none_whole (o ∷ pools) all = ap (λ x. slot_whole x && list_all slot_whole pools) all.0 ∙ none_whole pools all.1
 
-whole_from_in : (pools : List (Option PoolView)) → PoolsFirst pools → ((k i : ℕ) → get_or (pool_in (present pools) k).out i false ≡ false) → list_all slot_whole pools ≡ true
+whole_from_in : (pools : List (Option PoolView)) → PoolsFirst pools → ((k i : ℕ) → get_or (pool_in (present pools) k).out i false ≡ false) →
+    list_all slot_whole pools ≡ true
 whole_from_in [] f e = refl
 whole_from_in (None ∷ pools) f e = none_whole pools f
 whole_from_in (Some p ∷ pools) f e =
@@ -132,7 +138,8 @@ whole_from_in (Some p ∷ pools) f e =
     (eq-eqb (count_by not p.out) (length p.objects) (row_whole p.out (e 0) ∙ f.0.pool.out))
     (whole_from_in pools f.1 (λ k. e (suc k)))
 
-pub whole_iff : (pools : List (Option PoolView)) (ps : List PoolView) (b : Bool) → present pools ≡ ps → PoolsFirst pools → b ≡ list_all slot_whole pools → IsTrue b ↔ AreAllIn ps
+pub whole_iff : (pools : List (Option PoolView)) (ps : List PoolView) (b : Bool) → present pools ≡ ps → PoolsFirst pools → b ≡ list_all slot_whole pools →
+    IsTrue b ↔ AreAllIn ps
 whole_iff pools ps b e first eb = (
   (λ t. subst AreAllIn e (λ n. in_from_whole pools n.pool n.index first (sym eb ∙ t))),
   (λ all. eb ∙ whole_from_in pools first (λ k i. ap (λ q. is_out q (record { pool = k; index = i })) e ∙ all (record { pool = k; index = i }))),

@@ -1,5 +1,6 @@
 -- Numbers taken for new segments.
-use Rattle.std.proofs.Common.{◌≡◌, ℕ, zero, suc, ◌+◌, ◌/◌, ◌%◌, ◌<◌, ◌≤◌, Bool, true, false, cond, List, [], ◌∷◌, ◌++◌, length, take, Option, Some, None, refl, sym, ◌∙◌, ap, subst, arith, inl, ⊎_elim, get_or, set}
+use Rattle.std.proofs.Common.{◌≡◌, ℕ, zero, suc, ◌+◌, ◌/◌, ◌%◌, ◌<◌, ◌≤◌, Bool, true, false, cond, List, [], ◌∷◌, ◌++◌, length, take, Option, Some, None}
+use Rattle.std.proofs.Common.{refl, sym, ◌∙◌, ap, subst, arith, inl, ⊎_elim, get_or, set}
 use Rattle.std.specs.Prelude.{count_by, ◌&&◌, ◌||◌, not}
 use Rattle.std.proofs.lemmas.List.{take_all}
 use Rattle.std.proofs.lemmas.List.Sums.{sum_by-cons}
@@ -35,7 +36,8 @@ more_of ps ps1 ps' n x t done segs = record {
   headers = λ m d. alike (header_at ps' m) (header_at ps m) (done.others m d ∙ t.headers m);
 }
 
-pub grown_direct : (ps ps1 ps' : List PoolView) (hand : Packet) (slots : List (Option Packet)) (n : Number) (x : Header) (o l : ℕ) → Whole ps hand slots → Taken ps n ps1 → HeaderSet ps1 n x ps' → x.segs ≡ 0 → x.refs ≡ 1 → o + l ≤ room_at (specs_of ps) n.pool → Whole ps' (direct n o l ∷ hand) slots
+pub grown_direct : (ps ps1 ps' : List PoolView) (hand : Packet) (slots : List (Option Packet)) (n : Number) (x : Header) (o l : ℕ) → Whole ps hand slots →
+    Taken ps n ps1 → HeaderSet ps1 n x ps' → x.segs ≡ 0 → x.refs ≡ 1 → o + l ≤ room_at (specs_of ps) n.pool → Whole ps' (direct n o l ∷ hand) slots
 grown_direct ps ps1 ps' hand slots n x o l w t done segs one fits =
     let s : Segment = direct n o l in
     let ss : List Segment = hand ++ segments_held slots in
@@ -53,7 +55,8 @@ grown_direct ps ps1 ps' hand slots n x o l w t done segs one fits =
 
 -- ---- a packet of one segment, with one header written
 
-small_header : (h : Header) → h.segs < 65536 → h.refs < 4294967296 → h.offset < 65536 → h.len < 65536 → (h.next.pool < 65536) × (h.next.index < 65536) → (h.last.pool < 65536) × (h.last.index < 65536) → (h.buffer.pool < 65536) × (h.buffer.index < 65536) → Small (header_bytes h)
+small_header : (h : Header) → h.segs < 65536 → h.refs < 4294967296 → h.offset < 65536 → h.len < 65536 → (h.next.pool < 65536) × (h.next.index < 65536) →
+    (h.last.pool < 65536) × (h.last.index < 65536) → (h.buffer.pool < 65536) × (h.buffer.index < 65536) → Small (header_bytes h)
 small_header h a b c d e f g =
     let l0 : List ℕ = then_word h.buffer.index [] in
     let s0 : Small l0 = two h.buffer.index [] g.1 none in
@@ -110,13 +113,18 @@ taken_are ps ps1 n t = t.are
 pub taken_object : (ps ps1 : List PoolView) (n : Number) → Taken ps n ps1 → HasObject ps1 n
 taken_object ps ps1 n t = object_of ps1 n (subst (λ x. IsNumber x n) (sym t.specs) (number_of ps n t.object))
 
-pub alone : (ps ps1 ps' : List PoolView) (slots : List (Option Packet)) (n : Number) (o l : ℕ) → Whole ps [] slots → Taken ps n ps1 → HeaderSet ps1 n (fresh_header n 1 o l) ps' → o + l ≤ room_at (specs_of ps) n.pool → o + l < 65536 → Whole ps' [] (set slots (handle n) (Some (direct n o l ∷ []))) × (get_or slots (handle n) None ≡ None) × (numbered (handle n) ≡ n)
+pub alone : (ps ps1 ps' : List PoolView) (slots : List (Option Packet)) (n : Number) (o l : ℕ) → Whole ps [] slots → Taken ps n ps1 →
+    HeaderSet ps1 n (fresh_header n 1 o l) ps' → o + l ≤ room_at (specs_of ps) n.pool → o + l < 65536 →
+    Whole ps' [] (set slots (handle n) (Some (direct n o l ∷ []))) × (get_or slots (handle n) None ≡ None) × (numbered (handle n) ≡ n)
 alone ps ps1 ps' slots n o l w t done fits low =
     let object = taken_object ps ps1 n t in
     let small = number_small ps1 n t.are object in
     let pool : n.pool < 65536 = let f = t.are.few in omega (arith, f, small.1) in
     let x : Header = fresh_header n 0 o l in
-    let sm : Small (header_bytes x) = small_header x (omega arith) (omega arith) (omega (arith, low)) (omega (arith, low)) (pool, small.0) (pool, small.0) (pool, small.0) in
+    let sm : Small (header_bytes x) = small_header x (omega arith) (omega arith) (omega (arith, low)) (omega (arith, low)) (pool, small.0) (
+      pool,
+      small.0,
+    ) (pool, small.0) in
     let mid : List PoolView = set ps1 n.pool (with_written (pool_in ps1 n.pool) n.index 0 (header_bytes x)) in
     let first : HeaderSet ps1 n x mid = header_set ps1 n x t.are object sm in
     let whole : Whole mid (direct n o l ∷ []) slots = grown_direct ps ps1 mid [] slots n x o l w t first refl refl fits in
@@ -131,13 +139,15 @@ alone ps ps1 ps' slots n o l w t done fits low =
 free_is : (ss : List Segment) (n : Number) → not (is_free ss n) ≡ is_positive (mbufs ss n + refs ss n)
 free_is [] n = refl
 free_is (s ∷ ss) n =
-    by (same_number s.mbuf n) (same_number s.buffer n) (is_free ss n) (mbufs ss n) (refs ss n) (mbufs (s ∷ ss) n) (refs (s ∷ ss) n) (free_is ss n) (mbufs-cons s ss n) (refs-cons s ss n)
+    by (same_number s.mbuf n) (same_number s.buffer n) (is_free ss n) (mbufs ss n) (refs ss n) (mbufs (s ∷ ss) n) (refs (s ∷ ss) n) (free_is ss n)
+    (mbufs-cons s ss n) (refs-cons s ss n)
   where
     pos : (k : ℕ) → 1 ≤ k → true ≡ is_positive k
     pos zero h = absurd (omega arith)
     pos (suc k) h = refl
 
-    by : (a b f : Bool) (x y x' y' : ℕ) → not f ≡ is_positive (x + y) → x' ≡ cond a 1 0 + x → y' ≡ cond b 1 0 + y → not (not (a || b) && f) ≡ is_positive (x' + y')
+    by : (a b f : Bool) (x y x' y' : ℕ) → not f ≡ is_positive (x + y) → x' ≡ cond a 1 0 + x → y' ≡ cond b 1 0 + y →
+        not (not (a || b) && f) ≡ is_positive (x' + y')
     by true b f x y x' y' h e d = pos (x' + y') (omega (arith, e))
     by false true f x y x' y' h e d = pos (x' + y') (omega (arith, d))
     by false false f x y x' y' h e d =
@@ -151,28 +161,34 @@ pub free_from : (ss : List Segment) (n : Number) → mbufs ss n + refs ss n ≡ 
 free_from ss n e =
     sym (not_twice (is_free ss n)) ∙ ap not (free_is ss n ∙ ap is_positive e)
 
-free_out : (ps : List PoolView) (slots : List (Option Packet)) (n : Number) → Whole ps [] slots → IsNumber (specs_of ps) n → is_free (segments_held slots) n ≡ not (is_out ps n)
+free_out : (ps : List PoolView) (slots : List (Option Packet)) (n : Number) → Whole ps [] slots → IsNumber (specs_of ps) n → is_free (segments_held slots) n
+    ≡ not (is_out ps n)
 free_out ps slots n w h =
     sym (not_twice (is_free (segments_held slots) n)) ∙ ap not (free_is (segments_held slots) n ∙ sym (w.counted.out n h))
 
-count_take : (f : Bool → Bool) (row : List Bool) (k : ℕ) → k < length row → count_by f (take (suc k) row) ≡ count_by f (take k row) + cond (f (get_or row k false)) 1 0
+count_take : (f : Bool → Bool) (row : List Bool) (k : ℕ) → k < length row → count_by f (take (suc k) row)
+    ≡ count_by f (take k row) + cond (f (get_or row k false)) 1 0
 count_take f [] k h = absurd (omega arith)
 count_take f (x ∷ row) zero h = let e = sum_by-cons (λ s. cond (f s) 1 0) x [] in omega (arith, e)
 count_take f (x ∷ row) (suc k) h =
     let q = count_take f row k (omega arith) in
     omega (arith, q, sum_by-cons (λ s. cond (f s) 1 0) x (take (suc k) row), sum_by-cons (λ s. cond (f s) 1 0) x (take k row))
 
-below_is : (ss : List Segment) (pool : ℕ) (row : List Bool) (k : ℕ) → k ≤ length row → ((i : ℕ) → i < k → is_free ss (record { pool = pool; index = i }) ≡ not (get_or row i false)) → free_below ss pool k ≡ count_by not (take k row)
+below_is : (ss : List Segment) (pool : ℕ) (row : List Bool) (k : ℕ) → k ≤ length row →
+    ((i : ℕ) → i < k → is_free ss (record { pool = pool; index = i }) ≡ not (get_or row i false)) → free_below ss pool k ≡ count_by not (take k row)
 below_is ss pool row zero h e = refl
 below_is ss pool row (suc k) h e =
     let one : ℕ = 1 in
-    let here : cond (is_free ss (record { pool = pool; index = k })) one 0 ≡ cond (not (get_or row k false)) one 0 = ap (λ b. cond b one 0) (e k (omega arith)) in
+    let here : cond (is_free ss (record { pool = pool; index = k })) one 0 ≡ cond (not (get_or row k false)) one 0 =
+    ap (λ b. cond b one 0) (e k (omega arith)) in
     omega (arith, here, below_is ss pool row k (omega arith) (λ i b. e i (omega (arith, b))), count_take not row k h)
 
 -- what a pool has in is what is free of it
-pub available_is : (ps : List PoolView) (slots : List (Option Packet)) (pool : ℕ) → Whole ps [] slots → pool < length ps → available (specs_of ps) (segments_held slots) pool ≡ count_in ps pool
+pub available_is : (ps : List PoolView) (slots : List (Option Packet)) (pool : ℕ) → Whole ps [] slots → pool < length ps →
+    available (specs_of ps) (segments_held slots) pool ≡ count_in ps pool
 available_is ps slots pool w there =
     let l = (w.are.rooms pool there).pool.out in
     let c = count_is ps pool in
-    below_is (segments_held slots) pool (pool_in ps pool).out (count_at (specs_of ps) pool) (omega (arith, l, c)) (λ i b. free_out ps slots (record { pool = pool; index = i }) w b)
+    below_is (segments_held slots) pool (pool_in ps pool).out (count_at (specs_of ps) pool) (omega (arith, l, c))
+    (λ i b. free_out ps slots (record { pool = pool; index = i }) w b)
     ∙ ap (count_by not) (take_all (count_at (specs_of ps) pool) (pool_in ps pool).out (omega (arith, l, c)))

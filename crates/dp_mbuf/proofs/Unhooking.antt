@@ -33,7 +33,8 @@ unhooked_none P ps are none = record {
   kept = λ m z. z;
 }
 
-pub unhooked_more : (P Q : Number → Type 0) (a b c : List PoolView) (n : Number) (x : Header) → Unhooked P a b → HeaderSet b n x c → x.segs ≡ 0 → ((m : Number) → Q m → P m ⊎ (n ≡ m)) → Unhooked Q a c
+pub unhooked_more : (P Q : Number → Type 0) (a b c : List PoolView) (n : Number) (x : Header) → Unhooked P a b → HeaderSet b n x c → x.segs ≡ 0 →
+    ((m : Number) → Q m → P m ⊎ (n ≡ m)) → Unhooked Q a c
 unhooked_more P Q a b c n x u done none split = record {
   are = done.are;
   specs = done.specs ∙ u.specs;
@@ -62,7 +63,8 @@ unhooked_both P Q R a b c u w split = record {
 }
 
 -- where it holds of all objects it holds everywhere
-pub unhooked_rest : (P Q : Number → Type 0) (a b : List PoolView) → Unhooked P a b → ((m : Number) → Q m → P m ⊎ (length (pool_in b m.pool).objects ≤ m.index)) → Unhooked Q a b
+pub unhooked_rest : (P Q : Number → Type 0) (a b : List PoolView) → Unhooked P a b →
+    ((m : Number) → Q m → P m ⊎ (length (pool_in b m.pool).objects ≤ m.index)) → Unhooked Q a b
 unhooked_rest P Q a b u split = record {
   are = u.are;
   specs = u.specs;
@@ -74,7 +76,8 @@ unhooked_rest P Q a b u split = record {
 }
 
 -- the number at an index below the next one, or that one
-pub next_index : (pool i : ℕ) (n m : Number) → n ≡ record { pool = pool; index = i } → (m.pool ≡ pool) × (m.index < i + 1) → ((m.pool ≡ pool) × (m.index < i)) ⊎ (n ≡ m)
+pub next_index : (pool i : ℕ) (n m : Number) → n ≡ record { pool = pool; index = i } → (m.pool ≡ pool) × (m.index < i + 1) →
+    ((m.pool ≡ pool) × (m.index < i)) ⊎ (n ≡ m)
 next_index pool i n m en h = ⊎_elim
     (λ b. inl (h.0, b))
     (λ past. let e : i ≡ m.index = omega (arith, past, h.1) in
@@ -86,7 +89,8 @@ next_index pool i n m en h = ⊎_elim
 pub next_pool : (k : ℕ) (m : Number) → m.pool < k + 1 → (m.pool < k) ⊎ (m.pool ≡ k)
 next_pool k m h = ⊎_elim (λ b. inl b) (λ past. let e : m.pool ≡ k = omega (arith, past, h) in inr e) (cases_lt m.pool k)
 
-pub each_object : (pool i : ℕ) (b : List PoolView) (m : Number) → length (pool_in b pool).objects ≤ i → m.pool ≡ pool → ((m.pool ≡ pool) × (m.index < i)) ⊎ (length (pool_in b m.pool).objects ≤ m.index)
+pub each_object : (pool i : ℕ) (b : List PoolView) (m : Number) → length (pool_in b pool).objects ≤ i → m.pool ≡ pool →
+    ((m.pool ≡ pool) × (m.index < i)) ⊎ (length (pool_in b m.pool).objects ≤ m.index)
 each_object pool i b m all e = ⊎_elim
     (λ low. inl (e, low))
     (λ past. let l = ap (λ k. length (pool_in b k).objects) e in inr (omega (arith, past, all, l)))

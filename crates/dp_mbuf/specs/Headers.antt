@@ -27,4 +27,6 @@ with_hook o segs last = overwritten (overwritten o 0 (then_word segs [])) 14 (th
 -- the bytes of a header
 abbrev pub header_bytes : Header → List ℕ
 header_bytes h =
-    then_word h.segs (then_word (h.refs % 65536) (then_word (h.refs / 65536) (then_word h.offset (then_word h.len (then_word h.next.pool (then_word h.next.index (then_word h.last.pool (then_word h.last.index (then_word h.buffer.pool (then_word h.buffer.index []))))))))))
+    then_word h.segs (then_word (h.refs % 65536) (then_word (h.refs / 65536)
+    (then_word h.offset (then_word h.len (then_word h.next.pool (then_word h.next.index
+    (then_word h.last.pool (then_word h.last.index (then_word h.buffer.pool (then_word h.buffer.index []))))))))))

@@ -78,7 +78,8 @@ pub record Cloned (ps : List PoolView) (from n : Number) (ps' : List PoolView) :
   pub second : List PoolView
   pub taken : Taken ps n first
   pub header : HeaderSet first n (cloned_header (header_at ps from) n) second
-  pub buffer : HeaderSet second (header_at ps from).buffer (record (header_at second (header_at ps from).buffer) { refs = (header_at second (header_at ps from).buffer).refs + 1 }) ps'
+  pub buffer : HeaderSet second (header_at ps from).buffer (record (header_at second (header_at ps from).buffer)
+      { refs = (header_at second (header_at ps from).buffer).refs + 1 }) ps'
 
 -- the header of a new mbuf that is its own buffer, of no packet yet
 abbrev pub direct_header : Number → ℕ → ℕ → Header

@@ -1,11 +1,15 @@
 // Packets over the objects of pools.
 
-ghost use Rattle.std.specs.Prelude.{◌≡◌, ◌≢◌, ℕ, ◌+◌, ◌*◌, ◌<◌, ◌≤◌, [], None, length, drop, slice_get, slice_range, IsTrue, ◌↔◌, List, Some, max, ◌-◌, ◌/◌, ◌^◌};
-ghost use Rattle.dp_model.specs.Packets.{Segment, needed, refs, IsSole, segment_bytes, packet_bytes, headroom, tailroom, first_len, last_len, at_front, at_end, more_before, less_before, more_behind, less_behind, zeroed_before, zeroed_behind, available, loaded, stored, IsHeadSole, IsTailSole};
+ghost use Rattle.std.specs.Prelude.{◌≡◌, ◌≢◌, ℕ, ◌+◌, ◌*◌, ◌<◌, ◌≤◌, [], None, length, drop, slice_get, slice_range, IsTrue, ◌↔◌, List, Some, max, ◌-◌, ◌/◌};
+ghost use Rattle.std.specs.Prelude.{◌^◌};
+ghost use Rattle.dp_model.specs.Packets.{Segment, needed, refs, IsSole, segment_bytes, packet_bytes, headroom, tailroom, first_len, last_len, at_front};
+ghost use Rattle.dp_model.specs.Packets.{at_end, more_before, less_before, more_behind, less_behind, zeroed_before, zeroed_behind, available, loaded, stored};
+ghost use Rattle.dp_model.specs.Packets.{IsHeadSole, IsTailSole};
 ghost use Rattle.dp_model.specs.Arithmetic.{bytes_in};
 ghost use Rattle.dp_model.specs.Buffers.{Number, bytes_of};
 ghost use Rattle.dp_model.specs.Environments.{room_at};
-ghost use Rattle.dp_model.specs.Stores.{segments_of, Has, HasSome, IsLive, Of, Becomes, unwritten, with_slot, Allocates, Chains, Clones, ReceivesInto, IsWellFormedStore};
+ghost use Rattle.dp_model.specs.Stores.{segments_of, Has, HasSome, IsLive, Of, Becomes, unwritten, with_slot, Allocates, Chains, Clones, ReceivesInto};
+ghost use Rattle.dp_model.specs.Stores.{IsWellFormedStore};
 ghost use Rattle.dp_mbuf.specs.Objects.{header_at, specs_of, buffers_of, HasObject};
 ghost use Rattle.dp_mbuf.specs.Mbufs.{numbered, handle, AreReady, IsNew, HasNone, AreBack, Linked, HasWalk, mbufs_in_all};
 

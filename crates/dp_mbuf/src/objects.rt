@@ -1,13 +1,16 @@
 // The objects of all pools, each with a header and with bytes behind it.
 
-ghost use Rattle.std.specs.Prelude.{◌≡◌, ℕ, ◌<◌, ◌≤◌, ◌+◌, [], true, false, length, Some, None, slice_get, slice_index, replicate, MatchOption, IfSome, IsTrue, ◌↔◌};
+ghost use Rattle.std.specs.Prelude.{◌≡◌, ℕ, ◌<◌, ◌≤◌, ◌+◌, [], true, false, length, Some, None, slice_get, slice_index, replicate, MatchOption, IfSome};
+ghost use Rattle.std.specs.Prelude.{IsTrue, ◌↔◌};
 ghost use Rattle.std.specs.List.{list_all};
 ghost use Rattle.dp_model.specs.Arithmetic.{bytes_in, big_endian};
 ghost use Rattle.dp_model.specs.Buffers.{bytes_of};
 ghost use Rattle.dp_model.specs.Environments.{room_at};
 ghost use Rattle.dp_pool.specs.Pools.{PoolView, IsPool, object_in, with_object, with_written, put_back};
 ghost use Rattle.dp_mbuf.specs.Headers.{then_word, with_hook};
-ghost use Rattle.dp_mbuf.specs.Objects.{present, pool_in, header_at, header_with, is_out, count_in, specs_of, buffers_of, HasObject, HasRooms, HeadersFirst, PoolsFirst, objects_in_all, ArePools, HeaderSet, RoomWritten, Taken, Given, SlotHas, SlotFits, SlotIsOut, SlotBecomes, SlotGives, slot_count, slot_whole, AreAllIn};
+ghost use Rattle.dp_mbuf.specs.Objects.{present, pool_in, header_at, header_with, is_out, count_in, specs_of, buffers_of, HasObject, HasRooms, HeadersFirst};
+ghost use Rattle.dp_mbuf.specs.Objects.{PoolsFirst, objects_in_all, ArePools, HeaderSet, RoomWritten, Taken, Given, SlotHas, SlotFits, SlotIsOut};
+ghost use Rattle.dp_mbuf.specs.Objects.{SlotBecomes, SlotGives, slot_count, slot_whole, AreAllIn};
 
 use crate::header::{
     Header, Place, bytes_of_header, bytes_of_refs, bytes_of_word, read_header, write_hook,

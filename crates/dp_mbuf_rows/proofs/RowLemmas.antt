@@ -22,13 +22,15 @@ over_kept s s' e o = record {
   rooms = λ k b. let l = ap (λ p. room_at p k) e in let q = o.rooms k b in omega (arith, l, q);
 }
 
-pub gives_kept : (s s' : Store) (pool need : ℕ) (packet : List Number → Packet) (Changes : List Number → Buffers → Buffers → Type 0) (r : Option ℕ) → Gives s pool need packet Changes s' r → s'.pools ≡ s.pools
+pub gives_kept : (s s' : Store) (pool need : ℕ) (packet : List Number → Packet) (Changes : List Number → Buffers → Buffers → Type 0) (r : Option ℕ) →
+    Gives s pool need packet Changes s' r → s'.pools ≡ s.pools
 gives_kept s s' pool need packet Changes None g = ap (λ x. x.pools) g.1
 gives_kept s s' pool need packet Changes (Some h) g = ap (λ x. x.pools) g.6
 
 -- ---- the last segment
 
-pub tail_sole : (live : List Segment) (k : Packet) (last r : ℕ) → length k ≡ suc last → ((s : Segment) → slice_get k last ≡ Some s → r ≡ refs live s.buffer) → r ≡ 1 → IsTailSole live k
+pub tail_sole : (live : List Segment) (k : Packet) (last r : ℕ) → length k ≡ suc last → ((s : Segment) → slice_get k last ≡ Some s → r ≡ refs live s.buffer) →
+    r ≡ 1 → IsTailSole live k
 tail_sole live [] last r e f one = absurd (omega (arith, e))
 tail_sole live (s ∷ []) zero r e f one = sym (f s refl) ∙ one
 tail_sole live (s ∷ []) (suc last) r e f one = absurd (omega (arith, e))
@@ -49,9 +51,20 @@ none_out (suc n) (suc i) = none_out n i
 abbrev pub three_of : PoolView → PoolView → PoolView → List (Option PoolView)
 three_of a b c = Some a ∷ Some b ∷ Some c ∷ None ∷ None ∷ None ∷ None ∷ None ∷ []
 
-pub ready_three : (a b c : PoolView) (m n o x y z : ℕ) (ha hb hc : Home) → IsReadyPool m x ha a → IsReadyPool n y hb b → IsReadyPool o z hc c → m + n + o ≤ 65535 → AreReady (three_of a b c)
+pub ready_three : (a b c : PoolView) (m n o x y z : ℕ) (ha hb hc : Home) → IsReadyPool m x ha a → IsReadyPool n y hb b → IsReadyPool o z hc c →
+    m + n + o ≤ 65535 → AreReady (three_of a b c)
 ready_three a b c m n o x y z ha hb hc ra rb rc few = record {
-  first = (let s = ra.size in omega (arith, s), (let s = rb.size in omega (arith, s), (let s = rc.size in omega (arith, s), (refl, (refl, (refl, (refl, tt)))))));
+  first = (
+    let s = ra.size in omega (arith, s),
+    (
+      let s = rb.size in omega (arith, s),
+      (
+        let s = rc.size in
+            omega (arith, s),
+        (refl, (refl, (refl, (refl, tt)))),
+      ),
+    ),
+  );
   some = omega arith;
   few = omega arith;
   mbufs = let d = ra.count in let e = rb.count in let f = rc.count in omega (arith, d, e, f, few);
@@ -64,7 +77,8 @@ ready_three a b c m n o x y z ha hb hc ra rb rc few = record {
     at (suc (suc zero)) i = ap (λ out. get_or out i false) rc.all_in ∙ none_out o i
     at (suc (suc (suc k))) i = refl
 
-pub new_over : (a b c : PoolView) (v : MbufsView) (m n x y : ℕ) (ha hb : Home) → IsReadyPool m x ha a → IsReadyPool n y hb b → 129 ≤ x → 129 ≤ y → IsNew (three_of a b c) v → IsOver v.store
+pub new_over : (a b c : PoolView) (v : MbufsView) (m n x y : ℕ) (ha hb : Home) → IsReadyPool m x ha a → IsReadyPool n y hb b → 129 ≤ x → 129 ≤ y →
+    IsNew (three_of a b c) v → IsOver v.store
 new_over a b c v m n x y ha hb ra rb lx ly new = record {
   three = ap length new.pools_are;
   rooms = room;
@@ -75,7 +89,8 @@ new_over a b c v m n x y ha hb ra rb lx ly new = record {
     room (suc zero) h = let r = ap (λ p. room_at p 1) new.pools_are in let s = rb.size in omega (arith, r, s, ly)
     room (suc (suc k)) h = absurd (omega (arith, h))
 
-pub new_in : (a b c : PoolView) (v : MbufsView) (m n o x y z : ℕ) (ha hb hc home : Home) → IsReadyPool m x ha a → IsReadyPool n y hb b → IsReadyPool o z hc c → ha ≡ home → hb ≡ home → hc ≡ home → IsNew (three_of a b c) v → AreIn home v.zones
+pub new_in : (a b c : PoolView) (v : MbufsView) (m n o x y z : ℕ) (ha hb hc home : Home) → IsReadyPool m x ha a → IsReadyPool n y hb b →
+    IsReadyPool o z hc c → ha ≡ home → hb ≡ home → hc ≡ home → IsNew (three_of a b c) v → AreIn home v.zones
 new_in a b c v m n o x y z ha hb hc home ra rb rc ea eb ec new = subst (AreIn home) (sym new.zones) (ra.home ∙ ea, (rb.home ∙ eb, (rc.home ∙ ec, tt)))
 
 -- the pools that come back stand where they stood
@@ -98,7 +113,8 @@ alloc_kept s s' pool r g = gives_kept s s' pool 1 (allocated s.pools) ChangesOnl
 
 pub receive_kept : (s s' : Store) (pool : ℕ) (bytes : List ℕ) (r : Option ℕ) → ReceivesInto s pool bytes s' r → s'.pools ≡ s.pools
 receive_kept s s' pool bytes r g =
-    gives_kept s s' pool (needed s.pools pool (length bytes)) (λ ns. received (room_at s.pools pool) ns (length bytes)) (λ ns old new. Filled ns (received (room_at s.pools pool) ns (length bytes)) bytes old new) r g
+    gives_kept s s' pool (needed s.pools pool (length bytes)) (λ ns. received (room_at s.pools pool) ns (length bytes))
+    (λ ns old new. Filled ns (received (room_at s.pools pool) ns (length bytes)) bytes old new) r g
 
 pub clone_kept : (s s' : Store) (h pool : ℕ) (r : Option ℕ) → IsLive s h → Clones s h pool s' r → s'.pools ≡ s.pools
 clone_kept s s' h pool r live c =

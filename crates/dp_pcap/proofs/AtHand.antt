@@ -1,5 +1,6 @@
 -- What a reader has at hand: the front of the bytes that are left.
-use Rattle.std.proofs.Common.{◌≡◌, ℕ, zero, suc, ◌+◌, ◌≤◌, Bool, true, false, List, [], ◌++◌, Option, None, Some, if◌then◌else◌, arith, length, take, drop, refl, sym, ap, ◌∙◌, subst, length-drop, length-take-le, take_all}
+use Rattle.std.proofs.Common.{◌≡◌, ℕ, zero, suc, ◌+◌, ◌≤◌, Bool, true, false, List, [], ◌++◌, Option, None, Some, if◌then◌else◌, arith, length, take, drop}
+use Rattle.std.proofs.Common.{refl, sym, ap, ◌∙◌, subst, length-drop, length-take-le, take_all}
 use Rattle.std.proofs.lemmas.List.{take-append-le, take-append-drop}
 use Rattle.std.proofs.Math.Seq.{take-add}
 use Rattle.std.specs.Prelude.{IfSome, Ok}
@@ -13,7 +14,8 @@ use Rattle.dp_pcap.proofs.History.{HasRead-more}
 use Rattle.dp_pcap.proofs.Known.{known}
 
 -- of a buffer, and of none where the reader is broken
-pub begins : (is_empty broken : Bool) (known : Option (List ℕ)) (held : List ℕ) → BeginsWith (if is_empty then None else prepend_known held known) (if broken then [] else held)
+pub begins : (is_empty broken : Bool) (known : Option (List ℕ)) (held : List ℕ) →
+    BeginsWith (if is_empty then None else prepend_known held known) (if broken then [] else held)
 begins true broken known held = tt
 begins false broken None held = tt
 begins false true (Some ys) held = (held ++ ys, refl)
@@ -35,17 +37,21 @@ passes false true (Some ys) new held n fits drops =
     nothing (suc k) l = refl
 passes false false (Some ys) new held n fits drops =
     let left : new ≡ Some (drop n (held ++ ys)) = drops fits in
-    let whole : held ++ ys ≡ take n held ++ drop n (held ++ ys) = sym (ap (λ l. l ++ drop n (held ++ ys)) (sym (take-append-le n held ys fits)) ∙ take-append-drop n (held ++ ys)) in
+    let whole : held ++ ys ≡ take n held ++ drop n (held ++ ys) = sym (ap (λ l. l ++ drop n (held ++ ys)) (sym (take-append-le n held ys fits))
+    ∙ take-append-drop n (held ++ ys)) in
     subst (λ (o : Option (List ℕ)). Consumes (Some (held ++ ys)) o (take n held)) (sym left) whole
 
 -- stepping over a record that is at hand
-pub passed : (a b : Option (List ℕ)) (old new : Standing) (held : List ℕ) (time : Time) (len : ℕ) → IsHeld old held time len → Consumes a b (take (16 + len) held) → new ≡ advanced old len
+pub passed : (a b : Option (List ℕ)) (old new : Standing) (held : List ℕ) (time : Time) (len : ℕ) → IsHeld old held time len →
+    Consumes a b (take (16 + len) held) → new ≡ advanced old len
     → WhereKnown a b (λ left rest. Continues old new left rest (body_in held len) (Ok (Record time len)))
 passed a b old new held time len h gone moved =
     let long : length (body_in held len) ≡ len = length-take-le len (drop 16 held) (omega (arith, h.whole, length-drop 16 held)) in
     let same : take len (body_in held len) ≡ body_in held len = take_all len (body_in held len) (omega (arith, long)) in
     let packet : PacketRecord = record { time = time; bytes = take len (body_in held len) } in
-    let is : IsHead old.order old.unit packet (take 16 held) = subst (λ (l : List ℕ). IsHead old.order old.unit (record { time = time; bytes = l }) (take 16 held)) (sym same) h.is_head in
+    let is : IsHead old.order old.unit packet (take 16 held) = subst (λ (l : List ℕ).
+    IsHead old.order old.unit (record { time = time; bytes = l }) (take 16 held)) (sym same) h.is_head in
     let whole : take (16 + len) held ≡ take 16 held ++ packet.bytes = take-add 16 len held ∙ ap (λ l. take 16 held ++ l) (sym same) in
     known a b (take (16 + len) held) (λ left rest. Continues old new left rest (body_in held len) (Ok (Record time len))) gone (λ rest bytes records read.
-    rw moved (HasRead-more bytes old records packet (take (16 + len) held ++ rest) rest len read (take 16 held, is, ap (λ l. l ++ rest) whole) h.given (ap length same ∙ long)))
+    rw moved (HasRead-more bytes old records packet (take (16 + len) held ++ rest) rest len read (take 16 held, is, ap (λ l. l ++ rest) whole) h.given
+    (ap length same ∙ long)))

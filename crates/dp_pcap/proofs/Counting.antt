@@ -1,5 +1,6 @@
 -- Counting whole records: what more bytes make of a count.
-use Rattle.std.proofs.Common.{◌≡◌, ◌≢◌, ℕ, zero, suc, ◌+◌, ◌-◌, ◌^◌, ◌<◌, ◌≤◌, List, [], ◌++◌, length, take, refl, sym, ap, ◌∙◌, subst, inl, inr, arith, length-append, length-take, append_assoc, append-nil, take_all, drop}
+use Rattle.std.proofs.Common.{◌≡◌, ◌≢◌, ℕ, zero, suc, ◌+◌, ◌-◌, ◌^◌, ◌<◌, ◌≤◌, List, [], ◌++◌, length, take, refl, sym, ap, ◌∙◌, subst, inl, inr, arith}
+use Rattle.std.proofs.Common.{length-append, length-take, append_assoc, append-nil, take_all, drop}
 use Rattle.std.proofs.lemmas.List.{take-append-drop, take-take, length-take-le, length-drop}
 use Rattle.std.proofs.lemmas.Slice.{take-put_mid}
 use borrow.Rule.Slice.PartMut.{put_mid}
@@ -23,14 +24,27 @@ version_little Big u header other is = absurd (other is.version.0)
 
 -- ---- inside the header, or behind a record's head
 
-part_skipped : (o : Order) (n left : ℕ) (head part more : List ℕ) → length more < left → IsPart o n left head part → IsPart o n (left - length more) head (part ++ more)
+part_skipped : (o : Order) (n left : ℕ) (head part more : List ℕ) → length more < left → IsPart o n left head part →
+    IsPart o n (left - length more) head (part ++ more)
 part_skipped o zero left head part more less (none, some, all) = (none, omega (arith, less), omega (arith, less, all, length-append part more))
 part_skipped o (suc n) left head part more less (inl (none, few, same)) = absurd (omega (arith, none, less))
 part_skipped o (suc n) left head part more less (inr (some, none, (h, body, size, rest, split))) =
-    inr (omega (arith, less), none, (h, body ++ more, size, omega (arith, rest, less, length-append body more), ap (λ l. l ++ more) split ∙ append_assoc h body more))
+    inr (
+      omega (arith, less),
+      none,
+      (
+        h,
+        body ++ more,
+        size,
+        omega (arith, rest, less, length-append body more),
+        ap (λ l. l ++ more) split
+            ∙ append_assoc h body more,
+      ),
+    )
 
 -- a part of what is left
-pub skipped : (o : Order) (pieces left : ℕ) (head before more : List ℕ) → length more < left → IsBehind (record { order = o; pieces = pieces; left = left; head = head }) before
+pub skipped : (o : Order) (pieces left : ℕ) (head before more : List ℕ) → length more < left →
+    IsBehind (record { order = o; pieces = pieces; left = left; head = head }) before
     → IsBehind (record { order = o; pieces = pieces; left = left - length more; head = head }) (before ++ more)
 skipped o pieces left head before more less b = record {
   whole = b.whole;
@@ -45,7 +59,8 @@ no_head o zero left head part more (none, some, all) = sym none
 no_head o (suc n) left head part more (inl (none, few, same)) = absurd (omega (arith, none, more))
 no_head o (suc n) left head part more (inr (some, none, inside)) = sym none
 
-one_more : (o : Order) (n left : ℕ) (head whole part before more : List ℕ) → ArePieces o n whole → IsPart o n left head part → before ≡ whole ++ part → length more ≡ left → 0 < left
+one_more : (o : Order) (n left : ℕ) (head whole part before more : List ℕ) → ArePieces o n whole → IsPart o n left head part → before ≡ whole ++ part →
+    length more ≡ left → 0 < left
     → ArePieces o (suc n) (before ++ more)
 one_more o zero left head whole part before more are (none, some, all) split size any =
     omega (arith, ap length split, length-append whole part, ap length are, all, length-append before more, size)
@@ -60,7 +75,8 @@ one_more o (suc n) left head whole part before more are (inr (some, none, (h, bo
 )
 
 -- all that is left
-pub completed : (o : Order) (pieces left : ℕ) (head before more : List ℕ) → length more ≡ left → 0 < left → IsBehind (record { order = o; pieces = pieces; left = left; head = head }) before
+pub completed : (o : Order) (pieces left : ℕ) (head before more : List ℕ) → length more ≡ left → 0 < left →
+    IsBehind (record { order = o; pieces = pieces; left = left; head = head }) before
     → IsBehind (record { order = o; pieces = suc pieces; left = 0; head = head }) (before ++ more)
 completed o pieces left head before more size any b = record {
   whole = before ++ more;
@@ -71,8 +87,10 @@ completed o pieces left head before more size any b = record {
 }
 
 -- the same, with the numbers that a call leaves
-pub completes : (o : Order) (pieces left pieces' left' n : ℕ) (head before bytes : List ℕ) → pieces' ≡ suc pieces → left' ≡ 0 → n ≡ left → n ≤ length bytes → 0 < left
-    → IsBehind (record { order = o; pieces = pieces; left = left; head = head }) before → IsBehind (record { order = o; pieces = pieces'; left = left'; head = head }) (before ++ take n bytes)
+pub completes : (o : Order) (pieces left pieces' left' n : ℕ) (head before bytes : List ℕ) → pieces' ≡ suc pieces → left' ≡ 0 → n ≡ left → n ≤ length bytes →
+    0 < left
+    → IsBehind (record { order = o; pieces = pieces; left = left; head = head }) before →
+    IsBehind (record { order = o; pieces = pieces'; left = left'; head = head }) (before ++ take n bytes)
 completes o pieces left pieces' left' n head before bytes more none all within any b =
     subst (λ m. IsBehind (record { order = o; pieces = m; left = left'; head = head }) (before ++ take n bytes)) (sym more)
     (subst (λ m. IsBehind (record { order = o; pieces = suc pieces; left = m; head = head }) (before ++ take n bytes)) (sym none)
@@ -80,13 +98,15 @@ completes o pieces left pieces' left' n head before bytes more none all within a
 
 -- ---- inside a record's head
 
-part_grown : (o : Order) (n : ℕ) (head part more : List ℕ) → length head + length more < 16 → IsPart o n 0 head part → IsPart o n 0 (head ++ more) (part ++ more)
+part_grown : (o : Order) (n : ℕ) (head part more : List ℕ) → length head + length more < 16 → IsPart o n 0 head part →
+    IsPart o n 0 (head ++ more) (part ++ more)
 part_grown o zero head part more few (none, some, all) = absurd (omega (arith, some))
 part_grown o (suc n) head part more few (inl (none, less, same)) = inl (refl, omega (arith, few, length-append head more), ap (λ l. l ++ more) same)
 part_grown o (suc n) head part more few (inr (some, none, inside)) = absurd (omega (arith, some))
 
 -- a part of it
-pub head_grown : (o : Order) (pieces : ℕ) (head before more : List ℕ) → length head + length more < 16 → IsBehind (record { order = o; pieces = pieces; left = 0; head = head }) before
+pub head_grown : (o : Order) (pieces : ℕ) (head before more : List ℕ) → length head + length more < 16 →
+    IsBehind (record { order = o; pieces = pieces; left = 0; head = head }) before
     → IsBehind (record { order = o; pieces = pieces; left = 0; head = head ++ more }) (before ++ more)
 head_grown o pieces head before more few b = record {
   whole = b.whole;
@@ -96,15 +116,28 @@ head_grown o pieces head before more few b = record {
   is_part = part_grown o pieces head b.part more few b.is_part;
 }
 
-part_begun : (o : Order) (n left : ℕ) (head part more : List ℕ) → length head + length more ≡ 16 → left ≡ captured o (head ++ more) → 0 < left → IsPart o n 0 head part → IsPart o n left [] (part ++ more)
+part_begun : (o : Order) (n left : ℕ) (head part more : List ℕ) → length head + length more ≡ 16 → left ≡ captured o (head ++ more) → 0 < left →
+    IsPart o n 0 head part → IsPart o n left [] (part ++ more)
 part_begun o zero left head part more full says any (none, some, all) = absurd (omega (arith, some))
 part_begun o (suc n) left head part more full says any (inl (none, less, same)) =
-    inr (any, refl, (head ++ more, [], omega (arith, full, length-append head more), omega (arith, says), ap (λ l. l ++ more) same ∙ sym (append-nil (head ++ more))))
+    inr (
+      any,
+      refl,
+      (
+        head ++ more,
+        [],
+        omega (arith, full, length-append head more),
+        omega (arith, says),
+        ap (λ l. l ++ more) same
+            ∙ sym (append-nil (head ++ more)),
+      ),
+    )
 part_begun o (suc n) left head part more full says any (inr (some, none, inside)) = absurd (omega (arith, some))
 
 -- all of it, and bytes are to follow
 pub head_whole : (o : Order) (pieces left : ℕ) (head before more : List ℕ) → length head + length more ≡ 16 → left ≡ captured o (head ++ more) → 0 < left
-    → IsBehind (record { order = o; pieces = pieces; left = 0; head = head }) before → IsBehind (record { order = o; pieces = pieces; left = left; head = [] }) (before ++ more)
+    → IsBehind (record { order = o; pieces = pieces; left = 0; head = head }) before →
+    IsBehind (record { order = o; pieces = pieces; left = left; head = [] }) (before ++ more)
 head_whole o pieces left head before more full says any b = record {
   whole = b.whole;
   part = b.part ++ more;
@@ -113,7 +146,8 @@ head_whole o pieces left head before more full says any b = record {
   is_part = part_begun o pieces left head b.part more full says any b.is_part;
 }
 
-one_empty : (o : Order) (n : ℕ) (head whole part before more : List ℕ) → ArePieces o n whole → IsPart o n 0 head part → before ≡ whole ++ part → length head + length more ≡ 16
+one_empty : (o : Order) (n : ℕ) (head whole part before more : List ℕ) → ArePieces o n whole → IsPart o n 0 head part → before ≡ whole ++ part →
+    length head + length more ≡ 16
     → 0 ≡ captured o (head ++ more) → ArePieces o (suc n) (before ++ more)
 one_empty o zero head whole part before more are (none, some, all) split full says = absurd (omega (arith, some))
 one_empty o (suc n) head whole part before more are (inl (none, less, same)) split full says = (
@@ -128,7 +162,8 @@ one_empty o (suc n) head whole part before more are (inr (some, none, inside)) s
 
 -- all of it, of a record without bytes
 pub head_alone : (o : Order) (pieces : ℕ) (head before more : List ℕ) → length head + length more ≡ 16 → 0 ≡ captured o (head ++ more)
-    → IsBehind (record { order = o; pieces = pieces; left = 0; head = head }) before → IsBehind (record { order = o; pieces = suc pieces; left = 0; head = [] }) (before ++ more)
+    → IsBehind (record { order = o; pieces = pieces; left = 0; head = head }) before →
+    IsBehind (record { order = o; pieces = suc pieces; left = 0; head = [] }) (before ++ more)
 head_alone o pieces head before more full says b = record {
   whole = before ++ more;
   part = [];
@@ -154,7 +189,8 @@ one_record o (suc n) whole part before more are (inr (some, none, inside)) split
 
 -- its head and all that its head says
 pub record_whole : (o : Order) (pieces : ℕ) (before more : List ℕ) → 16 ≤ length more → length (drop 16 more) ≡ captured o (take 16 more)
-    → IsBehind (record { order = o; pieces = pieces; left = 0; head = [] }) before → IsBehind (record { order = o; pieces = suc pieces; left = 0; head = [] }) (before ++ more)
+    → IsBehind (record { order = o; pieces = pieces; left = 0; head = [] }) before →
+    IsBehind (record { order = o; pieces = suc pieces; left = 0; head = [] }) (before ++ more)
 record_whole o pieces before more full says b = record {
   whole = before ++ more;
   part = [];
@@ -164,7 +200,8 @@ record_whole o pieces before more full says b = record {
 }
 
 -- the same, with the numbers that a call leaves
-pub record_passed : (o : Order) (pieces none came pieces' size : ℕ) (xs before bytes : List ℕ) → none ≡ 0 → came ≡ 0 → pieces' ≡ suc pieces → size ≤ length bytes
+pub record_passed : (o : Order) (pieces none came pieces' size : ℕ) (xs before bytes : List ℕ) → none ≡ 0 → came ≡ 0 → pieces' ≡ suc pieces →
+    size ≤ length bytes
     → size ≡ 16 + captured o (take 16 bytes) → IsBehind (record { order = o; pieces = pieces; left = none; head = take came xs }) before
     → IsBehind (record { order = o; pieces = pieces'; left = none; head = take came xs }) (before ++ take size bytes)
 record_passed o pieces none came pieces' size xs before bytes was begins more within says b =
@@ -173,12 +210,14 @@ record_passed o pieces none came pieces' size xs before bytes was begins more wi
     subst (λ n. IsBehind (record { order = o; pieces = pieces'; left = n; head = take came xs }) (before ++ take size bytes)) (sym was)
     (subst (λ n. IsBehind (record { order = o; pieces = pieces'; left = 0; head = take n xs }) (before ++ take size bytes)) (sym begins)
     (subst (λ n. IsBehind (record { order = o; pieces = n; left = 0; head = [] }) (before ++ take size bytes)) (sym more)
-    (record_whole o pieces before (take size bytes) (omega (arith, long, says)) (omega (arith, length-drop 16 (take size bytes), long, says, ap (captured o) front))
+    (record_whole o pieces before (take size bytes) (omega (arith, long, says))
+    (omega (arith, length-drop 16 (take size bytes), long, says, ap (captured o) front))
     (subst (λ n. IsBehind (record { order = o; pieces = pieces; left = 0; head = take n xs }) before) begins
     (subst (λ n. IsBehind (record { order = o; pieces = pieces; left = n; head = take came xs }) before) was b)))))
 
 -- the bytes of a head that is whole now, where those behind the first so many were written
-head_written : (came k n : ℕ) (xs ys bytes : List ℕ) → came + n ≡ 16 → n ≤ length bytes → came ≤ length xs → length (put_mid came k xs ys) ≡ 16 → ys ≡ take n bytes
+head_written : (came k n : ℕ) (xs ys bytes : List ℕ) → came + n ≡ 16 → n ≤ length bytes → came ≤ length xs → length (put_mid came k xs ys) ≡ 16 →
+    ys ≡ take n bytes
     → put_mid came k xs ys ≡ take came xs ++ take n bytes
 head_written came k n xs ys bytes full within there long same =
     sym (take_all 16 (put_mid came k xs ys) (omega (arith, long)))
@@ -186,9 +225,11 @@ head_written came k n xs ys bytes full within there long same =
     ∙ ap (λ l. take came xs ++ l) same
 
 -- a head is whole, with the numbers that a call leaves: of a record without bytes
-pub head_ends : (o : Order) (pieces none came k n pieces' left : ℕ) (head' xs ys bytes before : List ℕ) → none ≡ 0 → pieces' ≡ suc pieces → left ≡ 0 → head' ≡ []
+pub head_ends : (o : Order) (pieces none came k n pieces' left : ℕ) (head' xs ys bytes before : List ℕ) → none ≡ 0 → pieces' ≡ suc pieces → left ≡ 0 →
+    head' ≡ []
     → left ≡ captured o (put_mid came k xs ys) → came + n ≡ 16 → n ≤ length bytes → came ≤ length xs → length (put_mid came k xs ys) ≡ 16 → ys ≡ take n bytes
-    → IsBehind (record { order = o; pieces = pieces; left = none; head = take came xs }) before → IsBehind (record { order = o; pieces = pieces'; left = left; head = head' }) (before ++ take n bytes)
+    → IsBehind (record { order = o; pieces = pieces; left = none; head = take came xs }) before →
+    IsBehind (record { order = o; pieces = pieces'; left = left; head = head' }) (before ++ take n bytes)
 head_ends o pieces none came k n pieces' left head' xs ys bytes before was more zero_left empty says full within there long same b =
     let whole = head_written came k n xs ys bytes full within there long same in
     let size : length (take came xs) + length (take n bytes) ≡ 16 = omega (arith, full, within, there, length-take came xs, length-take n bytes) in
@@ -201,7 +242,8 @@ head_ends o pieces none came k n pieces' left head' xs ys bytes before was more 
 -- and of one with bytes
 pub head_goes_on : (o : Order) (pieces none came k n left : ℕ) (head' xs ys bytes before : List ℕ) → none ≡ 0 → 0 < left → head' ≡ []
     → left ≡ captured o (put_mid came k xs ys) → came + n ≡ 16 → n ≤ length bytes → came ≤ length xs → length (put_mid came k xs ys) ≡ 16 → ys ≡ take n bytes
-    → IsBehind (record { order = o; pieces = pieces; left = none; head = take came xs }) before → IsBehind (record { order = o; pieces = pieces; left = left; head = head' }) (before ++ take n bytes)
+    → IsBehind (record { order = o; pieces = pieces; left = none; head = take came xs }) before →
+    IsBehind (record { order = o; pieces = pieces; left = left; head = head' }) (before ++ take n bytes)
 head_goes_on o pieces none came k n left head' xs ys bytes before was any empty says full within there long same b =
     let whole = head_written came k n xs ys bytes full within there long same in
     let size : length (take came xs) + length (take n bytes) ≡ 16 = omega (arith, full, within, there, length-take came xs, length-take n bytes) in

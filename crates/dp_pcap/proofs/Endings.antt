@@ -56,7 +56,8 @@ facts o u place given bytes (Refused TooLong) (few, head, rest, is, bad) =
     (few, omega arith, rw front bad.0, rw front bad.1)
 facts o u place given bytes (Refused _) s = absurd s.4
 
-pub one_ending : (place given long fraction len second : ℕ) (e e' : Ending) → Facts place given long fraction len second e → Facts place given long fraction len second e' → e ≡ e'
+pub one_ending : (place given long fraction len second : ℕ) (e e' : Ending) → Facts place given long fraction len second e →
+    Facts place given long fraction len second e' → e ≡ e'
 unfolding Facts
 one_ending place given n fraction m second Whole Whole z z' = refl
 one_ending place given n fraction m second Whole (Cut b) z (at', few', any', time', len', short') = absurd (omega arith)
@@ -101,7 +102,8 @@ no_ending place given n fraction m second (Refused BadTime) (less, on, late) few
 no_ending place given n fraction m second (Refused TooLong) (less, on, early, long) few room time most = omega arith
 no_ending place given n fraction m second (Refused _) x few room time most = absurd x
 
-pub taken : (o : Order) (u : TimeUnit) (place given : ℕ) (bytes head more : List ℕ) (packet : PacketRecord) (e : Ending) → IsHead o u packet head → bytes ≡ head ++ (packet.bytes ++ more)
+pub taken : (o : Order) (u : TimeUnit) (place given : ℕ) (bytes head more : List ℕ) (packet : PacketRecord) (e : Ending) → IsHead o u packet head →
+    bytes ≡ head ++ (packet.bytes ++ more)
     → given < 16777216 → Stops o u place given bytes e → ⊥
 taken o u place given bytes head more packet e is split few stops =
     let has : HasHead bytes head (packet.bytes ++ more) = record { size = is.size; split = split } in

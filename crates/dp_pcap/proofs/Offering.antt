@@ -4,7 +4,8 @@ use Rattle.std.proofs.lemmas.List.{drop-drop}
 use Rattle.dp_pcap.specs.Offering.{AreRests, OffersWhole, OffersPart}
 
 -- one rest more
-rests_more : (piece : List ℕ) (from : ℕ) (os : List (List ℕ)) (taken next : ℕ) → AreRests piece from os taken → taken < next → AreRests piece from (os ++ drop taken piece ∷ []) next
+rests_more : (piece : List ℕ) (from : ℕ) (os : List (List ℕ)) (taken next : ℕ) → AreRests piece from os taken → taken < next →
+    AreRests piece from (os ++ drop taken piece ∷ []) next
 rests_more piece from [] taken next is less = (ap (λ n. drop n piece) (sym is), (next, omega (arith, is, less), refl))
 rests_more piece from (o ∷ os) taken next (is, (n, low, more)) less = (is, (n, low, rests_more piece n os taken next more less))
 
@@ -13,13 +14,18 @@ rests_behind : (piece : List ℕ) (k from end : ℕ) (os : List (List ℕ)) → 
 rests_behind piece k from end [] is = ap (λ n. k + n) is
 rests_behind piece k from end (o ∷ os) (is, (n, low, more)) = (is ∙ drop-drop from k piece, (k + n, omega (arith, low), rests_behind piece k n end os more))
 
-pub more_offered : (old mid new : List (List ℕ)) (piece rest : List ℕ) (at n : ℕ) → (os : List (List ℕ)) × (mid ≡ old ++ os) × AreRests piece 0 os at → new ≡ mid ++ rest ∷ [] → rest ≡ drop at piece → 0 < n
+pub more_offered : (old mid new : List (List ℕ)) (piece rest : List ℕ) (at n : ℕ) → (os : List (List ℕ)) × (mid ≡ old ++ os) × AreRests piece 0 os at →
+    new ≡ mid ++ rest ∷ [] → rest ≡ drop at piece → 0 < n
     → (os : List (List ℕ)) × (new ≡ old ++ os) × AreRests piece 0 os (at + n)
-more_offered old mid new piece rest at n (os, is, rests) one same some =
-    (os ++ drop at piece ∷ [], one ∙ (ap (λ r. mid ++ r ∷ []) same ∙ (ap (λ l. l ++ drop at piece ∷ []) is ∙ append_assoc old os (drop at piece ∷ []))), rests_more piece 0 os at (at + n) rests (omega (arith, some)))
+more_offered old mid new piece rest at n (os, is, rests) one same some = (
+  os ++ drop at piece ∷ [],
+  one ∙ (ap (λ r. mid ++ r ∷ []) same ∙ (ap (λ l. l ++ drop at piece ∷ []) is ∙ append_assoc old os (drop at piece ∷ []))),
+  rests_more piece 0 os at (at + n) rests (omega (arith, some)),
+)
 
 -- a piece was offered, of which some bytes were taken, and then the rest
-module _ (old mid new : List (List ℕ)) (piece rest : List ℕ) (n : ℕ) (first : mid ≡ old ++ piece ∷ []) (some : 0 < n) (within : n ≤ length piece) (same : rest ≡ drop n piece) where
+module _ (old mid new : List (List ℕ)) (piece rest : List ℕ) (n : ℕ) (first : mid ≡ old ++ piece ∷ []) (some : 0 < n) (within : n ≤ length piece) (same : rest
+    ≡ drop n piece) where
   behind : (os : List (List ℕ)) (end : ℕ) → AreRests rest 0 os end → AreRests piece 0 (piece ∷ os) (n + end)
   behind os end rests =
       let none : n + 0 ≡ n = omega arith in
@@ -29,14 +35,18 @@ module _ (old mid new : List (List ℕ)) (piece rest : List ℕ) (n : ℕ) (firs
   long = let count = ap length same in omega (arith, count, length-drop n piece, within)
 
   pub then_whole : OffersWhole mid new rest → OffersWhole old new piece
-  then_whole (os, is, rests) =
-      (piece ∷ os, is ∙ (ap (λ l. l ++ os) first ∙ append_assoc old (piece ∷ []) os), subst (AreRests piece 0 (piece ∷ os)) long (behind os (length rest) rests))
+  then_whole (os, is, rests) = (
+    piece ∷ os,
+    is ∙ (ap (λ l. l ++ os) first ∙ append_assoc old (piece ∷ []) os),
+    subst (AreRests piece 0 (piece ∷ os)) long (behind os (length rest) rests),
+  )
 
   pub then_part : OffersPart mid new rest → OffersPart old new piece
   then_part (os, taken, is, less, rests) = (
     piece ∷ os,
     n + taken,
-    is ∙ (ap (λ l. l ++ (os ++ drop taken rest ∷ [])) first ∙ (append_assoc old (piece ∷ []) (os ++ drop taken rest ∷ []) ∙ ap (λ r. old ++ (piece ∷ (os ++ r ∷ []))) (ap (drop taken) same ∙ drop-drop taken n piece))),
+    is ∙ (ap (λ l. l ++ (os ++ drop taken rest ∷ [])) first ∙ (append_assoc old (piece ∷ []) (os ++ drop taken rest ∷ [])
+        ∙ ap (λ r. old ++ (piece ∷ (os ++ r ∷ []))) (ap (drop taken) same ∙ drop-drop taken n piece))),
     omega (arith, less, long),
     behind os taken rests,
   )

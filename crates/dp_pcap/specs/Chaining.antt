@@ -17,10 +17,12 @@ AppendsPart-after a b c xs ys p (n, less, q) =
     (length xs + n, omega (arith, length-append xs ys), rw (take-append-add xs ys n) (Appends-trans a b c xs (take n ys) p q))
 
 -- one more record was written
-pub text-push : (unit : TimeUnit) (records : List PacketRecord) (packet : PacketRecord) → text unit (records ++ packet ∷ []) ≡ text unit records ++ record_text unit packet
+pub text-push : (unit : TimeUnit) (records : List PacketRecord) (packet : PacketRecord) → text unit (records ++ packet ∷ []) ≡ text unit records
+    ++ record_text unit packet
 text-push unit records packet =
     sym (append_assoc (header_text unit) (flat_map (record_text unit) records) (record_text unit packet)
-    ∙ ap (λ l. header_text unit ++ l) (ap (λ l. flat_map (record_text unit) records ++ l) (sym (append-nil (record_text unit packet))) ∙ sym (flat_map-append (record_text unit) records (packet ∷ []))))
+    ∙ ap (λ l. header_text unit ++ l) (ap (λ l. flat_map (record_text unit) records ++ l) (sym (append-nil (record_text unit packet)))
+    ∙ sym (flat_map-append (record_text unit) records (packet ∷ []))))
 
 -- two reads, one after the other
 pub WhereKnown-trans : (a b c : Option (List ℕ)) (P Q S : List ℕ → List ℕ → Type 0) → WhereKnown a b P → WhereKnown b c Q

@@ -1,5 +1,6 @@
 -- A run goes on by one input: what it answers, the turn on it, and the drains of all ports.
-use Rattle.std.proofs.Common.{◌≡◌, ◌≢◌, ℕ, zero, suc, ◌+◌, ◌<◌, ◌≤◌, Bool, true, false, List, [], ◌∷◌, ◌++◌, length, map, take, Option, Some, None, Result, Ok, Err, refl, sym, ◌∙◌, ap, subst, arith, append-nil, ◌⊎◌, inl, inr}
+use Rattle.std.proofs.Common.{◌≡◌, ◌≢◌, ℕ, zero, suc, ◌+◌, ◌<◌, ◌≤◌, Bool, true, false, List, [], ◌∷◌, ◌++◌, length, map, take, Option, Some, None, Result}
+use Rattle.std.proofs.Common.{Ok, Err, refl, sym, ◌∙◌, ap, subst, arith, append-nil, ◌⊎◌, inl, inr}
 use Rattle.std.specs.Prelude.{slice_get, slice_set, nat_lt, flat_map, option_map, if◌then◌else◌}
 use Rattle.std.specs.Option.{option_map_or}
 use Rattle.std.specs.Io.KnownBytes.{Appends}
@@ -26,14 +27,17 @@ use Rattle.dp_pipe.specs.declared.forwarding.RunCause.{RunCause}
 use Rattle.dp_pipe.specs.declared.forwarding.RunCause.TheVariants.{In, Out}
 use Rattle.dp_engine.specs.Drains.{captured}
 use Rattle.dp_engine.specs.Engines.{EngineState}
-use Rattle.dp_pipe.specs.Forwarding.{Input, records_in, timed, arrivals_of, asked, AnswersSo, AskedUntil, capture_of, capture_at, records_text, AreWritten, drained_at, DrainedFirst, DrainedAll, DrainsStopped, TakesTurn, TurnsOn, ReadsTurn, HasReadSo, IsGoingOn, Stands, AllStand, Along, Follows, Advances, Stops, HasRun}
+use Rattle.dp_pipe.specs.Forwarding.{Input, records_in, timed, arrivals_of, asked, AnswersSo, AskedUntil, capture_of, capture_at, records_text, AreWritten}
+use Rattle.dp_pipe.specs.Forwarding.{drained_at, DrainedFirst, DrainedAll, DrainsStopped, TakesTurn, TurnsOn, ReadsTurn, HasReadSo, IsGoingOn, Stands}
+use Rattle.dp_pipe.specs.Forwarding.{AllStand, Along, Follows, Advances, Stops, HasRun}
 use Rattle.dp_pipe.proofs.Forwarded.{split}
 use Rattle.dp_pipe.proofs.Interleaving.{AreFew, interleaved_more, arriving}
 use Rattle.dp_pipe.proofs.RunOn.{run_on, joined_at, arrival}
 
 -- ---- what was written
 
-pub joined_here : {A : Type 0} (xs ys : List (List A)) (q : ℕ) → q < length xs → q < length ys → (x : List A) × (y : List A) × (slice_get xs q ≡ Some x) × (slice_get ys q ≡ Some y) × (slice_get (joined xs ys) q ≡ Some (x ++ y))
+pub joined_here : {A : Type 0} (xs ys : List (List A)) (q : ℕ) → q < length xs → q < length ys → (x : List A) × (y : List A) × (slice_get xs q ≡ Some x)
+    × (slice_get ys q ≡ Some y) × (slice_get (joined xs ys) q ≡ Some (x ++ y))
 joined_here [] ys q lt lt' = absurd (omega (arith, lt))
 joined_here (x ∷ xs) [] q lt lt' = absurd (omega (arith, lt'))
 joined_here (x ∷ xs) (y ∷ ys) zero lt lt' = (x, y, refl, refl, refl)
@@ -44,9 +48,11 @@ joined_many [] ys e = refl
 joined_many (x ∷ xs) [] e = absurd (omega (arith, e))
 joined_many (x ∷ xs) (y ∷ ys) e = ap suc (joined_many xs ys (omega (arith, e)))
 
-pub texts_append : (unit : TimeUnit) (xs ys : List PacketRecord) → flat_map (record_text unit) (xs ++ ys) ≡ flat_map (record_text unit) xs ++ flat_map (record_text unit) ys
+pub texts_append : (unit : TimeUnit) (xs ys : List PacketRecord) → flat_map (record_text unit) (xs ++ ys) ≡ flat_map (record_text unit) xs
+    ++ flat_map (record_text unit) ys
 texts_append unit [] ys = refl
-texts_append unit (x ∷ xs) ys = ap (λ l. record_text unit x ++ l) (texts_append unit xs ys) ∙ sym (append_assoc (record_text unit x) (flat_map (record_text unit) xs) (flat_map (record_text unit) ys))
+texts_append unit (x ∷ xs) ys = ap (λ l. record_text unit x ++ l) (texts_append unit xs ys)
+    ∙ sym (append_assoc (record_text unit x) (flat_map (record_text unit) xs) (flat_map (record_text unit) ys))
 
 pub mid_of : {A : Type 0} (xs : List A) (q : ℕ) → q < length xs → (x : A) × (slice_get xs q ≡ Some x)
 mid_of [] q less = absurd (omega (arith, less))
@@ -63,7 +69,8 @@ appends_then (Some a) (Some b) (Some c) xs ys p q = q ∙ ap (λ l. l ++ ys) p �
 pub wrote_more : (unit : TimeUnit) (time : Time) (w : World) (n : ℕ) (captures : List (List (Time × List ℕ))) (held mids holds : List (Option (List ℕ)))
     → length captures ≡ n → length (records_at time w) ≡ n → length held ≡ n → length mids ≡ n
     → AreWritten unit held mids (capture_at captures)
-    → ((q : ℕ) (old new : Option (List ℕ)) → slice_get mids q ≡ Some old → slice_get holds q ≡ Some new → Appends old new (if nat_lt q n then records_text unit (drained_at time w q) else []))
+    → ((q : ℕ) (old new : Option (List ℕ)) → slice_get mids q ≡ Some old → slice_get holds q ≡ Some new →
+    Appends old new (if nat_lt q n then records_text unit (drained_at time w q) else []))
     → AreWritten unit held holds (capture_at (joined captures (records_at time w)))
 wrote_more unit time w n captures held mids holds long boxes many mid_many before now q old new a b =
     let q_in : q < n = omega (arith, slice_get_within held q old a, many) in
@@ -94,9 +101,11 @@ set_itself (y ∷ xs) zero x e = ap (λ z. z ∷ xs) (sym (same_Some y x e))
 set_itself (y ∷ xs) (suc p) x e = ap (λ l. y ∷ l) (set_itself xs p x e)
 
 -- an input that ended leaves the records as they are
-pub arrivals_ended : (inputs : List Input) (p : ℕ) (i : Input) (state : InputState) → slice_get inputs p ≡ Some i → arrivals_of (slice_set inputs p (ended state i)) ≡ arrivals_of inputs
+pub arrivals_ended : (inputs : List Input) (p : ℕ) (i : Input) (state : InputState) → slice_get inputs p ≡ Some i →
+    arrivals_of (slice_set inputs p (ended state i)) ≡ arrivals_of inputs
 arrivals_ended inputs p i state here =
-    ap interleaved (records_set inputs p (ended state i) ∙ set_itself (map records_in inputs) p (records_in i) (slice_get-map records_in inputs p ∙ ap (option_map records_in) here))
+    ap interleaved (records_set inputs p (ended state i) ∙ set_itself (map records_in inputs) p (records_in i) (slice_get-map records_in inputs p
+    ∙ ap (option_map records_in) here))
 
 -- so few records each input has that was asked in turn
 given_few : (round port q : ℕ) (state : InputState) (count : ℕ) → AnswersSo state count (asked round port q) → count ≤ asked round port q
@@ -112,7 +121,8 @@ asked_most round port q = go (nat_lt q port)
     go false = omega arith
 
 -- a record of the input that comes next stands behind all others
-pub arrivals_more : (inputs : List Input) (round p : ℕ) (i : Input) (r : PacketRecord) → AskedUntil round p inputs → slice_get inputs p ≡ Some i → i.state ≡ Open
+pub arrivals_more : (inputs : List Input) (round p : ℕ) (i : Input) (r : PacketRecord) → AskedUntil round p inputs → slice_get inputs p ≡ Some i →
+    i.state ≡ Open
     → arrivals_of (slice_set inputs p (with_record r i)) ≡ arrivals_of inputs ++ arrival p r.time r.bytes ∷ []
 arrivals_more inputs round p i r order here goes =
     let xs = records_in i in
@@ -122,19 +132,24 @@ arrivals_more inputs round p i r order here goes =
     let long : length xs ≡ round = length-map i.records timed ∙ count in
     let more : records_in (with_record r i) ≡ xs ++ timed r ∷ [] = map-append timed i.records (r ∷ []) in
     let few : AreFew (length xs + 1) (map records_in inputs) = λ q ys e. few_at q ys e (input_of inputs q ys e) long in
-    let behind : (q : ℕ) (ys : List (Time × List ℕ)) → p < q → slice_get (map records_in inputs) q ≡ Some ys → length ys ≤ length xs = λ q ys lt e. behind_at q ys lt (input_of inputs q ys e) long in
-    ap interleaved (records_set inputs p (with_record r i) ∙ ap (slice_set (map records_in inputs) p) more) ∙ interleaved_more (map records_in inputs) p xs (timed r) is few behind
+    let behind : (q : ℕ) (ys : List (Time × List ℕ)) → p < q → slice_get (map records_in inputs) q ≡ Some ys → length ys ≤ length xs =
+    λ q ys lt e. behind_at q ys lt (input_of inputs q ys e) long in
+    ap interleaved (records_set inputs p (with_record r i) ∙ ap (slice_set (map records_in inputs) p) more)
+    ∙ interleaved_more (map records_in inputs) p xs (timed r) is few behind
   where
-    input_of : (inputs : List Input) (q : ℕ) (ys : List (Time × List ℕ)) → slice_get (map records_in inputs) q ≡ Some ys → (j : Input) × (slice_get inputs q ≡ Some j) × (ys ≡ records_in j)
+    input_of : (inputs : List Input) (q : ℕ) (ys : List (Time × List ℕ)) → slice_get (map records_in inputs) q ≡ Some ys →
+        (j : Input) × (slice_get inputs q ≡ Some j) × (ys ≡ records_in j)
     input_of [] q ys e = cc
     input_of (x ∷ inputs) zero ys e = (x, refl, sym (same_Some _ _ e))
     input_of (x ∷ inputs) (suc q) ys e = input_of inputs q ys e
 
-    few_at : (q : ℕ) (ys : List (Time × List ℕ)) → slice_get (map records_in inputs) q ≡ Some ys → ((j : Input) × (slice_get inputs q ≡ Some j) × (ys ≡ records_in j)) → length (records_in i) ≡ round → length ys ≤ length (records_in i) + 1
+    few_at : (q : ℕ) (ys : List (Time × List ℕ)) → slice_get (map records_in inputs) q ≡ Some ys →
+        ((j : Input) × (slice_get inputs q ≡ Some j) × (ys ≡ records_in j)) → length (records_in i) ≡ round → length ys ≤ length (records_in i) + 1
     few_at q ys e (j, at, is) long =
         omega (arith, ap length is, length-map j.records timed, given_few round p q j.state (length j.records) (order q j at), asked_most round p q, long)
 
-    behind_at : (q : ℕ) (ys : List (Time × List ℕ)) → p < q → ((j : Input) × (slice_get inputs q ≡ Some j) × (ys ≡ records_in j)) → length (records_in i) ≡ round → length ys ≤ length (records_in i)
+    behind_at : (q : ℕ) (ys : List (Time × List ℕ)) → p < q → ((j : Input) × (slice_get inputs q ≡ Some j) × (ys ≡ records_in j)) →
+        length (records_in i) ≡ round → length ys ≤ length (records_in i)
     behind_at q ys lt (j, at, is) long =
         let none : asked round p q ≡ round = ap (λ b. if b then round + 1 else round) (le-ltb q p (omega (arith, lt))) in
         omega (arith, ap length is, length-map j.records timed, given_few round p q j.state (length j.records) (order q j at), none, long)
@@ -152,7 +167,8 @@ asked_next round port q d = ap (λ b. if b then round + 1 else round) (below_nex
         go false e = let le = ltb-false q n e in le-ltb q (n + 1) (omega (arith, le, d)) ∙ sym e
 
 -- the input that was asked answered, and the next one comes
-pub order_next : (inputs : List Input) (round port : ℕ) (i : Input) → AskedUntil round port inputs → AnswersSo i.state (length i.records) (round + 1) → AskedUntil round (port + 1) (slice_set inputs port i)
+pub order_next : (inputs : List Input) (round port : ℕ) (i : Input) → AskedUntil round port inputs → AnswersSo i.state (length i.records) (round + 1) →
+    AskedUntil round (port + 1) (slice_set inputs port i)
 order_next inputs round port i order answers q j at = go (split q port)
   where
     here : (xs : List Input) (p : ℕ) (x : Input) (y : Input) → slice_get (slice_set xs p x) p ≡ Some y → x ≡ y
@@ -177,7 +193,8 @@ order_round inputs round n many order q i at =
     rw b (rw a at (order q i at))
 
 -- an input that has ended is not asked
-pub order_ended : (inputs : List Input) (round port : ℕ) (i : Input) → slice_get inputs port ≡ Some i → (i.state ≡ Open → ⊥) → AskedUntil round port inputs → AskedUntil round (port + 1) inputs
+pub order_ended : (inputs : List Input) (round port : ℕ) (i : Input) → slice_get inputs port ≡ Some i → (i.state ≡ Open → ⊥) → AskedUntil round port inputs →
+    AskedUntil round (port + 1) inputs
 order_ended inputs round port i here over order q j at = go (split q port)
   where
     more : (state : InputState) (count wanted : ℕ) → (state ≡ Open → ⊥) → AnswersSo state count wanted → AnswersSo state count (wanted + 1)
@@ -190,5 +207,6 @@ order_ended inputs round port i here over order q j at = go (split q port)
         let is : i ≡ j = same_Some i j (sym here ∙ ap (slice_get inputs) (sym same) ∙ at) in
         let wanted : asked round (port + 1) q ≡ round + 1 = ap (λ b. if b then round + 1 else round) (lt-ltb q (port + 1) (omega (arith, same))) in
         let before : asked round port port ≡ round = ap (λ b. if b then round + 1 else round) (le-ltb port port (omega arith)) in
-        rw wanted (subst (λ (x : Input). AnswersSo x.state (length x.records) (round + 1)) is (more i.state (length i.records) round over (rw before at (order port i here))))
+        rw wanted (subst (λ (x : Input). AnswersSo x.state (length x.records) (round + 1)) is
+        (more i.state (length i.records) round over (rw before at (order port i here))))
     go (inr other) = rw (asked_next round port q other) (order q j at)

@@ -17,7 +17,8 @@ digit_at [] i lt h = absurd (omega arith)
 digit_at (d ∷ ds) zero lt h = digit_range d ((and_parts (is_ascii_digit d) (list_all is_ascii_digit ds) h).0)
 digit_at (d ∷ ds) (suc i) lt h = digit_at ds i (omega arith) ((and_parts (is_ascii_digit d) (list_all is_ascii_digit ds) h).1)
 
-pub one_more : (ds : List ℕ) (i value : ℕ) → i < length ds → decimal_after value (drop i ds) ≡ decimal_after (value * 10 + (get_or ds i 0 - 48)) (drop (i + 1) ds)
+pub one_more : (ds : List ℕ) (i value : ℕ) → i < length ds → decimal_after value (drop i ds)
+    ≡ decimal_after (value * 10 + (get_or ds i 0 - 48)) (drop (i + 1) ds)
 one_more ds i value lt = rw (drop_more ds i 0 lt) refl
 
 -- a digit more makes at most ten times so much

@@ -1,5 +1,6 @@
 -- One more table of an array, in a loop that reads them.
-use Rattle.std.proofs.Common.{◌≡◌, ℕ, ◌+◌, ◌<◌, ◌≤◌, List, [], ◌∷◌, ◌++◌, length, get_or, drop, Option, Some, None, Result, Ok, Err, refl, sym, ap, ◌∙◌, append_assoc, arith}
+use Rattle.std.proofs.Common.{◌≡◌, ℕ, ◌+◌, ◌<◌, ◌≤◌, List, [], ◌∷◌, ◌++◌, length, get_or, drop, Option, Some, None, Result, Ok, Err, refl, sym, ap, ◌∙◌}
+use Rattle.std.proofs.Common.{append_assoc, arith}
 use Rattle.std.specs.Option.{option_and_then}
 use Rattle.std.proofs.lemmas.List.{append-nil, drop_more, length-drop}
 use Rattle.toml.specs.Data.{Members, as_table}
@@ -18,11 +19,13 @@ pub prepend_none : {A E : Type 0} (read : Result (List A) E) → prepend [] read
 prepend_none (Ok xs) = refl
 prepend_none (Err e) = refl
 
-regroup : {A E : Type 0} (front : List A) (x : A) (read : Result (List A) E) → prepend front (and_then read (λ xs. Ok (x ∷ xs))) ≡ prepend (front ++ x ∷ []) read
+regroup : {A E : Type 0} (front : List A) (x : A) (read : Result (List A) E) → prepend front (and_then read (λ xs. Ok (x ∷ xs)))
+    ≡ prepend (front ++ x ∷ []) read
 regroup {A = A} front x (Ok xs) = ap (λ (ys : List A). Ok ys) (sym (append_assoc front (x ∷ []) xs))
 regroup front x (Err e) = refl
 
-pub goes_on : {A : Type 0} (kind : Part) (read : Members → Option A) (vs : List Value) (i : ℕ) (v : Value) (front : List A) (x : A) (total : Result (List A) Bad)
+pub goes_on : {A : Type 0} (kind : Part) (read : Members → Option A) (vs : List Value) (i : ℕ) (v : Value) (front : List A) (x : A)
+    (total : Result (List A) Bad)
     → i < length vs → get_or vs i v ≡ v → option_and_then read (as_table (view v)) ≡ Some x
     → prepend front (each kind read i (values (drop i vs))) ≡ total → prepend (front ++ x ∷ []) (each kind read (i + 1) (values (drop (i + 1) vs))) ≡ total
 goes_on kind read vs i v front x total lt here e so_far =
@@ -37,7 +40,8 @@ stops kind read vs i v front total lt here e so_far =
     let one : prepend front (each kind read i (values (drop i vs))) ≡ Err (kind, i) = rw (drop_more vs i v lt, here, e) refl in
     sym so_far ∙ one
 
-all_over : {A : Type 0} (kind : Part) (read : Members → Option A) (vs : List Value) (i : ℕ) (front : List A) → length vs ≡ 0 → prepend front (each kind read i (values vs)) ≡ Ok front
+all_over : {A : Type 0} (kind : Part) (read : Members → Option A) (vs : List Value) (i : ℕ) (front : List A) → length vs ≡ 0 →
+    prepend front (each kind read i (values vs)) ≡ Ok front
 all_over {A = A} kind read [] i front none = ap (λ (ys : List A). Ok ys) (append-nil front)
 all_over kind read (v ∷ vs) i front none = absurd (omega arith)
 

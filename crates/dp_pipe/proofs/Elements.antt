@@ -14,13 +14,15 @@ pub listed_items : (ds : List Data) → listed (items_of ds) ≡ ds
 listed_items [] = refl
 listed_items (d ∷ ds) = ap (λ (rest : List Data). d ∷ rest) (listed_items ds)
 
-pub all_elements : (kind : Data → Bool) (d : Data) (vs : List Value) (b : Bool) → is_array d ≡ true → map view vs ≡ elements_of d → b ≡ list_all (λ v. kind (view v)) vs → b ≡ is_array_of kind d
+pub all_elements : (kind : Data → Bool) (d : Data) (vs : List Value) (b : Bool) → is_array d ≡ true → map view vs ≡ elements_of d →
+    b ≡ list_all (λ v. kind (view v)) vs → b ≡ is_array_of kind d
 all_elements kind d vs b array same e = e ∙ sym (list_all-map kind view vs) ∙ rw (same, array) refl
 
 any_text : (key : List ℕ) (keys : List (Bor (List ℕ))) → list_any (λ known. bytes_eq known.now key) keys ≡ is_among (map (λ known. known.now) keys) key
 any_text key [] = refl
 any_text key (k ∷ keys) = ap (λ (b : Bool). bytes_eq k.now key || b) (any_text key keys)
 
-pub all_keys : (keys : List (Bor (List ℕ))) (es : List Entry) → list_all (λ key. list_any (λ known. bytes_eq known.now (string_bytes key)) keys) (keys_of es) ≡ has_only (map (λ known. known.now) keys) (members_view es)
+pub all_keys : (keys : List (Bor (List ℕ))) (es : List Entry) → list_all (λ key. list_any (λ known. bytes_eq known.now (string_bytes key)) keys) (keys_of es)
+    ≡ has_only (map (λ known. known.now) keys) (members_view es)
 all_keys keys [] = refl
 all_keys keys (e ∷ es) = rw (any_text (string_bytes e.0) keys, all_keys keys es) refl

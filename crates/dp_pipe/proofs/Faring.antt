@@ -1,5 +1,6 @@
 -- Devices that are called one after the other, and one that fails.
-use Rattle.std.proofs.Common.{◌≡◌, ◌≢◌, ◌⊎◌, inl, inr, ◌↔◌, ℕ, ◌+◌, ◌<◌, ◌≤◌, ◌||◌, List, Option, Some, Bool, true, false, Result, Ok, Err, length, refl, ap, sym, ◌∙◌, subst, arith}
+use Rattle.std.proofs.Common.{◌≡◌, ◌≢◌, ◌⊎◌, inl, inr, ◌↔◌, ℕ, ◌+◌, ◌<◌, ◌≤◌, ◌||◌, List, Option, Some, Bool, true, false, Result, Ok, Err, length, refl, ap}
+use Rattle.std.proofs.Common.{sym, ◌∙◌, subst, arith}
 use Rattle.std.specs.Prelude.{slice_get, slice_set, ◌==◌, if◌then◌else◌, IsTrue, IsOk, IsErrOf}
 use Rattle.std.proofs.lemmas.Bool.{eq-eqb, ne_eqb}
 use Rattle.std.proofs.lemmas.Option.{same_Some, slice_get_within}
@@ -24,11 +25,13 @@ pub fared_same : {D : Type 0} (is_broken : D → Bool) (failures : D → ℕ) (d
 fared_same is_broken failures d = record { broken = refl; count = none_more (failures d) }
 
 -- it was sound and is
-pub fared_sound : {D : Type 0} (is_broken : D → Bool) (failures : D → ℕ) (d d' : D) → is_broken d ≡ false → is_broken d' ≡ false → failures d' ≡ failures d → Fared is_broken failures false d d'
+pub fared_sound : {D : Type 0} (is_broken : D → Bool) (failures : D → ℕ) (d d' : D) → is_broken d ≡ false → is_broken d' ≡ false → failures d' ≡ failures d →
+    Fared is_broken failures false d d'
 fared_sound is_broken failures d d' was is same = record { broken = is ∙ sym was; count = same ∙ none_more (failures d) }
 
 -- it is sound; and what is broken stays so
-pub fared_well : {D : Type 0} (is_broken : D → Bool) (failures : D → ℕ) (d d' : D) → (IsTrue (is_broken d) → IsTrue (is_broken d')) → is_broken d' ≡ false → failures d' ≡ failures d
+pub fared_well : {D : Type 0} (is_broken : D → Bool) (failures : D → ℕ) (d d' : D) → (IsTrue (is_broken d) → IsTrue (is_broken d')) → is_broken d' ≡ false →
+    failures d' ≡ failures d
     → Fared is_broken failures false d d'
 fared_well is_broken failures d d' stays sound same = fared_sound is_broken failures d d' (was (is_broken d) stays) sound same
   where
@@ -37,15 +40,19 @@ fared_well is_broken failures d d' stays sound same = fared_sound is_broken fail
     was false kept = refl
 
 -- a call of it failed
-pub fared_badly : {D : Type 0} (is_broken : D → Bool) (failures : D → ℕ) (d d' : D) → is_broken d' ≡ true → failures d' ≡ failures d + 1 → Fared is_broken failures true d d'
+pub fared_badly : {D : Type 0} (is_broken : D → Bool) (failures : D → ℕ) (d d' : D) → is_broken d' ≡ true → failures d' ≡ failures d + 1 →
+    Fared is_broken failures true d d'
 fared_badly is_broken failures d d' is more = record { broken = is; count = more }
 
 -- so it did at its own place
-pub failed_here : {D : Type 0} (is_broken : D → Bool) (failures : D → ℕ) (n : ℕ) (d d' : D) → is_broken d' ≡ true → failures d' ≡ failures d + 1 → Fared is_broken failures (n == n) d d'
-failed_here is_broken failures n d d' is more = subst (λ b. Fared is_broken failures b d d') (sym (eq-eqb n n refl)) (fared_badly is_broken failures d d' is more)
+pub failed_here : {D : Type 0} (is_broken : D → Bool) (failures : D → ℕ) (n : ℕ) (d d' : D) → is_broken d' ≡ true → failures d' ≡ failures d + 1 →
+    Fared is_broken failures (n == n) d d'
+failed_here is_broken failures n d d' is more = subst (λ b. Fared is_broken failures b d d') (sym (eq-eqb n n refl))
+    (fared_badly is_broken failures d d' is more)
 
 -- it failed in neither of two, or in the second
-pub fared_then : {D : Type 0} (is_broken : D → Bool) (failures : D → ℕ) (failed : Bool) (a b c : D) → Fared is_broken failures false a b → Fared is_broken failures failed b c → Fared is_broken failures failed a c
+pub fared_then : {D : Type 0} (is_broken : D → Bool) (failures : D → ℕ) (failed : Bool) (a b c : D) → Fared is_broken failures false a b →
+    Fared is_broken failures failed b c → Fared is_broken failures failed a c
 fared_then is_broken failures failed a b c first next = record {
   broken = next.broken ∙ ap (λ x. failed || x) first.broken;
   count = next.count ∙ ap (λ n. n + (if failed then 1 else 0)) (first.count ∙ sym (none_more (failures a)));
@@ -53,7 +60,8 @@ fared_then is_broken failures failed a b c first next = record {
 
 -- ---- all devices
 
-pub all_same : {D : Type 0} (is_broken : D → Bool) (failures : D → ℕ) (failed : ℕ → Bool) (ds : List D) → ((q : ℕ) → failed q ≡ false) → AllFared is_broken failures failed ds ds
+pub all_same : {D : Type 0} (is_broken : D → Bool) (failures : D → ℕ) (failed : ℕ → Bool) (ds : List D) → ((q : ℕ) → failed q ≡ false) →
+    AllFared is_broken failures failed ds ds
 all_same is_broken failures failed ds none q d d' here there =
     let is : d ≡ d' = same_Some d d' (sym here ∙ there) in
     subst (λ x. Fared is_broken failures (failed q) d x) is (subst (λ b. Fared is_broken failures b d d) (sym (none q)) (fared_same is_broken failures d))
@@ -125,7 +133,8 @@ no_writer olds news (Out port) is q = absurd is
 no_writer olds news Memory is q = refl
 no_writer olds news NoRoom is q = refl
 
-pub no_reader : (unit : TimeUnit) (held holds : List (Option (List ℕ))) (cause : RunCause) → IsWriteCause unit held holds cause → (q : ℕ) → is_read_of cause q ≡ false
+pub no_reader : (unit : TimeUnit) (held holds : List (Option (List ℕ))) (cause : RunCause) → IsWriteCause unit held holds cause →
+    (q : ℕ) → is_read_of cause q ≡ false
 no_reader unit held holds (In port error) is q = absurd is
 no_reader unit held holds (Out port) is q = refl
 no_reader unit held holds Memory is q = refl
@@ -134,7 +143,8 @@ no_reader unit held holds NoRoom is q = refl
 -- ---- a reader that is asked
 
 -- it was at fault, or failed
-pub refused : {D A : Type 0} (is_broken : D → Bool) (failures : D → ℕ) (answer : Result A PcapError) (error : PcapError) (port : ℕ) (d d' : D) → answer ≡ Err error
+pub refused : {D A : Type 0} (is_broken : D → Bool) (failures : D → ℕ) (answer : Result A PcapError) (error : PcapError) (port : ℕ) (d d' : D) →
+    answer ≡ Err error
     → (IsErrOf answer Read ↔ IsTrue (is_broken d')) → (IsTrue (is_broken d) → IsTrue (is_broken d')) → failures d' ≡ failures d + failed_pulls answer
     → Fared is_broken failures (is_read_of (In port error) port) d d'
 refused {D} {A} is_broken failures answer error port d d' err failed stays count = go error err

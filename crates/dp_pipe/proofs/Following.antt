@@ -13,21 +13,26 @@ use Rattle.dp_engine.specs.Engines.{EngineState}
 use Rattle.dp_pipe.specs.declared.forwarding.RunCause.TheVariants.{In, Out}
 use Rattle.dp_pipe.specs.Forwarding.{Follows, DrainedAll, DrainsStopped}
 
-pub follows_drained : (port : ℕ) (unit : TimeUnit) (e e' : EngineState) (state : InputState) (held holds : List (Option (List ℕ))) (r : Result Next PcapError) (time : Time) (len : ℕ)
+pub follows_drained : (port : ℕ) (unit : TimeUnit) (e e' : EngineState) (state : InputState) (held holds : List (Option (List ℕ))) (r : Result Next PcapError)
+    (time : Time) (len : ℕ)
     → r ≡ Ok (Record time len) → state ≡ Open → DrainedAll unit time e e' held holds → Follows port unit e e' state held holds r (Ok tt)
 follows_drained port unit e e' state held holds r time len is goes all = rw is (goes, all)
 
-pub follows_stopped : (port : ℕ) (unit : TimeUnit) (e e' : EngineState) (state : InputState) (held holds : List (Option (List ℕ))) (r : Result Next PcapError) (time : Time) (len q : ℕ)
+pub follows_stopped : (port : ℕ) (unit : TimeUnit) (e e' : EngineState) (state : InputState) (held holds : List (Option (List ℕ))) (r : Result Next PcapError)
+    (time : Time) (len q : ℕ)
     → r ≡ Ok (Record time len) → state ≡ Open → DrainsStopped unit time e e' held holds q → Follows port unit e e' state held holds r (Err (Out q))
 follows_stopped port unit e e' state held holds r time len q is goes stops = rw is (goes, q, refl, stops)
 
-pub follows_end : (port : ℕ) (unit : TimeUnit) (e : EngineState) (held : List (Option (List ℕ))) (r : Result Next PcapError) → r ≡ Ok End → Follows port unit e e Whole held held r (Ok tt)
+pub follows_end : (port : ℕ) (unit : TimeUnit) (e : EngineState) (held : List (Option (List ℕ))) (r : Result Next PcapError) → r ≡ Ok End →
+    Follows port unit e e Whole held held r (Ok tt)
 follows_end port unit e held r is = rw is (refl, refl, refl, refl)
 
-pub follows_cut : (port : ℕ) (unit : TimeUnit) (e : EngineState) (held : List (Option (List ℕ))) (r : Result Next PcapError) (byte : ℕ) → r ≡ Ok (next.Cut byte) → Follows port unit e e (Cut byte) held held r (Ok tt)
+pub follows_cut : (port : ℕ) (unit : TimeUnit) (e : EngineState) (held : List (Option (List ℕ))) (r : Result Next PcapError) (byte : ℕ) →
+    r ≡ Ok (next.Cut byte) → Follows port unit e e (Cut byte) held held r (Ok tt)
 follows_cut port unit e held r byte is = rw is (refl, refl, refl, refl)
 
-pub follows_error : (port : ℕ) (unit : TimeUnit) (e : EngineState) (state : InputState) (held : List (Option (List ℕ))) (r : Result Next PcapError) (error : PcapError) → r ≡ Err error → state ≡ Open → Follows port unit e e state held held r (Err (In port error))
+pub follows_error : (port : ℕ) (unit : TimeUnit) (e : EngineState) (state : InputState) (held : List (Option (List ℕ))) (r : Result Next PcapError)
+    (error : PcapError) → r ≡ Err error → state ≡ Open → Follows port unit e e state held held r (Err (In port error))
 follows_error port unit e state held r error is goes = rw is (goes, refl, refl, refl)
 
 pub drained_ok : {A E : Type 0} (r : Result A E) {x : A} (P : Type 0) → r ≡ Ok x → OnOk r P → P

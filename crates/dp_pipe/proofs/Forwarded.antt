@@ -1,5 +1,6 @@
 -- The drains of all ports, one after the other.
-use Rattle.std.proofs.Common.{◌≡◌, ◌≢◌, ℕ, zero, suc, ◌+◌, ◌<◌, ◌≤◌, Bool, true, false, List, [], ◌∷◌, ◌++◌, length, map, Option, Some, None, refl, sym, ◌∙◌, ap, subst, arith, append-nil, ◌⊎◌, inl, inr}
+use Rattle.std.proofs.Common.{◌≡◌, ◌≢◌, ℕ, zero, suc, ◌+◌, ◌<◌, ◌≤◌, Bool, true, false, List, [], ◌∷◌, ◌++◌, length, map, Option, Some, None, refl, sym, ◌∙◌}
+use Rattle.std.proofs.Common.{ap, subst, arith, append-nil, ◌⊎◌, inl, inr}
 use Rattle.std.specs.Prelude.{slice_get, slice_set, slice_index_or, nat_lt, flat_map, option_map, if◌then◌else◌}
 use Rattle.std.specs.Io.KnownBytes.{Appends}
 use Rattle.std.specs.List.{AllByRecursion}
@@ -37,7 +38,8 @@ emptied_same (suc n) [] = refl
 emptied_same (suc n) (packets ∷ lists) = emptied_same n lists
 
 -- what a port's drain writes does not rest on those of the ports before it
-pub records_same : (time : Time) (w : World) (n : ℕ) → slice_get (records_at time (record w { outboxes = emptied n w.outboxes })) n ≡ slice_get (records_at time w) n
+pub records_same : (time : Time) (w : World) (n : ℕ) → slice_get (records_at time (record w { outboxes = emptied n w.outboxes })) n
+    ≡ slice_get (records_at time w) n
 records_same time w n =
     let f : List Packet → List (Time × List ℕ) = λ packets. map (λ bytes. (time, bytes)) (map (packet_bytes w.buffers) packets) in
     slice_get-map f (emptied n w.outboxes) n ∙ ap (option_map f) (emptied_same n w.outboxes) ∙ sym (slice_get-map f w.outboxes n)
@@ -109,12 +111,14 @@ drained_none unit time e held = record {
 pub record DrainsNext (n : ℕ) (unit : TimeUnit) (time : Time) (e1 e2 : EngineState) (mids holds : List (Option (List ℕ))) : Type 0 where
   pub records : List (Time × List ℕ)
   pub records_is : slice_get (records_at time e1.world) n ≡ Some records
-  pub own : (old new : Option (List ℕ)) → slice_get mids n ≡ Some old → slice_get holds n ≡ Some new → Appends old new (records_text unit (map captured records))
+  pub own : (old new : Option (List ℕ)) → slice_get mids n ≡ Some old → slice_get holds n ≡ Some new →
+      Appends old new (records_text unit (map captured records))
   pub others : (q : ℕ) → q ≢ n → slice_get holds q ≡ slice_get mids q
   pub is : e2 ≡ drained n (length records) e1
 
 pub drained_next : (n : ℕ) (unit : TimeUnit) (time : Time) (e e1 e2 : EngineState) (held mids holds : List (Option (List ℕ)))
-    → n < length e.tallies → length mids ≡ length held → DrainedFirst n unit time e e1 held mids → DrainsNext n unit time e1 e2 mids holds → DrainedFirst (suc n) unit time e e2 held holds
+    → n < length e.tallies → length mids ≡ length held → DrainedFirst n unit time e e1 held mids → DrainsNext n unit time e1 e2 mids holds →
+    DrainedFirst (suc n) unit time e e2 held holds
 drained_next n unit time e e1 e2 held mids holds lt many first next =
     let world = ap (λ (x : EngineState). x.world) first.is in
     let at_time : slice_get (records_at time e.world) n ≡ Some next.records =
@@ -124,7 +128,8 @@ drained_next n unit time e e1 e2 held mids holds lt many first next =
     record {
       wrote = λ q old new a b. wrote q old new a b (split q n) here;
       is = is_next world;
-      each = ap (λ (x : EngineState). length x.tallies) next.is ∙ long e1.tallies n (record (tallies_at e1.tallies n) { sent = (tallies_at e1.tallies n).sent + length next.records }) ∙ first.each;
+      each = ap (λ (x : EngineState). length x.tallies) next.is ∙ long e1.tallies n
+          (record (tallies_at e1.tallies n) { sent = (tallies_at e1.tallies n).sent + length next.records }) ∙ first.each;
       tallies = λ q less. tallied q less (split q n) count;
     }
   where
@@ -152,25 +157,37 @@ drained_next n unit time e e1 e2 held mids holds lt many first next =
         let after : Appends old new (records_text unit (drained_at time e.world n)) = rw here (appends_on old mid new _ before (next.own mid new m b')) in
         subst (λ x. Appends old new (if nat_lt x (suc n) then records_text unit (drained_at time e.world x) else [])) (sym same) (rw (below_next n) after)
 
-    is_next : e1.world ≡ record e.world { outboxes = emptied n e.world.outboxes } → e2 ≡ record e { world = record e.world { outboxes = emptied (suc n) e.world.outboxes }; tallies = e2.tallies }
+    is_next : e1.world ≡ record e.world { outboxes = emptied n e.world.outboxes } →
+        e2 ≡ record e { world = record e.world { outboxes = emptied (suc n) e.world.outboxes }; tallies = e2.tallies }
     is_next world =
         let a : e2 ≡ record e1 { world = record e1.world { outboxes = slice_set e1.world.outboxes n [] }; tallies = e2.tallies } =
-        subst (λ (x : EngineState). x ≡ record e1 { world = record e1.world { outboxes = slice_set e1.world.outboxes n [] }; tallies = x.tallies }) (sym next.is) refl in
-        let b : record e1 { world = record e1.world { outboxes = slice_set e1.world.outboxes n [] }; tallies = e2.tallies } ≡ record e { world = record e.world { outboxes = slice_set (emptied n e.world.outboxes) n [] }; tallies = e2.tallies } =
+        subst (λ (x : EngineState). x ≡ record e1 { world = record e1.world { outboxes = slice_set e1.world.outboxes n [] }; tallies = x.tallies })
+        (sym next.is) refl in
+        let b : record e1 { world = record e1.world { outboxes = slice_set e1.world.outboxes n [] }; tallies = e2.tallies }
+        ≡ record e { world = record e.world { outboxes = slice_set (emptied n e.world.outboxes) n [] }; tallies = e2.tallies } =
         ap (λ (x : EngineState). record x { world = record x.world { outboxes = slice_set x.world.outboxes n [] }; tallies = e2.tallies }) first.is in
         a ∙ b ∙ ap (λ l. record e { world = record e.world { outboxes = l }; tallies = e2.tallies }) (sym (emptied_more n e.world.outboxes))
 
     tallied : (q : ℕ) → q < length e.setting.env.ports → (q ≡ n) ⊎ (q ≢ n) → length (drained_at time e.world n) ≡ length next.records
-        → tallies_at e2.tallies q ≡ record (tallies_at e.tallies q) { sent = (tallies_at e.tallies q).sent + (if nat_lt q (suc n) then length (drained_at time e.world q) else 0) }
+        → tallies_at e2.tallies q ≡ record (tallies_at e.tallies q) {
+          sent = (tallies_at e.tallies q).sent
+              + (if nat_lt q (suc n) then length (drained_at time e.world q) else 0);
+        }
     tallied q less (inr other) count =
-        let t = ap (λ (x : EngineState). tallies_at x.tallies q) next.is ∙ tallies_other e1.tallies n q (record (tallies_at e1.tallies n) { sent = (tallies_at e1.tallies n).sent + length next.records }) other in
+        let t = ap (λ (x : EngineState). tallies_at x.tallies q) next.is
+        ∙ tallies_other e1.tallies n q (record (tallies_at e1.tallies n) { sent = (tallies_at e1.tallies n).sent + length next.records }) other in
         t ∙ rw (below_more q n other) (first.tallies q less)
     tallied q less (inl same) count =
-        let before : tallies_at e1.tallies n ≡ record (tallies_at e.tallies n) { sent = (tallies_at e.tallies n).sent + 0 } = rw (not_below n) at (first.tallies n (omega (arith, less, same))) in
-        let t = ap (λ (x : EngineState). tallies_at x.tallies n) next.is ∙ tallies_same e1.tallies n (record (tallies_at e1.tallies n) { sent = (tallies_at e1.tallies n).sent + length next.records }) (omega (arith, lt, first.each)) in
+        let before : tallies_at e1.tallies n ≡ record (tallies_at e.tallies n) { sent = (tallies_at e.tallies n).sent + 0 } =
+        rw (not_below n) at (first.tallies n (omega (arith, less, same))) in
+        let t = ap (λ (x : EngineState). tallies_at x.tallies n) next.is
+        ∙ tallies_same e1.tallies n (record (tallies_at e1.tallies n) { sent = (tallies_at e1.tallies n).sent + length next.records })
+        (omega (arith, lt, first.each)) in
         let u : tallies_at e2.tallies n ≡ record (tallies_at e.tallies n) { sent = (tallies_at e.tallies n).sent + length (drained_at time e.world n) } =
-        t ∙ ap (λ (x : Tallies). record x { sent = x.sent + length next.records }) before ∙ ap (λ m. record (tallies_at e.tallies n) { sent = m }) (omega (arith, count)) in
-        subst (λ x. tallies_at e2.tallies x ≡ record (tallies_at e.tallies x) { sent = (tallies_at e.tallies x).sent + (if nat_lt x (suc n) then length (drained_at time e.world x) else 0) }) (sym same) (rw (below_next n) u)
+        t ∙ ap (λ (x : Tallies). record x { sent = x.sent + length next.records }) before
+        ∙ ap (λ m. record (tallies_at e.tallies n) { sent = m }) (omega (arith, count)) in
+        subst (λ x. tallies_at e2.tallies x ≡ record (tallies_at e.tallies x)
+        { sent = (tallies_at e.tallies x).sent + (if nat_lt x (suc n) then length (drained_at time e.world x) else 0) }) (sym same) (rw (below_next n) u)
 
 -- ---- writers by their ports
 
@@ -207,8 +224,10 @@ err_some (Err x) P e h = (x, refl, h)
 err_some (Ok x) P e h = cc
 
 -- one drain behind those of the ports before it
-pub drain_on : {A : Type 0} (f : A → Option (List ℕ)) (n : ℕ) (unit : TimeUnit) (time : Time) (e1 e2 : EngineState) (outs : List A) (w w' : A) (sent : ℕ) (records : List (Time × List ℕ))
-    → slice_get outs n ≡ Some w → slice_get (records_at time e1.world) n ≡ Some records → sent ≡ length (map captured records) → Appends (f w) (f w') (flat_map (record_text unit) (map captured records))
+pub drain_on : {A : Type 0} (f : A → Option (List ℕ)) (n : ℕ) (unit : TimeUnit) (time : Time) (e1 e2 : EngineState) (outs : List A) (w w' : A) (sent : ℕ)
+    (records : List (Time × List ℕ))
+    → slice_get outs n ≡ Some w → slice_get (records_at time e1.world) n ≡ Some records → sent ≡ length (map captured records) →
+    Appends (f w) (f w') (flat_map (record_text unit) (map captured records))
     → e2 ≡ drained n sent e1 → DrainsNext n unit time e1 e2 (map f outs) (map f (slice_set outs n w'))
 drain_on f n unit time e1 e2 outs w w' sent records here at count wrote is = record {
   records = records;
@@ -222,8 +241,10 @@ drain_on f n unit time e1 e2 outs w w' sent records here at count wrote is = rec
 }
 
 -- the writer of a port failed behind the drains of those before it
-pub stopped : {A : Type 0} (f : A → Option (List ℕ)) (n : ℕ) (unit : TimeUnit) (time : Time) (e e1 e2 : EngineState) (outs mids : List A) (w w' : A) (whole : ℕ) (records : List (Time × List ℕ))
-    → n < length e.setting.env.ports → DrainedFirst n unit time e e1 (map f outs) (map f mids) → slice_get mids n ≡ Some w → slice_get (records_at time e1.world) n ≡ Some records
+pub stopped : {A : Type 0} (f : A → Option (List ℕ)) (n : ℕ) (unit : TimeUnit) (time : Time) (e e1 e2 : EngineState) (outs mids : List A) (w w' : A)
+    (whole : ℕ) (records : List (Time × List ℕ))
+    → n < length e.setting.env.ports → DrainedFirst n unit time e e1 (map f outs) (map f mids) → slice_get mids n ≡ Some w →
+    slice_get (records_at time e1.world) n ≡ Some records
     → WrotePart (f w) (f w') unit (map captured records) whole → e2 ≡ drained n whole e1
     → DrainsStopped unit time e e2 (map f outs) (map f (slice_set mids n w')) n
 stopped f n unit time e e1 e2 outs mids w w' whole records there first here at wrote is =
@@ -242,7 +263,8 @@ stopped f n unit time e e1 e2 outs mids w w' whole records there first here at w
       is = is;
     }
   where
-    owned : drained_at time e.world n ≡ capture_of records → (old new : Option (List ℕ)) → slice_get (map f outs) n ≡ Some old → slice_get (map f (slice_set mids n w')) n ≡ Some new → WrotePart old new unit (drained_at time e.world n) whole
+    owned : drained_at time e.world n ≡ capture_of records → (old new : Option (List ℕ)) → slice_get (map f outs) n ≡ Some old →
+        slice_get (map f (slice_set mids n w')) n ≡ Some new → WrotePart old new unit (drained_at time e.world n) whole
     owned mine old new a b =
         let mid = map_at f mids n w here in
         let before : Appends old (f w) [] = rw (not_below n) at (first.wrote n old (f w) a mid) in

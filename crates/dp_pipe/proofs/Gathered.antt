@@ -1,5 +1,6 @@
 -- What is loaded, and why it is not, from the parts that were read.
-use Rattle.std.proofs.Common.{◌≡◌, ℕ, suc, ◌+◌, ◌≤◌, ◌⊎◌, inl, inr, List, [], ◌∷◌, ◌++◌, length, take, drop, Option, None, Some, refl, sym, subst, arith, length-append}
+use Rattle.std.proofs.Common.{◌≡◌, ℕ, suc, ◌+◌, ◌≤◌, ◌⊎◌, inl, inr, List, [], ◌∷◌, ◌++◌, length, take, drop, Option, None, Some, refl, sym, subst, arith}
+use Rattle.std.proofs.Common.{length-append}
 use Rattle.std.specs.Prelude.{slice_get, Result, Ok, Err, IfOk}
 use Rattle.std.proofs.lemmas.List.{take_all}
 use Rattle.dp_model.specs.declared.instr.Instr.{Instr}
@@ -15,16 +16,19 @@ use Rattle.dp_pipe.specs.declared.error.PipeError.TheVariants.{Memory}
 use Rattle.dp_pipe.specs.declared.nodes.How.{How}
 use Rattle.dp_pipe.specs.Setup.{NodeFiles}
 use Rattle.dp_pipe.specs.Files.{FileMap}
-use Rattle.dp_pipe.specs.Nodes.{Node, numbered, nodes_of, IsProgramOf, IsCertOf, HasCert, IsLoaded, IsMissing, IsBadCert, IsRefusedBy, IsWithoutCert, HasNoProgram, HasNoCert, Fails, AreLoaded, FailsAtFirst}
+use Rattle.dp_pipe.specs.Nodes.{Node, numbered, nodes_of, IsProgramOf, IsCertOf, HasCert, IsLoaded, IsMissing, IsBadCert, IsRefusedBy, IsWithoutCert}
+use Rattle.dp_pipe.specs.Nodes.{HasNoProgram, HasNoCert, Fails, AreLoaded, FailsAtFirst}
 use Rattle.dp_pipe.proofs.Places.{taken_more, parted, zipped_more, length-numbered}
 
 -- ---- one node
 
-pub program_fails : (known : Option FileMap) (env : Environment) (node : Node) (e : PipeError) → (e ≡ Memory) ⊎ HasNoProgram known node.entry node.program e → Fails known env node e
+pub program_fails : (known : Option FileMap) (env : Environment) (node : Node) (e : PipeError) → (e ≡ Memory) ⊎ HasNoProgram known node.entry node.program e →
+    Fails known env node e
 program_fails known env node e h = elim h [ inl memory ↦ inl memory | inr none ↦ inr (inl none) ]
 
 -- what is checked with the certificate that its file spells has this one
-pub spelled_cert : (known : Option FileMap) (name : List ℕ) (program : List Instr) (cert : Certificate) (env : Environment) (entry : Entry) (q : Question) → q ≡ question program cert env entry → IsCertOf known name (length program) cert → HasCert known (Some name) q
+pub spelled_cert : (known : Option FileMap) (name : List ℕ) (program : List Instr) (cert : Certificate) (env : Environment) (entry : Entry) (q : Question) →
+    q ≡ question program cert env entry → IsCertOf known name (length program) cert → HasCert known (Some name) q
 spelled_cert known name program cert env entry q is spelled = subst (HasCert known (Some name)) (sym is) (cert, refl, spelled)
 
 pub given_loaded : (known later : Option FileMap) (env : Environment) (node : Node) (program : List Instr) (name : List ℕ) (q : Question)
@@ -44,7 +48,8 @@ GivenFails known env entry name program e =
 
 pub given_fails : (known later : Option FileMap) (env : Environment) (node : Node) (program : List Instr) (name : List ℕ) (e : PipeError)
     → later ≡ known → IsProgramOf known node.program program → Some name ≡ node.cert
-    → (e ≡ Memory) ⊎ (IsMissing later node.entry name e ⊎ IsBadCert later node.entry name (length program) e ⊎ IsRefusedBy later env node.entry name program e) → Fails known env node e
+    → (e ≡ Memory) ⊎ (IsMissing later node.entry name e ⊎ IsBadCert later node.entry name (length program) e
+    ⊎ IsRefusedBy later env node.entry name program e) → Fails known env node e
 given_fails known later env node program name e stays reads is h =
     elim h [
       | inl memory ↦ inl memory
@@ -53,7 +58,8 @@ given_fails known later env node program name e stays reads is h =
           inr (inr (program, reads, subst (λ (c : Option (List ℕ)). HasNoCert known env node.entry c program e) is here))
     ]
 
-most_of : (program : List Instr) (env : Environment) (entry : Entry) (q : Question) → q.env ≡ env → q.entry ≡ entry → q.program ≡ program → SaysMost program env entry q.rows → SaysMost q.program q.env q.entry q.rows
+most_of : (program : List Instr) (env : Environment) (entry : Entry) (q : Question) → q.env ≡ env → q.entry ≡ entry → q.program ≡ program →
+    SaysMost program env entry q.rows → SaysMost q.program q.env q.entry q.rows
 most_of program env entry q e n p most =
     let at_program : SaysMost q.program env entry q.rows = subst (λ (x : List Instr). SaysMost x env entry q.rows) (sym p) most in
     let at_env : SaysMost q.program q.env entry q.rows = subst (λ (x : Environment). SaysMost q.program x entry q.rows) (sym e) at_program in
@@ -61,7 +67,8 @@ most_of program env entry q e n p most =
 
 pub inferred_loaded : (known : Option FileMap) (env : Environment) (node : Node) (program : List Instr) (q : Question)
     → IsProgramOf known node.program program → None ≡ node.cert
-    → q.env ≡ env → q.entry ≡ node.entry → q.program ≡ program → IsChecked q → IsWith q (certificate_of q.rows) → SaysMost program env node.entry q.rows → IsLoaded known env node q
+    → q.env ≡ env → q.entry ≡ node.entry → q.program ≡ program → IsChecked q → IsWith q (certificate_of q.rows) → SaysMost program env node.entry q.rows →
+    IsLoaded known env node q
 inferred_loaded known env node program q reads is e n p checked same most = record {
   env_is = e;
   entry_is = n;
@@ -72,7 +79,8 @@ inferred_loaded known env node program q reads is e n p checked same most = reco
 
 pub all_loaded : (known : Option FileMap) (env : Environment) (node : Node) (program : List Instr) (result : Result Question PipeError)
     → IsProgramOf known node.program program → None ≡ node.cert
-    → IfOk result (λ q. q.env ≡ env) → IfOk result (λ q. q.entry ≡ node.entry) → IfOk result (λ q. q.program ≡ program) → IfOk result IsChecked → IfOk result (λ q. IsWith q (certificate_of q.rows)) → IfOk result (λ q. SaysMost program env node.entry q.rows)
+    → IfOk result (λ q. q.env ≡ env) → IfOk result (λ q. q.entry ≡ node.entry) → IfOk result (λ q. q.program ≡ program) → IfOk result IsChecked →
+    IfOk result (λ q. IsWith q (certificate_of q.rows)) → IfOk result (λ q. SaysMost program env node.entry q.rows)
     → IfOk result (IsLoaded known env node)
 all_loaded known env node program (Ok q) reads is e n p checked same most = inferred_loaded known env node program q reads is e n p checked same most
 all_loaded known env node program (Err fault) reads is e n p checked same most = tt
@@ -88,7 +96,8 @@ inferred_fails known env node program e reads is h =
 -- ---- all nodes
 
 pub one_more : (known later : Option FileMap) (env : Environment) (nodes : List Node) (k : ℕ) (node : Node) (loaded : List Question) (q : Question)
-    → later ≡ known → slice_get nodes k ≡ Some node → AreLoaded known env (take k nodes) loaded → IsLoaded later env node q → AreLoaded known env (take (k + 1) nodes) (loaded ++ q ∷ [])
+    → later ≡ known → slice_get nodes k ≡ Some node → AreLoaded known env (take k nodes) loaded → IsLoaded later env node q →
+    AreLoaded known env (take (k + 1) nodes) (loaded ++ q ∷ [])
 one_more known later env nodes k node loaded q stays at all new =
     let here : IsLoaded known env node q = subst (λ (f : Option FileMap). IsLoaded f env node q) stays new in
     subst (λ (xs : List Node). AreLoaded known env xs (loaded ++ q ∷ [])) (sym (taken_more nodes k node at))
@@ -110,5 +119,6 @@ pub how_many : (how : How) (ports rings : List NodeFiles) → length (nodes_of h
 how_many how ports rings =
     omega (arith, length-append (numbered how Port 0 ports) (numbered how Ring 0 rings), length-numbered how Port 0 ports, length-numbered how Ring 0 rings)
 
-pub whole : (known : Option FileMap) (env : Environment) (nodes : List Node) (n : ℕ) (loaded : List Question) → length nodes ≤ n → AreLoaded known env (take n nodes) loaded → AreLoaded known env nodes loaded
+pub whole : (known : Option FileMap) (env : Environment) (nodes : List Node) (n : ℕ) (loaded : List Question) → length nodes ≤ n →
+    AreLoaded known env (take n nodes) loaded → AreLoaded known env nodes loaded
 whole known env nodes n loaded few all = subst (λ (xs : List Node). AreLoaded known env xs loaded) (take_all n nodes few) all

@@ -1,5 +1,6 @@
 -- A run goes on by what one input answers.
-use Rattle.std.proofs.Common.{◌*◌, ◌≡◌, ◌≢◌, ℕ, zero, suc, ◌+◌, ◌<◌, ◌≤◌, Bool, true, false, List, [], ◌∷◌, ◌++◌, length, map, take, Option, Some, None, Result, Ok, Err, refl, sym, ◌∙◌, ap, subst, arith}
+use Rattle.std.proofs.Common.{◌*◌, ◌≡◌, ◌≢◌, ℕ, zero, suc, ◌+◌, ◌<◌, ◌≤◌, Bool, true, false, List, [], ◌∷◌, ◌++◌, length, map, take, Option, Some, None}
+use Rattle.std.proofs.Common.{Result, Ok, Err, refl, sym, ◌∙◌, ap, subst, arith}
 use Rattle.std.specs.Prelude.{slice_get, slice_set, nat_lt, if◌then◌else◌, ⊤}
 use Rattle.std.specs.Io.KnownBytes.{Appends}
 use Rattle.std.proofs.lemmas.Bool.{le-ltb}
@@ -21,7 +22,8 @@ use Rattle.dp_engine.specs.declared.report.InputState.{InputState}
 use Rattle.dp_engine.specs.declared.report.InputState.TheVariants.{Open, Whole, Cut}
 use Rattle.dp_engine.specs.Engines.{EngineState}
 use Rattle.dp_pipe.specs.declared.forwarding.Progress.{Progress}
-use Rattle.dp_pipe.specs.Forwarding.{Input, HasReadSo, IsGoingOn, Stands, AllStand, TurnsOn, ReadsTurn, TakesTurn, DrainedAll, DrainedFirst, Follows, Advances, Along, AnswersSo, asked, arrivals_of, capture_at, AreWritten, HasRun, records_many, unit_for, units_of}
+use Rattle.dp_pipe.specs.Forwarding.{Input, HasReadSo, IsGoingOn, Stands, AllStand, TurnsOn, ReadsTurn, TakesTurn, DrainedAll, DrainedFirst, Follows}
+use Rattle.dp_pipe.specs.Forwarding.{Advances, Along, AnswersSo, asked, arrivals_of, capture_at, AreWritten, HasRun, records_many, unit_for, units_of}
 use Rattle.dp_pipe.proofs.Forwarded.{length_set}
 use Rattle.dp_pipe.proofs.RunOn.{run_on, arrival}
 use Rattle.dp_pipe.proofs.Advancing.{with_record, ended, arrivals_more, arrivals_ended, order_next, wrote_more, joined_many}
@@ -35,7 +37,8 @@ pub record AreMany (e : EngineState) (olds news held mids : List (Option (List �
   pub mids_many : length mids ≡ length e.setting.env.ports
 
 -- one record more
-many_more : (inputs : List Input) (n : ℕ) (i : Input) (r : PacketRecord) → slice_get inputs n ≡ Some i → records_many (slice_set inputs n (with_record r i)) ≡ records_many inputs + 1
+many_more : (inputs : List Input) (n : ℕ) (i : Input) (r : PacketRecord) → slice_get inputs n ≡ Some i → records_many (slice_set inputs n (with_record r i))
+    ≡ records_many inputs + 1
 many_more [] n i r e = cc
 many_more (x ∷ inputs) zero i r e =
     let same = ap (λ (j : Input). length j.records) (same_Some x i e) in
@@ -43,13 +46,15 @@ many_more (x ∷ inputs) zero i r e =
     omega (arith, same, more)
 many_more (x ∷ inputs) (suc n) i r e = let more = many_more inputs n i r e in omega (arith, more)
 
-many_ended : (inputs : List Input) (n : ℕ) (i : Input) (state : InputState) → slice_get inputs n ≡ Some i → records_many (slice_set inputs n (ended state i)) ≡ records_many inputs
+many_ended : (inputs : List Input) (n : ℕ) (i : Input) (state : InputState) → slice_get inputs n ≡ Some i → records_many (slice_set inputs n (ended state i))
+    ≡ records_many inputs
 many_ended [] n i state e = cc
 many_ended (x ∷ inputs) zero i state e = ap (λ (j : Input). length j.records + records_many inputs) (sym (same_Some x i e))
 many_ended (x ∷ inputs) (suc n) i state e = ap (λ m. length x.records + m) (many_ended inputs n i state e)
 
 -- eight inputs have at most as many records as an engine takes turns
-pub many_least : (inputs : List Input) (n : ℕ) (i : Input) → slice_get inputs n ≡ Some i → ((q : ℕ) (j : Input) → slice_get inputs q ≡ Some j → length j.records ≤ 16777216)
+pub many_least : (inputs : List Input) (n : ℕ) (i : Input) → slice_get inputs n ≡ Some i →
+    ((q : ℕ) (j : Input) → slice_get inputs q ≡ Some j → length j.records ≤ 16777216)
     → records_many inputs + 16777216 ≤ length i.records + length inputs * 16777216
 many_least [] n i e few = cc
 many_least (x ∷ inputs) zero i e few =
@@ -57,7 +62,8 @@ many_least (x ∷ inputs) zero i e few =
     let most = all_most inputs (λ q j at. few (suc q) j at) in
     omega (arith, same, most)
   where
-    all_most : (inputs : List Input) → ((q : ℕ) (j : Input) → slice_get inputs q ≡ Some j → length j.records ≤ 16777216) → records_many inputs ≤ length inputs * 16777216
+    all_most : (inputs : List Input) → ((q : ℕ) (j : Input) → slice_get inputs q ≡ Some j → length j.records ≤ 16777216) →
+        records_many inputs ≤ length inputs * 16777216
     all_most [] few = omega arith
     all_most (x ∷ inputs) few = let more = all_most inputs (λ q j at. few (suc q) j at) in omega (arith, more, few 0 x refl)
 many_least (x ∷ inputs) (suc n) i e few = let more = many_least inputs n i e (λ q j at. few (suc q) j at) in omega (arith, more, few 0 x refl)
@@ -73,10 +79,12 @@ known_map None b P Q f h = tt
 known_map (Some x) None P Q f h = absurd h
 known_map (Some x) (Some y) P Q f h = f x y h
 
-whole_read : (s s' : Standing) (records : List PacketRecord) (bytes : List ℕ) → s' ≡ over s → IsCapture bytes s.unit records capture.Ending.Whole → IsCapture bytes s'.unit records capture.Ending.Whole
+whole_read : (s s' : Standing) (records : List PacketRecord) (bytes : List ℕ) → s' ≡ over s → IsCapture bytes s.unit records capture.Ending.Whole →
+    IsCapture bytes s'.unit records capture.Ending.Whole
 whole_read s s' records bytes is h = rw is h
 
-cut_read : (byte : ℕ) (s s' : Standing) (records : List PacketRecord) (bytes : List ℕ) → s' ≡ over s → IsCapture bytes s.unit records (capture.Ending.Cut byte) → IsCapture bytes s'.unit records (capture.Ending.Cut byte)
+cut_read : (byte : ℕ) (s s' : Standing) (records : List PacketRecord) (bytes : List ℕ) → s' ≡ over s →
+    IsCapture bytes s.unit records (capture.Ending.Cut byte) → IsCapture bytes s'.unit records (capture.Ending.Cut byte)
 cut_read byte s s' records bytes is h = rw is h
 
 module _ (unit : TimeUnit) (e0 e : EngineState) (olds news held mids : List (Option (List ℕ))) (progress : List Progress) (inputs : List Input) (round port : ℕ)
@@ -100,9 +108,11 @@ module _ (unit : TimeUnit) (e0 e : EngineState) (olds news held mids : List (Opt
 
   -- a record came
   pub record_on : (time : Time) (len : ℕ) (buf : List ℕ) (e1 e2 : EngineState) (holds : List (Option (List ℕ)))
-      → WhereKnown a b (λ left rest. Continues p.source p'.source left rest buf (Ok (Record time len))) → p.source.given < 16777216 → p'.source ≡ advanced p.source len
+      → WhereKnown a b (λ left rest. Continues p.source p'.source left rest buf (Ok (Record time len))) → p.source.given < 16777216 →
+      p'.source ≡ advanced p.source len
       → TakesTurn port e e1 (take len buf) → p'.state ≡ Open → DrainedAll unit time e1 e2 mids holds
-      → Along unit e0 e2 olds (slice_set news port b) held holds (slice_set progress port p') (slice_set inputs port (with_record (record { time = time; bytes = take len buf }) i)) round (port + 1)
+      → Along unit e0 e2 olds (slice_set news port b) held holds (slice_set progress port p')
+      (slice_set inputs port (with_record (record { time = time; bytes = take len buf }) i)) round (port + 1)
   record_on time len buf e1 e2 holds more less moved turn open_p' drains =
       let r : PacketRecord = record { time = time; bytes = take len buf } in
       let i' = with_record r i in
@@ -110,28 +120,35 @@ module _ (unit : TimeUnit) (e0 e : EngineState) (olds news held mids : List (Opt
       let setting1 = ap (λ (x : EngineState). x.setting) turn.is ∙ ap (λ (x : EngineState). x.setting) along.run.stays in
       let n = length e0.setting.env.ports in
       let boxes : length e1.world.outboxes ≡ n = turn.lists ∙ ap (λ (x : Setting). length x.env.ports) setting1 in
-      let all : DrainedFirst n unit time e1 e2 mids holds = subst (λ (x : Setting). DrainedFirst (length x.env.ports) unit time e1 e2 mids holds) setting1 drains in
+      let all : DrainedFirst n unit time e1 e2 mids holds = subst (λ (x : Setting). DrainedFirst (length x.env.ports) unit time e1 e2 mids holds) setting1
+      drains in
       let long : length (records_at time e1.world) ≡ n = length-map e1.world.outboxes _ ∙ boxes in
       record {
         first = along.first;
         held_many = along.held_many;
         inputs_many = length_set inputs port i' ∙ along.inputs_many;
         unit_is = along.unit_is ∙ ap unit_for (sym (units_set inputs port i i' i_here refl));
-        total = ap length (arrivals_more inputs round port i r along.order i_here i_open) ∙ length-append (arrivals_of inputs) (arrival port time (take len buf) ∷ [])
+        total = ap length (arrivals_more inputs round port i r along.order i_here i_open)
+            ∙ length-append (arrivals_of inputs) (arrival port time (take len buf) ∷ [])
             ∙ omega (arith, along.total, many_more inputs port i r i_here);
         stand = all_stand olds news progress inputs port p' i' b along.stand stands (λ old at.
-            known_then old a b _ _ _ (λ bytes left rest before now. rw i_open (now bytes i.records (open_read i.state p.source i.records bytes left i_open before))) (along.stand.read port p i old a here i_here at left_a) more);
+            known_then old a b _ _ _ (λ bytes left rest before now. rw i_open
+            (now bytes i.records (open_read i.state p.source i.records bytes left i_open before))) (along.stand.read port p i old a here i_here at left_a)
+            more);
         order = order_next inputs round port i' along.order (rw i_open (length-append i.records (r ∷ []) ∙ ap (λ m. m + 1) count));
         captures = joined along.captures (records_at time e1.world);
         many = joined_many along.captures (records_at time e1.world) (along.many ∙ sym long) ∙ along.many;
-        run = subst (λ l. HasRun e0 e2 l (joined along.captures (records_at time e1.world))) (sym (arrivals_more inputs round port i r along.order i_here i_open))
-            (run_on e0 e e1 e2 port time (take len buf) (arrivals_of inputs) along.captures unit mids holds (omega (arith, there, many.counted, many.few)) boxes along.run turn all);
+        run = subst (λ l. HasRun e0 e2 l (joined along.captures (records_at time e1.world)))
+            (sym (arrivals_more inputs round port i r along.order i_here i_open))
+            (run_on e0 e e1 e2 port time (take len buf) (arrivals_of inputs) along.captures unit mids holds (omega (arith, there, many.counted, many.few))
+            boxes along.run turn all);
         wrote = wrote_more unit time e1.world n along.captures held mids holds along.many long along.held_many many.mids_many along.wrote all.wrote;
       }
 
   -- the input ended
   pub ended_on : (state : InputState) → (state ≡ Open → ⊥)
-      → WhereKnown a b (λ left rest. (bytes : List ℕ) (records : List PacketRecord) → HasRead bytes p.source records left → HasReadSo state p'.source records bytes rest)
+      → WhereKnown a b (λ left rest. (bytes : List ℕ) (records : List PacketRecord) → HasRead bytes p.source records left →
+      HasReadSo state p'.source records bytes rest)
       → p'.source ≡ over p.source → p'.state ≡ state
       → Along unit e0 e olds (slice_set news port b) held mids (slice_set progress port p') (slice_set inputs port (ended state i)) round (port + 1)
   ended_on state closed more moved is = record {
@@ -141,7 +158,8 @@ module _ (unit : TimeUnit) (e0 e : EngineState) (olds news held mids : List (Opt
     unit_is = along.unit_is ∙ ap unit_for (sym (units_set inputs port i (ended state i) i_here refl));
     total = ap length (arrivals_ended inputs port i state i_here) ∙ along.total ∙ sym (many_ended inputs port i state i_here);
     stand = all_stand olds news progress inputs port p' (ended state i) b along.stand (stands_ended p p' i state i_stands is moved closed) (λ old at.
-        known_then old a b _ _ _ (λ bytes left rest before now. now bytes i.records (open_read i.state p.source i.records bytes left i_open before)) (along.stand.read port p i old a here i_here at left_a) more);
+        known_then old a b _ _ _ (λ bytes left rest before now. now bytes i.records (open_read i.state p.source i.records bytes left i_open before))
+        (along.stand.read port p i old a here i_here at left_a) more);
     order = order_next inputs round port (ended state i) along.order (less state closed);
     captures = along.captures;
     many = along.many;
@@ -155,31 +173,42 @@ module _ (unit : TimeUnit) (e0 e : EngineState) (olds news held mids : List (Opt
       less (Cut byte) closed = omega (arith, count)
 
 -- the run goes on, whatever the answer was, if it did not stop
-pub goes_on : (unit : TimeUnit) (e0 e e' : EngineState) (olds news held mids holds : List (Option (List ℕ))) (progress : List Progress) (inputs : List Input) (round port : ℕ) (p p' : Progress) (a b : Option (List ℕ))
-    → Along unit e0 e olds news held mids progress inputs round port → AreMany e0 olds news held mids → slice_get progress port ≡ Some p → p.state ≡ Open → port < length e0.setting.env.ports → slice_get news port ≡ Some a
+pub goes_on : (unit : TimeUnit) (e0 e e' : EngineState) (olds news held mids holds : List (Option (List ℕ))) (progress : List Progress) (inputs : List Input)
+    (round port : ℕ) (p p' : Progress) (a b : Option (List ℕ))
+    → Along unit e0 e olds news held mids progress inputs round port → AreMany e0 olds news held mids → slice_get progress port ≡ Some p → p.state ≡ Open →
+    port < length e0.setting.env.ports → slice_get news port ≡ Some a
     → Advances port unit e e' p p' a b mids holds (Ok tt)
     → (inputs' : List Input) × Along unit e0 e' olds (slice_set news port b) held holds (slice_set progress port p') inputs' round (port + 1)
 goes_on unit e0 e e' olds news held mids holds progress inputs round port p p' a b along many here open_p there left_a step =
     go step.next step.read step.in_range step.moves step.follows
   where
-    go : (answer : Result Next PcapError) → ReadsTurn port e step.engine p.source p'.source a b answer → IsInRange p.source answer → Moves p.source p'.source answer → Follows port unit step.engine e' p'.state mids holds answer (Ok tt)
+    go : (answer : Result Next PcapError) → ReadsTurn port e step.engine p.source p'.source a b answer → IsInRange p.source answer →
+        Moves p.source p'.source answer → Follows port unit step.engine e' p'.state mids holds answer (Ok tt)
         → (inputs' : List Input) × Along unit e0 e' olds (slice_set news port b) held holds (slice_set progress port p') inputs' round (port + 1)
-    go (Ok (Record time len)) (buf, more, (fits, turn)) (nano, few, less) moves (open_p', drains) =
-        (_, record_on unit e0 e olds news held mids progress inputs round port along many p p' here open_p there a b left_a time len buf step.engine e' holds more less moves turn open_p' drains)
+    go (Ok (Record time len)) (buf, more, (fits, turn)) (nano, few, less) moves (open_p', drains) = (
+      _,
+      record_on unit e0 e olds news held mids progress inputs round port along many p p' here open_p there a b left_a time len buf step.engine e' holds
+          more less moves turn open_p' drains,
+    )
     go (Ok End) (buf, more, same) range moves (is, ok, e_is, holds_is) =
         let x : (inputs' : List Input) × Along unit e0 e olds (slice_set news port b) held mids (slice_set progress port p') inputs' round (port + 1) = (
           _,
           ended_on unit e0 e olds news held mids progress inputs round port along many p p' here open_p there a b left_a Whole (λ c. cc)
               (known_map a b _ _ (λ left rest now bytes records has. whole_read p.source p'.source records bytes moves (now bytes records has)) more) moves is,
         ) in
-        subst (λ (z : EngineState). (inputs' : List Input) × Along unit e0 z olds (slice_set news port b) held holds (slice_set progress port p') inputs' round (port + 1)) (sym (e_is ∙ same))
-        (subst (λ (hs : List (Option (List ℕ))). (inputs' : List Input) × Along unit e0 e olds (slice_set news port b) held hs (slice_set progress port p') inputs' round (port + 1)) (sym holds_is) x)
+        subst (λ (z : EngineState). (inputs' : List Input) × Along unit e0 z olds (slice_set news port b) held holds (slice_set progress port p') inputs'
+        round (port + 1)) (sym (e_is ∙ same))
+        (subst (λ (hs : List (Option (List ℕ))). (inputs' : List Input)
+        × Along unit e0 e olds (slice_set news port b) held hs (slice_set progress port p') inputs' round (port + 1)) (sym holds_is) x)
     go (Ok (next.Cut byte)) (buf, more, same) range moves (is, ok, e_is, holds_is) =
         let x : (inputs' : List Input) × Along unit e0 e olds (slice_set news port b) held mids (slice_set progress port p') inputs' round (port + 1) = (
           _,
           ended_on unit e0 e olds news held mids progress inputs round port along many p p' here open_p there a b left_a (Cut byte) (λ c. cc)
-              (known_map a b _ _ (λ left rest now bytes records has. cut_read byte p.source p'.source records bytes moves (now bytes records has)) more) moves is,
+              (known_map a b _ _ (λ left rest now bytes records has. cut_read byte p.source p'.source records bytes moves (now bytes records has)) more) moves
+              is,
         ) in
-        subst (λ (z : EngineState). (inputs' : List Input) × Along unit e0 z olds (slice_set news port b) held holds (slice_set progress port p') inputs' round (port + 1)) (sym (e_is ∙ same))
-        (subst (λ (hs : List (Option (List ℕ))). (inputs' : List Input) × Along unit e0 e olds (slice_set news port b) held hs (slice_set progress port p') inputs' round (port + 1)) (sym holds_is) x)
+        subst (λ (z : EngineState). (inputs' : List Input) × Along unit e0 z olds (slice_set news port b) held holds (slice_set progress port p') inputs'
+        round (port + 1)) (sym (e_is ∙ same))
+        (subst (λ (hs : List (Option (List ℕ))). (inputs' : List Input)
+        × Along unit e0 e olds (slice_set news port b) held hs (slice_set progress port p') inputs' round (port + 1)) (sym holds_is) x)
     go (Err error) reads range moves (is, bad, e_is, holds_is) = cc

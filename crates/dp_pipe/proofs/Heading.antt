@@ -1,5 +1,6 @@
 -- Inputs whose headers were read, and what is told of them.
-use Rattle.std.proofs.Common.{◌≡◌, ◌≢◌, ◌⊎◌, inl, inr, ℕ, zero, suc, ◌+◌, ◌<◌, ◌≤◌, List, [], ◌∷◌, ◌++◌, Option, Some, None, Bool, false, length, map, take, refl, ap, sym, ◌∙◌, subst, arith}
+use Rattle.std.proofs.Common.{◌≡◌, ◌≢◌, ◌⊎◌, inl, inr, ℕ, zero, suc, ◌+◌, ◌<◌, ◌≤◌, List, [], ◌∷◌, ◌++◌, Option, Some, None, Bool, false, length, map, take}
+use Rattle.std.proofs.Common.{refl, ap, sym, ◌∙◌, subst, arith}
 use Rattle.std.specs.Prelude.{slice_get, slice_set, slice_index_or}
 use Rattle.std.proofs.lemmas.List.{length-map, length-append}
 use Rattle.std.proofs.lemmas.Option.{slice_get-map, same_Some, slice_get_within}
@@ -36,7 +37,8 @@ states_of inputs = map (λ (p : Progress). p.state) inputs
 -- the state of one input more is told
 pub told_more : (inputs : List Progress) (ports : List PortReport) (k : ℕ) (p : Progress) (d : PortReport) → k < length inputs
     → with_states (take (suc k) (states_of inputs)) ports
-    ≡ slice_set (with_states (take k (states_of inputs)) ports) k (record (slice_index_or (with_states (take k (states_of inputs)) ports) k d) { state = (slice_index_or inputs k p).state })
+    ≡ slice_set (with_states (take k (states_of inputs)) ports) k (record (slice_index_or (with_states (take k (states_of inputs)) ports) k d)
+    { state = (slice_index_or inputs k p).state })
 told_more [] ports k p d l = absurd (omega (arith, l))
 told_more (i ∷ inputs) [] zero p d l = refl
 told_more (i ∷ inputs) [] (suc k) p d l = refl
@@ -112,7 +114,8 @@ pub all_changed : {W : Type 0} (R : W → W → Type 0) (n : ℕ) (olds news : L
 all_changed R n olds news c e q w w' here there = c.done q w w' (omega (arith, e, slice_get_within olds q w here)) here there
 
 -- a fact of what devices tell, before and after
-pub in_told : {W A : Type 0} (f : W → A) (P : A → A → Type 0) (olds news : List W) (q : ℕ) → ((w w' : W) → slice_get olds q ≡ Some w → slice_get news q ≡ Some w' → P (f w) (f w'))
+pub in_told : {W A : Type 0} (f : W → A) (P : A → A → Type 0) (olds news : List W) (q : ℕ) →
+    ((w w' : W) → slice_get olds q ≡ Some w → slice_get news q ≡ Some w' → P (f w) (f w'))
     → (a a' : A) → slice_get (map f olds) q ≡ Some a → slice_get (map f news) q ≡ Some a' → P a a'
 in_told f P olds news q is a a' e e' =
     let (w, here, a_is) = told_at f olds q a e in
@@ -120,7 +123,8 @@ in_told f P olds news q is a a' e e' =
     subst (λ x. P x a') (sym a_is) (subst (P (f w)) (sym a_is') (is w w' here there))
 
 -- a device is what it was
-pub is_same : {W : Type 0} (olds news : List W) (q : ℕ) (w w' : W) → slice_get news q ≡ slice_get olds q → slice_get olds q ≡ Some w → slice_get news q ≡ Some w' → w' ≡ w
+pub is_same : {W : Type 0} (olds news : List W) (q : ℕ) (w w' : W) → slice_get news q ≡ slice_get olds q → slice_get olds q ≡ Some w →
+    slice_get news q ≡ Some w' → w' ≡ w
 is_same olds news q w w' same here there = same_Some w' w (sym there ∙ same ∙ here)
 
 -- each of a list
@@ -129,7 +133,8 @@ each_of P [] is = tt
 each_of P (x ∷ xs) is = (is 0 x refl, each_of P xs (λ q w e. is (suc q) w e))
 
 -- each device that was changed so
-pub new_all : {W : Type 0} (R : W → W → Type 0) (P : W → Type 0) (n : ℕ) (olds news : List W) → Changed R n olds news → n ≡ length olds → ((w w' : W) → R w w' → P w')
+pub new_all : {W : Type 0} (R : W → W → Type 0) (P : W → Type 0) (n : ℕ) (olds news : List W) → Changed R n olds news → n ≡ length olds →
+    ((w w' : W) → R w w' → P w')
     → AllByRecursion P news
 new_all {W = W} R P n olds news c e implies = each_of P news each
   where
@@ -144,7 +149,8 @@ pub before_of : {W : Type 0} (R : W → W → Type 0) (n : ℕ) (olds news : Lis
 before_of R n olds news u c q x x' l here there = c.done q x x' l here (sym (get_set_other news n q u (λ e. absurd (omega (arith, l, e)))) ∙ there)
 
 -- it is this one
-pub old_of : {W : Type 0} (R : W → W → Type 0) (n : ℕ) (olds news : List W) (w x : W) → Changed R n olds news → slice_get news n ≡ Some w → slice_get olds n ≡ Some x → x ≡ w
+pub old_of : {W : Type 0} (R : W → W → Type 0) (n : ℕ) (olds news : List W) (w x : W) → Changed R n olds news → slice_get news n ≡ Some w →
+    slice_get olds n ≡ Some x → x ≡ w
 old_of R n olds news w x c at here = same_Some x w (sym here ∙ sym (c.rest n (omega arith)) ∙ at)
 
 pub new_of : {W : Type 0} (n : ℕ) (news : List W) (w u x' : W) → slice_get news n ≡ Some w → slice_get (slice_set news n u) n ≡ Some x' → x' ≡ u
@@ -167,8 +173,10 @@ pub kept_same : {W : Type 0} (contents : W → Option (List ℕ)) (w w' : W) →
 kept_same {W = W} contents w w' e = subst (λ (x : W). Keeps (contents w) (contents x)) (sym e) (keeps_it (contents w))
 
 -- the header of a writer was written in part
-pub headers_stopped : {W : Type 0} (contents : W → Option (List ℕ)) (R : W → W → Type 0) (unit : TimeUnit) (n : ℕ) (olds news : List W) (w u : W) → Changed R n olds news
-    → ((x x' : W) → R x x' → Appends (contents x) (contents x') (header_text unit)) → slice_get news n ≡ Some w → AppendsPart (contents w) (contents u) (header_text unit)
+pub headers_stopped : {W : Type 0} (contents : W → Option (List ℕ)) (R : W → W → Type 0) (unit : TimeUnit) (n : ℕ) (olds news : List W) (w u : W) →
+    Changed R n olds news
+    → ((x x' : W) → R x x' → Appends (contents x) (contents x') (header_text unit)) → slice_get news n ≡ Some w →
+    AppendsPart (contents w) (contents u) (header_text unit)
     → HeadersStopped unit (map contents olds) (map contents (slice_set news n u)) n
 headers_stopped contents R unit n olds news w u c whole at part = record {
   before = λ q old new l. in_told contents (λ a a'. Appends a a' (header_text unit)) olds (slice_set news n u) q
@@ -182,20 +190,23 @@ headers_stopped contents R unit n olds news w u c whole at part = record {
 -- ---- readers
 
 -- what was read of the first so many inputs: a header each
-pub record ReadFirst {R : Type 0} (remaining : R → Option (List ℕ)) (failures : R → ℕ) (is_broken : R → Bool) (n : ℕ) (olds news : List R) (inputs : List Progress) : Type 0 where
+pub record ReadFirst {R : Type 0} (remaining : R → Option (List ℕ)) (failures : R → ℕ) (is_broken : R →
+    Bool) (n : ℕ) (olds news : List R) (inputs : List Progress) : Type 0 where
   pub changed : Changed (λ r r'. Fared is_broken failures false r r' × (is_broken r' ≡ false)) n olds news
   pub many : length inputs ≡ n
   pub begun : AllByRecursion IsBegun inputs
   pub read : (q : ℕ) (p : Progress) (r r' : R) → slice_get inputs q ≡ Some p → slice_get olds q ≡ Some r → slice_get news q ≡ Some r'
       → WhereKnown (remaining r) (remaining r') (λ bytes rest. HasRead bytes p.source [] rest)
 
-pub get_front : {A : Type 0} (xs : List A) (y : A) (q : ℕ) (x : A) → slice_get (xs ++ y ∷ []) q ≡ Some x → ((q < length xs) × (slice_get xs q ≡ Some x)) ⊎ ((q ≡ length xs) × (x ≡ y))
+pub get_front : {A : Type 0} (xs : List A) (y : A) (q : ℕ) (x : A) → slice_get (xs ++ y ∷ []) q ≡ Some x →
+    ((q < length xs) × (slice_get xs q ≡ Some x)) ⊎ ((q ≡ length xs) × (x ≡ y))
 get_front [] y zero x e = inr (refl, same_Some _ _ (sym e))
 get_front {A = A} [] y (suc q) x e = absurd (no_place {W = A} (λ (z : A). z) q x e)
 get_front (z ∷ xs) y zero x e = inl (omega arith, e)
 get_front (z ∷ xs) y (suc q) x e = go (get_front xs y q x e)
   where
-    go : ((q < length xs) × (slice_get xs q ≡ Some x)) ⊎ ((q ≡ length xs) × (x ≡ y)) → ((suc q < suc (length xs)) × (slice_get (z ∷ xs) (suc q) ≡ Some x)) ⊎ ((suc q ≡ suc (length xs)) × (x ≡ y))
+    go : ((q < length xs) × (slice_get xs q ≡ Some x)) ⊎ ((q ≡ length xs) × (x ≡ y)) → ((suc q < suc (length xs)) × (slice_get (z ∷ xs) (suc q) ≡ Some x))
+        ⊎ ((suc q ≡ suc (length xs)) × (x ≡ y))
     go (inl (l, at)) = inl (omega (arith, l), at)
     go (inr (same, at)) = inr (ap suc same, at)
 
@@ -210,7 +221,8 @@ all_at P (y ∷ xs) zero x (first, all) e = subst P (same_Some _ _ e) first
 all_at P (y ∷ xs) (suc q) x (first, all) e = all_at P xs q x all e
 
 -- no header was read yet
-pub read_none : {R : Type 0} (remaining : R → Option (List ℕ)) (failures : R → ℕ) (is_broken : R → Bool) (olds : List R) → ReadFirst remaining failures is_broken 0 olds olds []
+pub read_none : {R : Type 0} (remaining : R → Option (List ℕ)) (failures : R → ℕ) (is_broken : R → Bool) (olds : List R) →
+    ReadFirst remaining failures is_broken 0 olds olds []
 read_none remaining failures is_broken olds = record {
   changed = changed_none _ olds;
   many = refl;
@@ -219,9 +231,12 @@ read_none remaining failures is_broken olds = record {
 }
 
 -- one header more
-pub read_more : {R : Type 0} (remaining : R → Option (List ℕ)) (failures : R → ℕ) (is_broken : R → Bool) (n : ℕ) (olds news : List R) (inputs : List Progress) (r u : R) (p : Progress)
-    → ReadFirst remaining failures is_broken n olds news inputs → slice_get news n ≡ Some r → Fared is_broken failures false r u → is_broken u ≡ false → IsBegun p
-    → WhereKnown (remaining r) (remaining u) (λ bytes rest. HasRead bytes p.source [] rest) → ReadFirst remaining failures is_broken (n + 1) olds (slice_set news n u) (inputs ++ p ∷ [])
+pub read_more : {R : Type 0} (remaining : R → Option (List ℕ)) (failures : R → ℕ) (is_broken : R →
+    Bool) (n : ℕ) (olds news : List R) (inputs : List Progress) (r u : R) (p : Progress)
+    → ReadFirst remaining failures is_broken n olds news inputs → slice_get news n ≡ Some r → Fared is_broken failures false r u → is_broken u ≡ false →
+    IsBegun p
+    → WhereKnown (remaining r) (remaining u) (λ bytes rest. HasRead bytes p.source [] rest) →
+    ReadFirst remaining failures is_broken (n + 1) olds (slice_set news n u) (inputs ++ p ∷ [])
 read_more {R = R} remaining failures is_broken n olds news inputs r u p c at fared sound begun known = record {
   changed = changed_more _ n olds news r u c.changed at (fared, sound);
   many = omega (arith, length-append inputs (p ∷ []), c.many);
@@ -233,7 +248,8 @@ read_more {R = R} remaining failures is_broken n olds news inputs r u p c at far
         → WhereKnown (remaining x) (remaining x') (λ bytes rest. HasRead bytes i.source [] rest)
     read q i x x' there_i here there = go (get_front inputs p q i there_i)
       where
-        go : ((q < length inputs) × (slice_get inputs q ≡ Some i)) ⊎ ((q ≡ length inputs) × (i ≡ p)) → WhereKnown (remaining x) (remaining x') (λ bytes rest. HasRead bytes i.source [] rest)
+        go : ((q < length inputs) × (slice_get inputs q ≡ Some i)) ⊎ ((q ≡ length inputs) × (i ≡ p)) →
+            WhereKnown (remaining x) (remaining x') (λ bytes rest. HasRead bytes i.source [] rest)
         go (inl (l, front)) = c.read q i x x' front here (sym (get_set_other news n q u (λ e. absurd (omega (arith, l, e, c.many)))) ∙ there)
         go (inr (e, is)) =
             let place : q ≡ n = e ∙ c.many in
@@ -265,7 +281,8 @@ all_stand {R = R} remaining failures is_broken n olds news inputs c = record {
 }
 
 -- what was read of inputs whose headers were read
-pub read_begun : {R : Type 0} (remaining : R → Option (List ℕ)) (failures : R → ℕ) (is_broken : R → Bool) (n : ℕ) (olds news : List R) (inputs : List Progress) (u : R)
+pub read_begun : {R : Type 0} (remaining : R → Option (List ℕ)) (failures : R → ℕ) (is_broken : R →
+    Bool) (n : ℕ) (olds news : List R) (inputs : List Progress) (u : R)
     → ReadFirst remaining failures is_broken n olds news inputs → AreRead (map remaining olds) (map remaining (slice_set news n u)) (all_begun inputs)
 read_begun {R = R} remaining failures is_broken n olds news inputs u c q i old new at here there =
     let (p, there_p, is) = told_at begun inputs q i at in
@@ -275,14 +292,17 @@ read_begun {R = R} remaining failures is_broken n olds news inputs u c q i old n
     (λ x x' here_x there_x. rw (is, is_open) (known_begun p (remaining x) (remaining x')
     (c.read q p x x' there_p here_x (sym (get_set_other news n q u (λ e. absurd (omega (arith, below, e)))) ∙ there_x)))) old new here there
   where
-    known_begun : (p : Progress) (a a' : Option (List ℕ)) → WhereKnown a a' (λ bytes rest. HasRead bytes p.source [] rest) → WhereKnown a a' (λ bytes rest. BeginsAs bytes p.source.unit [])
+    known_begun : (p : Progress) (a a' : Option (List ℕ)) → WhereKnown a a' (λ bytes rest. HasRead bytes p.source [] rest) →
+        WhereKnown a a' (λ bytes rest. BeginsAs bytes p.source.unit [])
     known_begun p None a' known = tt
     known_begun p (Some bytes) None known = absurd known
     known_begun p (Some bytes) (Some rest) known = (p.source, rest, known, refl)
 
 -- the header of an input is at fault
-pub header_fault : {R : Type 0} (remaining : R → Option (List ℕ)) (failures : R → ℕ) (is_broken : R → Bool) (n : ℕ) (olds news : List R) (inputs : List Progress) (r u : R) (error : PcapError)
-    → ReadFirst remaining failures is_broken n olds news inputs → slice_get news n ≡ Some r → WhereKnown (remaining r) (remaining u) (λ bytes rest. HeaderAnswers bytes rest (Err error))
+pub header_fault : {R : Type 0} (remaining : R → Option (List ℕ)) (failures : R → ℕ) (is_broken : R →
+    Bool) (n : ℕ) (olds news : List R) (inputs : List Progress) (r u : R) (error : PcapError)
+    → ReadFirst remaining failures is_broken n olds news inputs → slice_get news n ≡ Some r →
+    WhereKnown (remaining r) (remaining u) (λ bytes rest. HeaderAnswers bytes rest (Err error))
     → HasHeaderFault (map remaining olds) (map remaining (slice_set news n u)) n error
 header_fault remaining failures is_broken n olds news inputs r u error c at known = record {
   before = (all_begun inputs, omega (arith, length-map inputs begun, c.many), read_begun remaining failures is_broken n olds news inputs u c);

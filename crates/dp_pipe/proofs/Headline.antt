@@ -17,7 +17,8 @@ use Rattle.dp_pipe.proofs.PacketRuns.{IsReady, IsFirst, run_of, counted_run}
 use Rattle.dp_pipe.proofs.Texts.{given_all}
 
 -- the engine of a pipeline before its first turn
-pub is_first : (p : Plan) (pattern : List ℕ) (olds news held holds : List (Option (List ℕ))) (answer : Result Report RunFault) → (r : RanOn p pattern olds news held holds answer) → IsFirst p pattern r.first
+pub is_first : (p : Plan) (pattern : List ℕ) (olds news held holds : List (Option (List ℕ))) (answer : Result Report RunFault) →
+    (r : RanOn p pattern olds news held holds answer) → IsFirst p pattern r.first
 is_first p pattern olds news held holds answer r = record { setting = r.setting; nodes = r.nodes; start = r.start; tallies = r.tallies; left = r.left }
 
 -- as many ports as the pipeline has
@@ -31,7 +32,8 @@ pub record Done (p : Plan) (pattern : List ℕ) (held holds : List (Option (List
   pub wrote : AreGiven held holds (capture_text (unit_for (units_of inputs)) run.captures)
   pub numbers : HasNumbers p pattern (arrivals_of inputs) run inputs (λ port. length (capture_at run.captures port)) r
 
-pub went_on : (p : Plan) (pattern : List ℕ) (first last : EngineState) (unit : TimeUnit) (olds news held mids holds : List (Option (List ℕ))) (inputs : List Input) (progress : List Progress) (r : Report)
+pub went_on : (p : Plan) (pattern : List ℕ) (first last : EngineState) (unit : TimeUnit) (olds news held mids holds : List (Option (List ℕ)))
+    (inputs : List Input) (progress : List Progress) (r : Report)
     → IsReady p pattern → IsFirst p pattern first → length mids ≡ length held → HeadersWritten unit held mids → Went unit first last olds news mids holds inputs
     → map (λ (i : Input). i.state) inputs ≡ map (λ (x : Progress). x.state) progress → Tells last progress r → Done p pattern held holds inputs r
 went_on p pattern first last unit olds news held mids holds inputs progress r ready is many headers went states tells =
@@ -41,13 +43,16 @@ went_on p pattern first last unit olds news held mids holds inputs progress r re
     record {
       many = went.inputs_many ∙ ports;
       run = run;
-      wrote = subst (λ (u : TimeUnit). AreGiven held holds (capture_text u went.captures)) went.unit_is (given_all unit went.captures held mids holds many headers went.wrote);
-      numbers = numbers_told p pattern (arrivals_of inputs) run last progress inputs (λ port. length (capture_at went.captures port)) r few_ports few_rings (went.inputs_many ∙ ports) states
+      wrote = subst (λ (u : TimeUnit). AreGiven held holds (capture_text u went.captures)) went.unit_is
+          (given_all unit went.captures held mids holds many headers went.wrote);
+      numbers = numbers_told p pattern (arrivals_of inputs) run last progress inputs (λ port. length (capture_at went.captures port)) r few_ports few_rings
+          (went.inputs_many ∙ ports) states
           (counted_run p pattern first last (arrivals_of inputs) went.captures ready is went.run (went.many ∙ ports)) tells;
     }
 
 -- all inputs were forwarded
-pub forwarded : (p : Plan) (pattern : List ℕ) (olds news held holds : List (Option (List ℕ))) (answer : Result Report RunFault) → IsReady p pattern → RanOn p pattern olds news held holds answer
+pub forwarded : (p : Plan) (pattern : List ℕ) (olds news held holds : List (Option (List ℕ))) (answer : Result Report RunFault) → IsReady p pattern →
+    RanOn p pattern olds news held holds answer
     → IfOk answer (Forwarded p pattern olds news held holds)
 forwarded p pattern olds news held holds (Ok r) ready ran = go ran.went
   where
@@ -57,10 +62,20 @@ forwarded p pattern olds news held holds (Ok r) ready ran = go ran.went
         let (inputs, states, went, over) = made.rounds in
         let done = went_on p pattern ran.first ran.last made.unit olds news held made.mids holds inputs ran.progress r ready
         (is_first p pattern olds news held holds (Ok r) ran) made.mids_many made.headers went states ran.tells in
-        record { room = ran.room; inputs = inputs; many = done.many; read = went.read; ended = over; run = done.run; wrote = done.wrote; numbers = done.numbers }
+        record {
+          room = ran.room;
+          inputs = inputs;
+          many = done.many;
+          read = went.read;
+          ended = over;
+          run = done.run;
+          wrote = done.wrote;
+          numbers = done.numbers;
+        }
 forwarded p pattern olds news held holds (Err fault) ready ran = tt
 
-pub all_forwarded : (p : Plan) (pattern : List ℕ) (olds news held holds : List (Option (List ℕ))) (answer : Result Report RunFault) → IsReady p pattern → RunAnswers p pattern olds news held holds answer
+pub all_forwarded : (p : Plan) (pattern : List ℕ) (olds news held holds : List (Option (List ℕ))) (answer : Result Report RunFault) → IsReady p pattern →
+    RunAnswers p pattern olds news held holds answer
     → IfOk answer (Forwarded p pattern olds news held holds)
 all_forwarded p pattern olds news held holds answer ready (inl ran) = forwarded p pattern olds news held holds answer ready ran
 all_forwarded p pattern olds news held holds (Ok r) ready (inr unopened) = absurd unopened

@@ -23,13 +23,15 @@ use Rattle.dp_pipe.proofs.PacketRuns.{IsFirst}
 
 -- inputs that are open leave the numbers of their ports as they are
 open_ports : (progress : List Progress) (specs : List PortSpec) (most : ℕ) → AllByRecursion IsBegun progress → length specs ≤ most
-    → with_states (map (λ (x : Progress). x.state) progress) (map (port_report Open) (take (length specs) (replicate most no_tallies))) ≡ map (λ _. port_report Open no_tallies) specs
+    → with_states (map (λ (x : Progress). x.state) progress) (map (port_report Open) (take (length specs) (replicate most no_tallies)))
+    ≡ map (λ _. port_report Open no_tallies) specs
 open_ports [] [] most begun few = refl
 open_ports (x ∷ progress) [] most begun few = refl
 open_ports progress (spec ∷ specs) zero begun few = absurd (omega (arith, few))
 open_ports [] (spec ∷ specs) (suc most) begun few = ap (λ l. port_report Open no_tallies ∷ l) (open_ports [] specs most tt (omega (arith, few)))
 open_ports (x ∷ progress) (spec ∷ specs) (suc most) begun few =
-    ap (λ (s : InputState). port_report s no_tallies ∷ with_states (map (λ (y : Progress). y.state) progress) (map (port_report Open) (take (length specs) (replicate most no_tallies)))) begun.0.state
+    ap (λ (s : InputState). port_report s no_tallies ∷ with_states (map (λ (y : Progress). y.state) progress)
+    (map (port_report Open) (take (length specs) (replicate most no_tallies)))) begun.0.state
     ∙ ap (λ l. port_report Open no_tallies ∷ l) (open_ports progress specs most begun.1 (omega (arith, few)))
 
 no_packets : (specs : List RingSpec) → map (λ (packets : List Packet). length packets) (map (λ _. []) specs) ≡ map (λ _. 0) specs
@@ -61,6 +63,7 @@ idle_told p pattern first progress r is ascends few_ports few_rings begun tells 
           ∙ left_only 8 (map none p.env.rings) (omega (arith, few_rings, length-map p.env.rings none));
       pools = subst (λ (s : Setting). IsWhole s.env r) is.setting tells.pools;
       calls = tells.calls ∙ is.start.calls;
-      refused = tells.refused ∙ ap (λ (s : Setting). refused_of s.pattern first.world.calls) is.setting ∙ ap (refused_of pattern) is.start.calls ∙ none_refused 0 pattern ascends;
+      refused = tells.refused ∙ ap (λ (s : Setting). refused_of s.pattern first.world.calls) is.setting ∙ ap (refused_of pattern) is.start.calls
+          ∙ none_refused 0 pattern ascends;
       cut = tells.cut ∙ is.start.cuts;
     }

@@ -34,11 +34,13 @@ few_at : {A : Type 0} (m n : ℕ) (inputs : List (List A)) → m ≤ n → AreFe
 few_at m n inputs le few q ys e = omega (arith, le, few q ys e)
 
 -- so many rounds are all, if they reach behind the last record
-rounds_all : {T : Type 0} (n m k : ℕ) (inputs : List (List (T × List ℕ))) → AreFew (k + n) inputs → AreFew (k + m) inputs → rounds n k inputs ≡ rounds m k inputs
+rounds_all : {T : Type 0} (n m k : ℕ) (inputs : List (List (T × List ℕ))) → AreFew (k + n) inputs → AreFew (k + m) inputs →
+    rounds n k inputs ≡ rounds m k inputs
 rounds_all zero m k inputs few more = sym (rounds_past m k inputs (few_at (k + 0) k inputs (omega arith) few))
 rounds_all (suc n) zero k inputs few more = rounds_past (suc n) k inputs (few_at (k + 0) k inputs (omega arith) more)
 rounds_all (suc n) (suc m) k inputs few more =
-    ap (λ l. round_of k 0 inputs ++ l) (rounds_all n m (k + 1) inputs (few_at (k + suc n) (k + 1 + n) inputs (omega arith) few) (few_at (k + suc m) (k + 1 + m) inputs (omega arith) more))
+    ap (λ l. round_of k 0 inputs ++ l) (rounds_all n m (k + 1) inputs (few_at (k + suc n) (k + 1 + n) inputs (omega arith) few)
+    (few_at (k + suc m) (k + 1 + m) inputs (omega arith) more))
 
 -- the last round stands behind the others
 rounds_last : {T : Type 0} (n k : ℕ) (inputs : List (List (T × List ℕ))) → rounds (suc n) k inputs ≡ rounds n k inputs ++ round_of (k + n) 0 inputs
@@ -66,7 +68,8 @@ get_last [] r = refl
 get_last (x ∷ xs) r = get_last xs r
 
 -- an earlier round does not see a record more
-round_same : {T : Type 0} (inputs : List (List (T × List ℕ))) (p j s : ℕ) (xs ys : List (T × List ℕ)) → slice_get inputs p ≡ Some xs → j < length xs → round_of j s (slice_set inputs p (xs ++ ys)) ≡ round_of j s inputs
+round_same : {T : Type 0} (inputs : List (List (T × List ℕ))) (p j s : ℕ) (xs ys : List (T × List ℕ)) → slice_get inputs p ≡ Some xs → j < length xs →
+    round_of j s (slice_set inputs p (xs ++ ys)) ≡ round_of j s inputs
 round_same [] p j s xs ys e lt = refl
 round_same {T} (x ∷ inputs) zero j s xs ys e lt =
     let same = same_Some x xs e in
@@ -90,7 +93,8 @@ round_more {T} (x ∷ inputs) (suc p) s xs r e few =
     let more : round_of (length xs) (s + 1) (slice_set inputs p (xs ++ r ∷ [])) ≡ round_of (length xs) (s + 1) inputs ++ arriving (s + suc p) r ∷ [] =
     rw place at (round_more inputs p (s + 1) xs r e (λ q ys lt at. few (suc q) ys (omega (arith, lt)) at)) in
     ap (λ l. option_to_list (option_map (arriving s) (slice_get x (length xs))) ++ l) more
-    ∙ sym (append_assoc (option_to_list (option_map (arriving s) (slice_get x (length xs)))) (round_of (length xs) (s + 1) inputs) (arriving (s + suc p) r ∷ []))
+    ∙ sym (append_assoc (option_to_list (option_map (arriving s) (slice_get x (length xs)))) (round_of (length xs) (s + 1) inputs)
+    (arriving (s + suc p) r ∷ []))
 
 few_longest : {A : Type 0} (n : ℕ) (inputs : List (List A)) → longest inputs ≤ n → AreFew n inputs
 few_longest n [] le q ys e = cc
@@ -121,7 +125,8 @@ interleaved_more inputs p xs r e few behind =
     let b = all_rounds (suc k) inputs (few_at (k + 1) (suc k) inputs (omega arith) few) in
     let same : rounds k 0 after ≡ rounds k 0 inputs = rounds_same k 0 after inputs (λ j lt. round_same inputs p j 0 xs (r ∷ []) e (omega (arith, lt))) in
     let zero_more : 0 + p ≡ p = omega arith in
-    let last : round_of k 0 after ≡ round_of k 0 inputs ++ arriving p r ∷ [] = round_more inputs p 0 xs r e behind ∙ ap (λ n. round_of k 0 inputs ++ arriving n r ∷ []) zero_more in
+    let last : round_of k 0 after ≡ round_of k 0 inputs ++ arriving p r ∷ [] = round_more inputs p 0 xs r e behind
+    ∙ ap (λ n. round_of k 0 inputs ++ arriving n r ∷ []) zero_more in
     let c = rounds_last k 0 after in
     let d = rounds_last k 0 inputs in
     let zero_k : 0 + k ≡ k = omega arith in

@@ -1,5 +1,6 @@
 -- A turn behind which a writer failed: what was written until then, and what is counted.
-use Rattle.std.proofs.Common.{◌≡◌, ◌≢◌, ℕ, zero, suc, ◌+◌, ◌<◌, ◌≤◌, ◌⊎◌, inl, inr, Bool, true, false, List, [], ◌∷◌, ◌++◌, length, take, Option, Some, refl, sym, ◌∙◌, ap, subst, arith, append-nil, zero-add}
+use Rattle.std.proofs.Common.{◌≡◌, ◌≢◌, ℕ, zero, suc, ◌+◌, ◌<◌, ◌≤◌, ◌⊎◌, inl, inr, Bool, true, false, List, [], ◌∷◌, ◌++◌, length, take, Option, Some, refl}
+use Rattle.std.proofs.Common.{sym, ◌∙◌, ap, subst, arith, append-nil, zero-add}
 use Rattle.std.specs.Prelude.{slice_get, slice_set, nat_lt, ◌==◌, if◌then◌else◌}
 use Rattle.std.specs.Option.{option_map_or}
 use Rattle.std.specs.Io.KnownBytes.{Appends}
@@ -33,7 +34,8 @@ use Rattle.dp_pipe.proofs.Through.{stays_failed}
 -- ---- captures with one more
 
 -- a port's capture in a run and behind it
-pub capture_joined : (xs ys : List (List (Time × List ℕ))) (q : ℕ) → q < length xs → q < length ys → capture_at (joined xs ys) q ≡ capture_at xs q ++ capture_at ys q
+pub capture_joined : (xs ys : List (List (Time × List ℕ))) (q : ℕ) → q < length xs → q < length ys → capture_at (joined xs ys) q ≡ capture_at xs q
+    ++ capture_at ys q
 capture_joined xs ys q lt lt' =
     let (x, y, was, is, both) = joined_here xs ys q lt lt' in
     ap (λ o. option_map_or capture_of o []) both ∙ map-append captured x y
@@ -47,13 +49,16 @@ take_behind (x ∷ xs) ys n =
 
 -- a header, records, and more records
 text_more : (unit : TimeUnit) (xs ys : List PacketRecord) → (header_text unit ++ records_text unit xs) ++ records_text unit ys ≡ text unit (xs ++ ys)
-text_more unit xs ys = append_assoc (header_text unit) (records_text unit xs) (records_text unit ys) ∙ ap (λ l. header_text unit ++ l) (sym (texts_append unit xs ys))
+text_more unit xs ys = append_assoc (header_text unit) (records_text unit xs) (records_text unit ys)
+    ∙ ap (λ l. header_text unit ++ l) (sym (texts_append unit xs ys))
 
 -- ---- what was written
 
 -- what a writer was given before the last turn: a header, and all that its port had sent
-given_before : (unit : TimeUnit) (captures : List (List (Time × List ℕ))) (held hdr mids : List (Option (List ℕ))) → length hdr ≡ length held → length mids ≡ length hdr → HeadersWritten unit held hdr → AreWritten unit hdr mids (capture_at captures)
-    → (q : ℕ) (old : Option (List ℕ)) → slice_get held q ≡ Some old → (mid : Option (List ℕ)) × (slice_get mids q ≡ Some mid) × Appends old mid (text unit (capture_at captures q))
+given_before : (unit : TimeUnit) (captures : List (List (Time × List ℕ))) (held hdr mids : List (Option (List ℕ))) → length hdr ≡ length held →
+    length mids ≡ length hdr → HeadersWritten unit held hdr → AreWritten unit hdr mids (capture_at captures)
+    → (q : ℕ) (old : Option (List ℕ)) → slice_get held q ≡ Some old → (mid : Option (List ℕ)) × (slice_get mids q ≡ Some mid)
+    × Appends old mid (text unit (capture_at captures q))
 given_before unit captures held hdr mids many mids_many headers wrote q old here =
     let within = slice_get_within held q old here in
     let (h, at_h) = mid_of hdr q (omega (arith, within, many)) in
@@ -61,8 +66,10 @@ given_before unit captures held hdr mids many mids_many headers wrote q old here
     (m, at_m, appends_then old h m (header_text unit) (records_text unit (capture_at captures q)) (headers q old h here at_h) (wrote q h m at_h at_m))
 
 module _ (unit : TimeUnit) (captures : List (List (Time × List ℕ))) (time : Time) (e e' : EngineState) (held hdr mids holds : List (Option (List ℕ))) (port : ℕ)
-    (many : length hdr ≡ length held) (mids_many : length mids ≡ length hdr) (headers : HeadersWritten unit held hdr) (wrote : AreWritten unit hdr mids (capture_at captures))
-    (long : length captures ≡ length held) (new_long : length (records_at time e.world) ≡ length held) (stopped : DrainsStopped unit time e e' mids holds port) where
+    (many : length hdr ≡ length held) (mids_many : length mids ≡ length hdr) (headers : HeadersWritten unit held hdr)
+    (wrote : AreWritten unit hdr mids (capture_at captures))
+    (long : length captures ≡ length held) (new_long : length (records_at time e.world)
+    ≡ length held) (stopped : DrainsStopped unit time e e' mids holds port) where
   abbrev all : List (List (Time × List ℕ))
   all = joined captures (records_at time e.world)
 
@@ -72,7 +79,8 @@ module _ (unit : TimeUnit) (captures : List (List (Time × List ℕ))) (time : T
       capture_joined captures (records_at time e.world) q (omega (arith, within, long)) (omega (arith, within, new_long))
 
   -- a port before it has written all
-  pub given_ahead : (q : ℕ) (old new : Option (List ℕ)) → q < port → slice_get held q ≡ Some old → slice_get holds q ≡ Some new → Appends old new (capture_text unit all q)
+  pub given_ahead : (q : ℕ) (old new : Option (List ℕ)) → q < port → slice_get held q ≡ Some old → slice_get holds q ≡ Some new →
+      Appends old new (capture_text unit all q)
   given_ahead q old new less here there =
       let (m, at_m, before) = given_before unit captures held hdr mids many mids_many headers wrote q old here in
       let apart : q ≢ port = λ e. absurd (omega (arith, less, e)) in
@@ -81,7 +89,8 @@ module _ (unit : TimeUnit) (captures : List (List (Time × List ℕ))) (time : T
       (appends_then old m new (text unit (capture_at captures q)) (records_text unit (drained_at time e.world q)) before now)
 
   -- a port behind it has written what was sent before
-  pub given_behind : (q : ℕ) (old new : Option (List ℕ)) → port < q → slice_get held q ≡ Some old → slice_get holds q ≡ Some new → Appends old new (capture_text unit captures q)
+  pub given_behind : (q : ℕ) (old new : Option (List ℕ)) → port < q → slice_get held q ≡ Some old → slice_get holds q ≡ Some new →
+      Appends old new (capture_text unit captures q)
   given_behind q old new less here there =
       let (m, at_m, before) = given_before unit captures held hdr mids many mids_many headers wrote q old here in
       let apart : q ≢ port = λ e. absurd (omega (arith, less, e)) in
@@ -89,7 +98,8 @@ module _ (unit : TimeUnit) (captures : List (List (Time × List ℕ))) (time : T
       subst (Appends old new) (append-nil (text unit (capture_at captures q))) (appends_then old m new (text unit (capture_at captures q)) [] before now)
 
   -- its own writer was given whole records, and a part of the next
-  pub given_own : (old new : Option (List ℕ)) → slice_get held port ≡ Some old → slice_get holds port ≡ Some new → WroteFront old new unit (capture_at all port) (length (capture_at captures port) + stopped.whole)
+  pub given_own : (old new : Option (List ℕ)) → slice_get held port ≡ Some old → slice_get holds port ≡ Some new →
+      WroteFront old new unit (capture_at all port) (length (capture_at captures port) + stopped.whole)
   given_own old new here there =
       let (m, at_m, before) = given_before unit captures held hdr mids many mids_many headers wrote port old here in
       let part = stopped.own m new at_m there in
@@ -105,14 +115,16 @@ module _ (unit : TimeUnit) (captures : List (List (Time × List ℕ))) (time : T
         part = part.part;
         wrote = subst (Appends old new)
             (sym (append_assoc (text unit xs) (records_text unit front) rest)
-            ∙ ap (λ l. l ++ rest) (text_more unit xs front ∙ ap (text unit) (sym (take_behind xs ys stopped.whole) ∙ ap (take (length xs + stopped.whole)) (sym is))))
+            ∙ ap (λ l. l ++ rest) (text_more unit xs front ∙ ap (text unit) (sym (take_behind xs ys stopped.whole)
+            ∙ ap (take (length xs + stopped.whole)) (sym is))))
             (appends_then old m new (text unit xs) (records_text unit front ++ rest) before part.wrote);
       }
 
 -- ---- what was counted
 
 -- a turn counts its record at its port
-turned_tally : (q port : ℕ) (o : Outcome) (tallies : List Tallies) (base : Tallies) (n : ℕ) → port < length tallies → tallies_at tallies q ≡ record base { sent = n }
+turned_tally : (q port : ℕ) (o : Outcome) (tallies : List Tallies) (base : Tallies) (n : ℕ) → port < length tallies →
+    tallies_at tallies q ≡ record base { sent = n }
     → tallies_at (counted_at port o tallies) q ≡ record (if port == q then counted o base else base) { sent = n }
 turned_tally q port o tallies base n less is = turn_tally q port o tallies less ∙ go (port == q)
   where
@@ -125,22 +137,27 @@ drained_tally : (q port whole : ℕ) (tallies : List Tallies) → port < length 
     → tallies_at (sent_at port whole tallies) q ≡ record (tallies_at tallies q) { sent = (tallies_at tallies q).sent + (if q == port then whole else 0) }
 drained_tally q port whole tallies less = go (split q port)
   where
-    go : (q ≡ port) ⊎ (q ≢ port) → tallies_at (sent_at port whole tallies) q ≡ record (tallies_at tallies q) { sent = (tallies_at tallies q).sent + (if q == port then whole else 0) }
-    go (inl same) = subst (λ x. tallies_at (sent_at port whole tallies) x ≡ record (tallies_at tallies x) { sent = (tallies_at tallies x).sent + (if x == port then whole else 0) }) (sym same)
+    go : (q ≡ port) ⊎ (q ≢ port) → tallies_at (sent_at port whole tallies) q
+        ≡ record (tallies_at tallies q) { sent = (tallies_at tallies q).sent + (if q == port then whole else 0) }
+    go (inl same) = subst (λ x. tallies_at (sent_at port whole tallies) x
+        ≡ record (tallies_at tallies x) { sent = (tallies_at tallies x).sent + (if x == port then whole else 0) }) (sym same)
         (rw (eq-eqb port port refl) (tallies_same tallies port (record (tallies_at tallies port) { sent = (tallies_at tallies port).sent + whole }) less))
     go (inr other) =
         let t = tallies_at tallies q in
-        rw (ne_eqb q port other) (tallies_other tallies port q (record (tallies_at tallies port) { sent = (tallies_at tallies port).sent + whole }) other ∙ ap (λ n. record t { sent = n }) more)
+        rw (ne_eqb q port other) (tallies_other tallies port q (record (tallies_at tallies port) { sent = (tallies_at tallies port).sent + whole }) other
+        ∙ ap (λ n. record t { sent = n }) more)
       where
         more : (tallies_at tallies q).sent ≡ (tallies_at tallies q).sent + 0
         more = omega arith
 
 -- how many records a port has written whole
-sent_is : (q port own : ℕ) (before all : List (List (Time × List ℕ))) (newest : ℕ) (whole : ℕ) → length (capture_at all q) ≡ length (capture_at before q) + newest → own ≡ length (capture_at before port) + whole
+sent_is : (q port own : ℕ) (before all : List (List (Time × List ℕ))) (newest : ℕ) (whole : ℕ) → length (capture_at all q)
+    ≡ length (capture_at before q) + newest → own ≡ length (capture_at before port) + whole
     → length (capture_at before q) + (if nat_lt q port then newest else 0) + (if q == port then whole else 0) ≡ sent_until port own all before q
 sent_is q port own before all newest whole long mine = go (split q port) (order q port)
   where
-    go : (q ≡ port) ⊎ (q ≢ port) → (q < port) ⊎ (port ≤ q) → length (capture_at before q) + (if nat_lt q port then newest else 0) + (if q == port then whole else 0) ≡ sent_until port own all before q
+    go : (q ≡ port) ⊎ (q ≢ port) → (q < port) ⊎ (port ≤ q) → length (capture_at before q) + (if nat_lt q port then newest else 0)
+        + (if q == port then whole else 0) ≡ sent_until port own all before q
     go (inl same) side =
         let here : length (capture_at before q) ≡ length (capture_at before port) = ap (λ x. length (capture_at before x)) same in
         rw (le-ltb q port (omega (arith, same)), eq-eqb q port same) (omega (arith, here, mine))
@@ -149,8 +166,10 @@ sent_is q port own before all newest whole long mine = go (split q port) (order 
 
 -- ---- the run through the last turn
 
-module _ (p : Plan) (pattern : List ℕ) (first last : EngineState) (unit : TimeUnit) (olds news hdr holds : List (Option (List ℕ))) (inputs : List Input) (port : ℕ)
-    (ready : IsReady p pattern) (is : IsFirst p pattern first) (f : FailedAt unit first last olds news hdr holds inputs port) (few_ports : length p.env.ports ≤ 8) where
+module _ (p : Plan) (pattern : List ℕ) (first last : EngineState) (unit : TimeUnit) (olds news hdr holds : List (Option (List ℕ))) (inputs : List Input)
+    (port : ℕ)
+    (ready : IsReady p pattern) (is : IsFirst p pattern first) (f : FailedAt unit first last olds news hdr holds inputs port)
+    (few_ports : length p.env.ports ≤ 8) where
   engine_setting : f.engine.setting ≡ setting_in p pattern
   engine_setting = ap (λ (e : EngineState). e.setting) f.run.stays ∙ is.setting
 
@@ -170,17 +189,21 @@ module _ (p : Plan) (pattern : List ℕ) (first last : EngineState) (unit : Time
   earlier = run_of p pattern first f.engine f.before f.captures ready is f.run
 
   pub turned : Turn (setting_in p pattern) (programs_in p) f.last.port f.last.bytes f.engine.world f.turn.outcome f.turn.runs f.turn.told f.behind.world
-  turned = subst (λ (c : Setting). Turn c (programs_in p) f.last.port f.last.bytes f.engine.world f.turn.outcome f.turn.runs f.turn.told f.behind.world) engine_setting
+  turned = subst (λ (c : Setting). Turn c (programs_in p) f.last.port f.last.bytes f.engine.world f.turn.outcome f.turn.runs f.turn.told f.behind.world)
+      engine_setting
       (subst (λ (n : Nodes). Turn f.engine.setting n f.last.port f.last.bytes f.engine.world f.turn.outcome f.turn.runs f.turn.told f.behind.world)
       (ap (λ (e : EngineState). e.nodes) f.run.stays ∙ is.nodes) f.turn.turn)
 
-  pub pushed : Run (setting_in p pattern) (programs_in p) (f.before ++ f.last ∷ []) first.world (f.run.told ++ f.turn.told) (f.run.outcomes ++ f.turn.outcome ∷ []) (joined f.captures (records_at f.last.time f.behind.world))
+  pub pushed : Run (setting_in p pattern) (programs_in p) (f.before ++ f.last ∷ []) first.world (f.run.told ++ f.turn.told) (f.run.outcomes
+      ++ f.turn.outcome ∷ []) (joined f.captures (records_at f.last.time f.behind.world))
       (with_empty_outboxes f.behind.world)
-  pushed = run_push (setting_in p pattern) (programs_in p) f.before f.last first.world f.engine.world f.behind.world f.run.told f.turn.told f.run.outcomes f.turn.outcome f.turn.runs f.captures boxes
+  pushed = run_push (setting_in p pattern) (programs_in p) f.before f.last first.world f.engine.world f.behind.world f.run.told f.turn.told f.run.outcomes
+      f.turn.outcome f.turn.runs f.captures boxes
       (ran p pattern first f.engine f.before f.captures is f.run) turned
 
   abbrev pub through : PacketRun p pattern (f.before ++ f.last ∷ [])
-  through = packet_run p pattern (f.before ++ f.last ∷ []) first.world (with_empty_outboxes f.behind.world) (f.run.told ++ f.turn.told) (f.run.outcomes ++ f.turn.outcome ∷ [])
+  through = packet_run p pattern (f.before ++ f.last ∷ []) first.world (with_empty_outboxes f.behind.world) (f.run.told ++ f.turn.told) (f.run.outcomes
+      ++ f.turn.outcome ∷ [])
       (joined f.captures (records_at f.last.time f.behind.world)) ready is.start pushed
 
   pub goes_on_by : GoesOnBy p pattern f.before f.last earlier through
@@ -200,7 +223,9 @@ module _ (p : Plan) (pattern : List ℕ) (first last : EngineState) (unit : Time
   abbrev pub own_sent : ℕ
   own_sent = length (capture_at f.captures port) + f.stopped.whole
 
-  counted_one : (q : ℕ) → q < length p.env.ports → tallies_at last.tallies q ≡ record (tally_of q (f.before ++ f.last ∷ []) (f.run.outcomes ++ f.turn.outcome ∷ []) no_tallies) { sent = sent_until port own_sent through.captures f.captures q }
+  counted_one : (q : ℕ) → q < length p.env.ports → tallies_at last.tallies q
+      ≡ record (tally_of q (f.before ++ f.last ∷ []) (f.run.outcomes ++ f.turn.outcome ∷ []) no_tallies)
+      { sent = sent_until port own_sent through.captures f.captures q }
   counted_one q less =
       let base = tally_of q f.before f.run.outcomes no_tallies in
       let o = f.turn.outcome in
@@ -209,20 +234,35 @@ module _ (p : Plan) (pattern : List ℕ) (first last : EngineState) (unit : Time
       let newest = drained_at f.last.time f.behind.world q in
       let records = records_at f.last.time f.behind.world in
       let c = counted_run p pattern first f.engine f.before f.captures ready is f.run captures_long in
-      let there : f.last.port < length f.engine.tallies = omega (arith, slice_get_within p.env.ports f.last.port turned.spec turned.spec_is, few_ports, c.tallies_many) in
+      let there : f.last.port < length f.engine.tallies = omega (
+        arith,
+        slice_get_within p.env.ports f.last.port turned.spec turned.spec_is,
+        few_ports,
+        c.tallies_many,
+      ) in
       let t1 : tallies_at f.behind.tallies q ≡ record after { sent = before } =
       ap (λ (e : EngineState). tallies_at e.tallies q) f.turn.is ∙ turned_tally q f.last.port o f.engine.tallies base before there (c.tallies q less) in
       let inside : q < length f.behind.setting.env.ports = subst (λ (s : Setting). q < length s.env.ports) (sym behind_setting) less in
       let t2 : tallies_at f.stopped.engine.tallies q ≡ record after { sent = before + (if nat_lt q port then length newest else 0) } =
       f.stopped.first.tallies q inside ∙ ap (λ (t : Tallies). record t { sent = t.sent + (if nat_lt q port then length newest else 0) }) t1 in
-      let port_in : port < length f.stopped.engine.tallies = omega (arith, f.stopped.there, ap (λ (s : Setting). length s.env.ports) behind_setting, few_ports, f.stopped.first.each, many_behind, c.tallies_many) in
+      let port_in : port < length f.stopped.engine.tallies = omega (
+        arith,
+        f.stopped.there,
+        ap (λ (s : Setting). length s.env.ports) behind_setting,
+        few_ports,
+        f.stopped.first.each,
+        many_behind,
+        c.tallies_many,
+      ) in
       let t3 = ap (λ (e : EngineState). tallies_at e.tallies q) f.stopped.is ∙ drained_tally q port f.stopped.whole f.stopped.engine.tallies port_in
       ∙ ap (λ (t : Tallies). record t { sent = t.sent + (if q == port then f.stopped.whole else 0) }) t2 in
       let long : length (capture_at through.captures q) ≡ before + length newest =
-      ap length (capture_joined f.captures records q (omega (arith, less, captures_long)) (omega (arith, less, records_long))) ∙ length-append (capture_at f.captures q) newest in
+      ap length (capture_joined f.captures records q (omega (arith, less, captures_long)) (omega (arith, less, records_long)))
+      ∙ length-append (capture_at f.captures q) newest in
       t3 ∙ ap (λ n. record after { sent = n }) (sent_is q port own_sent f.captures through.captures (length newest) f.stopped.whole long refl)
       ∙ ap (λ (t : Tallies). record t { sent = sent_until port own_sent through.captures f.captures q })
-      (sym (tally_more q f.before f.run.outcomes f.last o no_tallies (outcomes_many (setting_in p pattern) (programs_in p) f.before first.world f.engine.world f.run.told f.run.outcomes f.captures (ran p pattern first f.engine f.before f.captures is f.run))))
+      (sym (tally_more q f.before f.run.outcomes f.last o no_tallies (outcomes_many (setting_in p pattern) (programs_in p) f.before first.world f.engine.world
+      f.run.told f.run.outcomes f.captures (ran p pattern first f.engine f.before f.captures is f.run))))
     where
       length_set : {A : Type 0} (xs : List A) (i : ℕ) (x : A) → length (slice_set xs i x) ≡ length xs
       length_set [] i x = refl
@@ -230,7 +270,8 @@ module _ (p : Plan) (pattern : List ℕ) (first last : EngineState) (unit : Time
       length_set (y ∷ xs) (suc i) x = ap suc (length_set xs i x)
 
       many_behind : length f.behind.tallies ≡ length f.engine.tallies
-      many_behind = ap (λ (e : EngineState). length e.tallies) f.turn.is ∙ length_set f.engine.tallies f.last.port (counted f.turn.outcome (tallies_at f.engine.tallies f.last.port))
+      many_behind = ap (λ (e : EngineState). length e.tallies) f.turn.is
+          ∙ length_set f.engine.tallies f.last.port (counted f.turn.outcome (tallies_at f.engine.tallies f.last.port))
 
   pub counted_failed : IsCounted p pattern (f.before ++ f.last ∷ []) through last (sent_until port own_sent through.captures f.captures)
   counted_failed =
@@ -239,7 +280,8 @@ module _ (p : Plan) (pattern : List ℕ) (first last : EngineState) (unit : Time
         setting = stays.setting ∙ is.setting;
         tallies_many = stays.each ∙ ap length is.tallies;
         tallies = counted_one;
-        left = ap (λ (e : EngineState). e.left) f.stopped.is ∙ ap (λ (e : EngineState). e.left) f.stopped.first.is ∙ ap (λ (e : EngineState). e.left) f.turn.is ∙ ap (λ (e : EngineState). e.left) f.run.stays ∙ is.left;
+        left = ap (λ (e : EngineState). e.left) f.stopped.is ∙ ap (λ (e : EngineState). e.left) f.stopped.first.is
+            ∙ ap (λ (e : EngineState). e.left) f.turn.is ∙ ap (λ (e : EngineState). e.left) f.run.stays ∙ is.left;
         rings = ap (λ (e : EngineState). e.world.rings) f.stopped.is ∙ ap (λ (e : EngineState). e.world.rings) f.stopped.first.is;
         rings_many = rings_there p pattern (f.before ++ f.last ∷ []) ready through;
         calls = ap (λ (e : EngineState). e.world.calls) f.stopped.is ∙ ap (λ (e : EngineState). e.world.calls) f.stopped.first.is;

@@ -12,18 +12,21 @@ use Rattle.dp_pipe.specs.Forwarding.{TakesTurn, ReadsTurn}
 
 -- from what the reader has at hand
 pub lent : (port : ℕ) (e e' : EngineState) (s s' : Standing) (a b : Option (List ℕ)) (held bytes : List ℕ) (time : Time) (len : ℕ) → IsHeld s held time len
-    → WhereKnown a b (λ left rest. Continues s s' left rest (body_in held len) (Ok (Record time len))) → bytes ≡ body_in held len → TakesTurn port e e' bytes → ReadsTurn port e e' s s' a b (Ok (Record time len))
+    → WhereKnown a b (λ left rest. Continues s s' left rest (body_in held len) (Ok (Record time len))) → bytes ≡ body_in held len →
+    TakesTurn port e e' bytes → ReadsTurn port e e' s s' a b (Ok (Record time len))
 lent port e e' s s' a b held bytes time len is more those took =
     let long : length (body_in held len) ≡ len = length-take-le len (drop 16 held) (omega (arith, is.whole, length-drop 16 held)) in
     let same : take len (body_in held len) ≡ body_in held len = take_all len (body_in held len) (omega (arith, long)) in
     (body_in held len, more, (omega (arith, long), subst (TakesTurn port e e') (those ∙ sym same) took))
 
 -- what was found is what is used
-pub found : (s s' : Standing) (held held' : List ℕ) (x : Time × ℕ × Bool) (time : Time) (len : ℕ) → s' ≡ s → held' ≡ held → x ≡ (time, len, true) → IsHeld s held time len → IsHeld s' held' x.0 x.1
+pub found : (s s' : Standing) (held held' : List ℕ) (x : Time × ℕ × Bool) (time : Time) (len : ℕ) → s' ≡ s → held' ≡ held → x ≡ (time, len, true) →
+    IsHeld s held time len → IsHeld s' held' x.0 x.1
 found s s' held held' x time len a b c is = rw (a, b, c) is
 
 -- the source and the reader are still where the record was found
-pub read_from : (port : ℕ) (e e' : EngineState) (s0 s s' : Standing) (a0 a b : Option (List ℕ)) (answer : Result Next PcapError) → s ≡ s0 → a ≡ a0 → ReadsTurn port e e' s s' a b answer → ReadsTurn port e e' s0 s' a0 b answer
+pub read_from : (port : ℕ) (e e' : EngineState) (s0 s s' : Standing) (a0 a b : Option (List ℕ)) (answer : Result Next PcapError) → s ≡ s0 → a ≡ a0 →
+    ReadsTurn port e e' s s' a b answer → ReadsTurn port e e' s0 s' a0 b answer
 read_from port e e' s0 s s' a0 a b answer p q reads = rw (← p, ← q) reads
 
 -- a record is at hand or was copied

@@ -1,5 +1,6 @@
 -- A configuration with its nodes is a pipeline.
-use Rattle.std.proofs.Common.{◌≡◌, ℕ, suc, ◌≤◌, min, ◌⊎◌, inl, inr, Bool, true, false, List, [], ◌∷◌, length, map, Option, None, Some, refl, ap, sym, ◌∙◌, subst, arith}
+use Rattle.std.proofs.Common.{◌≡◌, ℕ, suc, ◌≤◌, min, ◌⊎◌, inl, inr, Bool, true, false, List, [], ◌∷◌, length, map, Option, None, Some, refl, ap, sym, ◌∙◌}
+use Rattle.std.proofs.Common.{subst, arith}
 use Rattle.std.specs.Prelude.{nat_le, ◌&&◌, if◌then◌else◌}
 use Rattle.std.proofs.lemmas.Bool.{and_parts, leb-true}
 use Rattle.std.proofs.lemmas.List.{length-map}
@@ -31,8 +32,10 @@ no_else false a x h = absurd cc
 pub few : (e : Environment) → fault_of e ≡ None → (length e.ports ≤ 8) × (length e.rings ≤ 8) × (e.tables ≤ 4)
 few e h =
     let fits : numbers_fit e ≡ true = no_else (numbers_fit e) _ BadNumber h in
-    let (h1, ports) = and_parts (nat_le 1 (length e.pools) && nat_le (length e.pools) 8 && nat_le e.tables 4 && nat_le (length e.rings) 8 && nat_le 1 (length e.ports)) (nat_le (length e.ports) 8) fits in
-    let (h2, port) = and_parts (nat_le 1 (length e.pools) && nat_le (length e.pools) 8 && nat_le e.tables 4 && nat_le (length e.rings) 8) (nat_le 1 (length e.ports)) h1 in
+    let (h1, ports) = and_parts (nat_le 1 (length e.pools) && nat_le (length e.pools) 8 && nat_le e.tables 4 && nat_le (length e.rings) 8 && nat_le 1
+    (length e.ports)) (nat_le (length e.ports) 8) fits in
+    let (h2, port) = and_parts (nat_le 1 (length e.pools) && nat_le (length e.pools) 8 && nat_le e.tables 4 && nat_le (length e.rings) 8)
+    (nat_le 1 (length e.ports)) h1 in
     let (h3, rings) = and_parts (nat_le 1 (length e.pools) && nat_le (length e.pools) 8 && nat_le e.tables 4) (nat_le (length e.rings) 8) h2 in
     let (h4, tables) = and_parts (nat_le 1 (length e.pools) && nat_le (length e.pools) 8) (nat_le e.tables 4) h3 in
     (leb-true (length e.ports) 8 ports, leb-true (length e.rings) 8 rings, leb-true e.tables 4 tables)
@@ -45,11 +48,13 @@ held_length (t ∷ ts) (x ∷ tables) all = ap suc (held_length ts tables all.1)
 
 pub ports_of : (s : Setup) (c : Config) → IsConfig s c → length c.ports.items ≡ length c.env.ports
 ports_of s c is =
-    sym (length-map c.ports.items port_names) ∙ ap length is.ports ∙ length-map s.ports names_of_port ∙ sym (length-map s.ports (λ p. p.spec)) ∙ sym (ap (λ (e : Environment). length e.ports) is.env)
+    sym (length-map c.ports.items port_names) ∙ ap length is.ports ∙ length-map s.ports names_of_port ∙ sym (length-map s.ports (λ p. p.spec))
+    ∙ sym (ap (λ (e : Environment). length e.ports) is.env)
 
 pub rings_of : (s : Setup) (c : Config) → IsConfig s c → length c.rings.items ≡ length c.env.rings
 rings_of s c is =
-    sym (length-map c.rings.items node_names) ∙ ap length is.rings ∙ length-map s.rings (λ r. r.files) ∙ sym (length-map s.rings (λ r. r.spec)) ∙ sym (ap (λ (e : Environment). length e.rings) is.env)
+    sym (length-map c.rings.items node_names) ∙ ap length is.rings ∙ length-map s.rings (λ r. r.files) ∙ sym (length-map s.rings (λ r. r.spec))
+    ∙ sym (ap (λ (e : Environment). length e.rings) is.env)
 
 pub tables_of : (s : Setup) (c : Config) → IsConfig s c → length c.tables.items ≡ c.env.tables
 tables_of s c is =
@@ -82,19 +87,29 @@ same_nodes how s c is =
 
 -- ---- what is loaded
 
-pub fit_nodes : (known : Option FileMap) (how : How) (text : List ℕ) (c : Config) (nodes : List Question) → IsConfigOf text c → AreLoaded known c.env (kept_nodes how c) nodes → HasNodes c.env nodes
+pub fit_nodes : (known : Option FileMap) (how : How) (text : List ℕ) (c : Config) (nodes : List Question) → IsConfigOf text c →
+    AreLoaded known c.env (kept_nodes how c) nodes → HasNodes c.env nodes
 fit_nodes known how text c nodes is all =
     has_nodes known c.env how (map (λ port. node_names port.files) c.ports.items) (map node_names c.rings.items) nodes all
     (length-map c.ports.items (λ port. node_names port.files) ∙ ports_of is.setup c is.config)
     (length-map c.rings.items node_names ∙ rings_of is.setup c is.config)
 
 abbrev pub plan_of : Config → List Question → Plan
-plan_of c nodes = record { env = c.env; region = c.region; tables = c.tables.items; nodes = nodes; inputs = map input_of c.ports.items; outputs = map output_of c.ports.items }
+plan_of c nodes = record {
+  env = c.env;
+  region = c.region;
+  tables = c.tables.items;
+  nodes = nodes;
+  inputs = map input_of c.ports.items;
+  outputs = map output_of c.ports.items;
+}
 
-pub loaded_from : (known : Option FileMap) (how : How) (text : List ℕ) (c : Config) (nodes : List Question) → IsConfigOf text c → AreLoaded known c.env (kept_nodes how c) nodes → IsLoadedFrom known how text (plan_of c nodes)
+pub loaded_from : (known : Option FileMap) (how : How) (text : List ℕ) (c : Config) (nodes : List Question) → IsConfigOf text c →
+    AreLoaded known c.env (kept_nodes how c) nodes → IsLoadedFrom known how text (plan_of c nodes)
 loaded_from known how text c nodes is all =
     let s : Setup = is.setup in
-    let moved : AreLoaded known (environment_of s) (kept_nodes how c) nodes = subst (λ (e : Environment). AreLoaded known e (kept_nodes how c) nodes) is.config.env all in
+    let moved : AreLoaded known (environment_of s) (kept_nodes how c) nodes =
+    subst (λ (e : Environment). AreLoaded known e (kept_nodes how c) nodes) is.config.env all in
     record {
       top = is.top;
       setup = s;
@@ -111,13 +126,15 @@ loaded_from known how text c nodes is all =
       };
     }
 
-pub bad_node : (known : Option FileMap) (how : How) (text : List ℕ) (c : Config) (e : PipeError) → IsConfigOf text c → (e ≡ Memory) ⊎ FailsAtFirst known c.env (kept_nodes how c) e → IsUnloaded known how text e
+pub bad_node : (known : Option FileMap) (how : How) (text : List ℕ) (c : Config) (e : PipeError) → IsConfigOf text c →
+    (e ≡ Memory) ⊎ FailsAtFirst known c.env (kept_nodes how c) e → IsUnloaded known how text e
 bad_node known how text c e is h =
     elim h [
       | inl memory ↦ inl memory
       | inr fails ↦
           let s : Setup = is.setup in
-          let moved : FailsAtFirst known (environment_of s) (kept_nodes how c) e = subst (λ (x : Environment). FailsAtFirst known x (kept_nodes how c) e) is.config.env fails in
+          let moved : FailsAtFirst known (environment_of s) (kept_nodes how c) e =
+          subst (λ (x : Environment). FailsAtFirst known x (kept_nodes how c) e) is.config.env fails in
           inr (inr (record {
             top = is.top;
             setup = s;

@@ -13,12 +13,14 @@ use Rattle.dp_pipe.specs.Nodes.{node_of, numbered, nodes_of}
 use Rattle.dp_pipe.proofs.Places.{in_front, behind, numbered_at, length-numbered}
 
 -- the files at a place of a list of names
-named_at : {X : Type 0} (files_of : X → NodeFiles) (xs : List X) (i : ℕ) (x : X) → i < length xs → x ≡ get_or xs i x → slice_get (map files_of xs) i ≡ Some (files_of x)
+named_at : {X : Type 0} (files_of : X → NodeFiles) (xs : List X) (i : ℕ) (x : X) → i < length xs → x ≡ get_or xs i x → slice_get (map files_of xs) i
+    ≡ Some (files_of x)
 named_at files_of xs i x lt is =
     let got : slice_get xs i ≡ Some x = slice_get_read xs (length xs) i x refl lt is in
     slice_get-map files_of xs i ∙ ap (option_map files_of) got
 
-pub port_at : (how : How) (ports : List PortNames) (rings : List NodeNames) (place : ℕ) (port : PortNames) → place < length ports → port ≡ get_or ports place port
+pub port_at : (how : How) (ports : List PortNames) (rings : List NodeNames) (place : ℕ) (port : PortNames) → place < length ports →
+    port ≡ get_or ports place port
     → slice_get (nodes_of how (map (λ p. node_names p.files) ports) (map node_names rings)) place ≡ Some (node_of how (Port place) (node_names port.files))
 port_at how ports rings place port lt is =
     let files : List NodeFiles = map (λ p. node_names p.files) ports in
@@ -26,7 +28,8 @@ port_at how ports rings place port lt is =
     in_front (numbered how Port 0 files) (numbered how Ring 0 (map node_names rings)) place (node_of how (Port place) (node_names port.files))
     (numbered_at how Port 0 files place (node_names port.files) at ∙ ap (λ n. Some (node_of how (Port n) (node_names port.files))) (zero-add place))
 
-pub ring_at : (how : How) (ports : List PortNames) (rings : List NodeNames) (place ring : ℕ) (names : NodeNames) → place ≡ length ports + ring → ring < length rings → names ≡ get_or rings ring names
+pub ring_at : (how : How) (ports : List PortNames) (rings : List NodeNames) (place ring : ℕ) (names : NodeNames) → place ≡ length ports + ring →
+    ring < length rings → names ≡ get_or rings ring names
     → slice_get (nodes_of how (map (λ p. node_names p.files) ports) (map node_names rings)) place ≡ Some (node_of how (Ring ring) (node_names names))
 ring_at how ports rings place ring names e lt is =
     let files : List NodeFiles = map (λ p. node_names p.files) ports in

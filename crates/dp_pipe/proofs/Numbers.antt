@@ -1,5 +1,6 @@
 -- The numbers of a report are those of a run.
-use Rattle.std.proofs.Common.{◌≡◌, ℕ, zero, suc, ◌<◌, ◌≤◌, Bool, true, false, List, [], ◌∷◌, length, map, take, replicate, Some, refl, sym, ◌∙◌, ap, subst, arith, zero-add}
+use Rattle.std.proofs.Common.{◌≡◌, ℕ, zero, suc, ◌<◌, ◌≤◌, Bool, true, false, List, [], ◌∷◌, length, map, take, replicate, Some, refl, sym, ◌∙◌, ap, subst}
+use Rattle.std.proofs.Common.{arith, zero-add}
 use Rattle.std.specs.Prelude.{slice_get, ◌==◌, if◌then◌else◌}
 use Rattle.std.proofs.lemmas.List.{length-map, length-take-le}
 use Rattle.std.proofs.lemmas.Option.{same_Some, slice_get_within}
@@ -23,18 +24,37 @@ use Rattle.dp_pipe.specs.Running.{Tells, with_states, setting_in}
 -- ---- what became of the records of a port
 
 -- what is counted of a port is how many of its records became that
-pub tallied : (port : ℕ) (arrivals : List (Arrival Time)) (outcomes : List Outcome) (t : Tallies) → Tallied t (tally_of port arrivals outcomes t) (outcomes_at port arrivals outcomes) 0
+pub tallied : (port : ℕ) (arrivals : List (Arrival Time)) (outcomes : List Outcome) (t : Tallies) →
+    Tallied t (tally_of port arrivals outcomes t) (outcomes_at port arrivals outcomes) 0
 tallied port [] outcomes t = record { received = omega arith; nobuf = omega arith; oversize = omega arith; sent_is = omega arith }
 tallied port (a ∷ arrivals) [] t = record { received = omega arith; nobuf = omega arith; oversize = omega arith; sent_is = omega arith }
 tallied port (a ∷ arrivals) (o ∷ outcomes) t = go (a.port == port) (tallied port arrivals outcomes t) (more o (tallied port arrivals outcomes (counted o t)))
   where
-    more : (o : Outcome) → Tallied (counted o t) (tally_of port arrivals outcomes (counted o t)) (outcomes_at port arrivals outcomes) 0 → Tallied t (tally_of port arrivals outcomes (counted o t)) (o ∷ outcomes_at port arrivals outcomes) 0
-    more Got c = record { received = omega (arith, c.received); nobuf = omega (arith, c.nobuf); oversize = omega (arith, c.oversize); sent_is = omega (arith, c.sent_is) }
-    more NoBuffer c = record { received = omega (arith, c.received); nobuf = omega (arith, c.nobuf); oversize = omega (arith, c.oversize); sent_is = omega (arith, c.sent_is) }
-    more Oversize c = record { received = omega (arith, c.received); nobuf = omega (arith, c.nobuf); oversize = omega (arith, c.oversize); sent_is = omega (arith, c.sent_is) }
+    more : (o : Outcome) → Tallied (counted o t) (tally_of port arrivals outcomes (counted o t)) (outcomes_at port arrivals outcomes) 0 →
+        Tallied t (tally_of port arrivals outcomes (counted o t)) (o ∷ outcomes_at port arrivals outcomes) 0
+    more Got c = record {
+      received = omega (arith, c.received);
+      nobuf = omega (arith, c.nobuf);
+      oversize = omega (arith, c.oversize);
+      sent_is = omega (arith, c.sent_is);
+    }
+    more NoBuffer c = record {
+      received = omega (arith, c.received);
+      nobuf = omega (arith, c.nobuf);
+      oversize = omega (arith, c.oversize);
+      sent_is = omega (arith, c.sent_is);
+    }
+    more Oversize c = record {
+      received = omega (arith, c.received);
+      nobuf = omega (arith, c.nobuf);
+      oversize = omega (arith, c.oversize);
+      sent_is = omega (arith, c.sent_is);
+    }
 
-    go : (b : Bool) → Tallied t (tally_of port arrivals outcomes t) (outcomes_at port arrivals outcomes) 0 → Tallied t (tally_of port arrivals outcomes (counted o t)) (o ∷ outcomes_at port arrivals outcomes) 0
-        → Tallied t (tally_of port arrivals outcomes (if b then counted o t else t)) (if b then o ∷ outcomes_at port arrivals outcomes else outcomes_at port arrivals outcomes) 0
+    go : (b : Bool) → Tallied t (tally_of port arrivals outcomes t) (outcomes_at port arrivals outcomes) 0 →
+        Tallied t (tally_of port arrivals outcomes (counted o t)) (o ∷ outcomes_at port arrivals outcomes) 0
+        → Tallied t (tally_of port arrivals outcomes (if b then counted o t else t))
+        (if b then o ∷ outcomes_at port arrivals outcomes else outcomes_at port arrivals outcomes) 0
     go true other same = same
     go false other same = other
 
@@ -42,7 +62,8 @@ abbrev report_with : ℕ → ℕ → ℕ → ℕ → PortReport
 report_with received nobuf oversize sent = record { received = received; nobuf = nobuf; oversize = oversize; sent = sent; state = Open }
 
 -- what is reported of a port that has sent so many
-pub reported : (port : ℕ) (arrivals : List (Arrival Time)) (outcomes : List Outcome) (t : Tallies) (n : ℕ) → t ≡ record (tally_of port arrivals outcomes no_tallies) { sent = n }
+pub reported : (port : ℕ) (arrivals : List (Arrival Time)) (outcomes : List Outcome) (t : Tallies) (n : ℕ) →
+    t ≡ record (tally_of port arrivals outcomes no_tallies) { sent = n }
     → port_report Open t ≡ port_numbers (outcomes_at port arrivals outcomes) n Open
 reported port arrivals outcomes t n is =
     let to = tally_of port arrivals outcomes no_tallies in
@@ -55,7 +76,8 @@ reported port arrivals outcomes t n is =
 
 -- ---- places of a report
 
-states_at : (states : List InputState) (ports : List PortReport) (q : ℕ) (s : InputState) (n : PortReport) → slice_get states q ≡ Some s → slice_get ports q ≡ Some n
+states_at : (states : List InputState) (ports : List PortReport) (q : ℕ) (s : InputState) (n : PortReport) → slice_get states q ≡ Some s →
+    slice_get ports q ≡ Some n
     → slice_get (with_states states ports) q ≡ Some (record n { state = s })
 states_at [] ports q s n e e' = cc
 states_at (state ∷ states) [] q s n e e' = cc
@@ -68,7 +90,8 @@ states_many [] ports = refl
 states_many (state ∷ states) [] = refl
 states_many (state ∷ states) (p ∷ ports) = ap suc (states_many states ports)
 
-tally_at : (n : ℕ) (tallies : List Tallies) (q : ℕ) → q < n → n ≤ length tallies → slice_get (map (port_report Open) (take n tallies)) q ≡ Some (port_report Open (tallies_at tallies q))
+tally_at : (n : ℕ) (tallies : List Tallies) (q : ℕ) → q < n → n ≤ length tallies → slice_get (map (port_report Open) (take n tallies)) q
+    ≡ Some (port_report Open (tallies_at tallies q))
 tally_at zero tallies q lt most = absurd (omega (arith, lt))
 tally_at (suc n) [] q lt most = absurd (omega (arith, most))
 tally_at (suc n) (t ∷ tallies) zero lt most = refl
@@ -84,12 +107,14 @@ pub left_only : (most : ℕ) (counts : List ℕ) → length counts ≤ most → 
 left_only zero [] few = refl
 left_only (suc most) [] few = refl
 left_only zero (n ∷ counts) few = absurd (omega (arith, few))
-left_only (suc most) (n ∷ counts) few = ap (λ m. m ∷ take (length counts) (with_left (replicate most 0) counts)) (zero-add n) ∙ ap (λ l. n ∷ l) (left_only most counts (omega (arith, few)))
+left_only (suc most) (n ∷ counts) few = ap (λ m. m ∷ take (length counts) (with_left (replicate most 0) counts)) (zero-add n)
+    ∙ ap (λ l. n ∷ l) (left_only most counts (omega (arith, few)))
 
 -- ---- a report
 
 -- what is known of an engine behind a run: what it has counted of each port, and what is in its world
-pub record IsCounted (p : Plan) (pattern : List ℕ) (arrivals : List (Arrival Time)) (run : PacketRun p pattern arrivals) (e : EngineState) (sent : ℕ → ℕ) : Type 0 where
+pub record IsCounted (p : Plan) (pattern : List ℕ) (arrivals : List (Arrival Time)) (run : PacketRun p pattern arrivals) (e : EngineState) (sent : ℕ →
+    ℕ) : Type 0 where
   pub setting : e.setting ≡ setting_in p pattern
   pub tallies_many : length e.tallies ≡ 8
   pub tallies : (q : ℕ) → q < length p.env.ports → tallies_at e.tallies q ≡ record (tally_of q arrivals run.outcomes no_tallies) { sent = sent q }
@@ -99,22 +124,27 @@ pub record IsCounted (p : Plan) (pattern : List ℕ) (arrivals : List (Arrival T
   pub calls : e.world.calls ≡ run.last.calls
   pub cuts : e.world.cuts ≡ run.last.cuts
 
-pub numbers_told : (p : Plan) (pattern : List ℕ) (arrivals : List (Arrival Time)) (run : PacketRun p pattern arrivals) (e : EngineState) (progress : List Progress) (inputs : List Input) (sent : ℕ → ℕ) (r : Report)
-    → length p.env.ports ≤ 8 → length p.env.rings ≤ 8 → length inputs ≡ length p.env.ports → map (λ (i : Input). i.state) inputs ≡ map (λ (x : Progress). x.state) progress
+pub numbers_told : (p : Plan) (pattern : List ℕ) (arrivals : List (Arrival Time)) (run : PacketRun p pattern arrivals) (e : EngineState)
+    (progress : List Progress) (inputs : List Input) (sent : ℕ → ℕ) (r : Report)
+    → length p.env.ports ≤ 8 → length p.env.rings ≤ 8 → length inputs ≡ length p.env.ports → map (λ (i : Input). i.state) inputs
+    ≡ map (λ (x : Progress). x.state) progress
     → IsCounted p pattern arrivals run e sent → Tells e progress r → HasNumbers p pattern arrivals run inputs sent r
 numbers_told p pattern arrivals run e progress inputs sent r few_ports few_rings many states c tells =
     let ports_same : length e.setting.env.ports ≡ length p.env.ports = ap (λ (s : Setting). length s.env.ports) c.setting in
     let rings_same : length e.setting.env.rings ≡ length p.env.rings = ap (λ (s : Setting). length s.env.rings) c.setting in
     let told = map (port_report Open) (take (length e.setting.env.ports) e.tallies) in
     record {
-      many = ap length tells.ports ∙ states_many (map (λ (x : Progress). x.state) progress) told ∙ length-map (take (length e.setting.env.ports) e.tallies) (port_report Open)
+      many = ap length tells.ports ∙ states_many (map (λ (x : Progress). x.state) progress) told
+          ∙ length-map (take (length e.setting.env.ports) e.tallies) (port_report Open)
           ∙ length-take-le (length e.setting.env.ports) e.tallies (omega (arith, ports_same, few_ports, c.tallies_many)) ∙ ports_same;
       ports = λ q i at.
           let within : q < length p.env.ports = omega (arith, slice_get_within inputs q i at, many) in
-          let here = tally_at (length e.setting.env.ports) e.tallies q (omega (arith, within, ports_same)) (omega (arith, ports_same, few_ports, c.tallies_many)) in
+          let here = tally_at (length e.setting.env.ports) e.tallies q (omega (arith, within, ports_same))
+          (omega (arith, ports_same, few_ports, c.tallies_many)) in
           let numbers = reported q arrivals run.outcomes (tallies_at e.tallies q) (sent q) (c.tallies q within) in
           ap (λ l. slice_get l q) tells.ports
-          ∙ states_at (map (λ (x : Progress). x.state) progress) told q i.state (port_report Open (tallies_at e.tallies q)) (ap (λ l. slice_get l q) (sym states) ∙ state_at inputs q i at) here
+          ∙ states_at (map (λ (x : Progress). x.state) progress) told q i.state (port_report Open (tallies_at e.tallies q))
+          (ap (λ l. slice_get l q) (sym states) ∙ state_at inputs q i at) here
           ∙ ap (λ (x : PortReport). Some (record x { state = i.state })) numbers;
       rings = tells.rings ∙ ap (λ l. take (length e.setting.env.rings) (with_left l (left_in_rings e.world))) c.left
           ∙ ap (λ l. take (length e.setting.env.rings) (with_left (replicate 8 0) (map length l))) c.rings

@@ -43,8 +43,10 @@ safe_runs : (p : Plan) (pattern : List ℕ) (arrivals : List (Arrival Time)) (w 
     → KeepsRunsSafe (setting_in p pattern) (programs_in p) arrivals w
 safe_runs p pattern arrivals w ready start = ready.laws.safe (setting_in p pattern) (programs_in p) arrivals w ready.tables ready.pipeline start
 
-abbrev pub packet_run : (p : Plan) (pattern : List ℕ) (arrivals : List (Arrival Time)) (first last : World) (told : List Bool) (outcomes : List Outcome) (captures : List (List (Time × List ℕ)))
-    → IsReady p pattern → IsStart p.env first → Run (setting_in p pattern) (programs_in p) arrivals first told outcomes captures last → PacketRun p pattern arrivals
+abbrev pub packet_run : (p : Plan) (pattern : List ℕ) (arrivals : List (Arrival Time)) (first last : World) (told : List Bool) (outcomes : List Outcome)
+    (captures : List (List (Time × List ℕ)))
+    → IsReady p pattern → IsStart p.env first → Run (setting_in p pattern) (programs_in p) arrivals first told outcomes captures last →
+    PacketRun p pattern arrivals
 packet_run p pattern arrivals first last told outcomes captures ready start run = record {
   first = first;
   start = start;
@@ -64,7 +66,8 @@ zip_length P (x ∷ xs) [] all = absurd all
 zip_length P (x ∷ xs) (y ∷ ys) all = ap suc (zip_length P xs ys all.1)
 
 -- behind a run every ring is there
-pub rings_there : (p : Plan) (pattern : List ℕ) (arrivals : List (Arrival Time)) → IsReady p pattern → (run : PacketRun p pattern arrivals) → length run.last.rings ≡ length p.env.rings
+pub rings_there : (p : Plan) (pattern : List ℕ) (arrivals : List (Arrival Time)) → IsReady p pattern → (run : PacketRun p pattern arrivals) →
+    length run.last.rings ≡ length p.env.rings
 rings_there p pattern arrivals ready run =
     let rest = (safe_runs p pattern arrivals run.first ready run.start).rests run.told run.outcomes run.captures run.last run.run in
     zip_length _ p.env.rings run.last.rings rest.ready.world.rings
@@ -77,7 +80,8 @@ pub record IsFirst (p : Plan) (pattern : List ℕ) (first : EngineState) : Type 
   pub tallies : first.tallies ≡ replicate 8 no_tallies
   pub left : first.left ≡ replicate 8 0
 
-pub ran : (p : Plan) (pattern : List ℕ) (first last : EngineState) (arrivals : List (Arrival Time)) (captures : List (List (Time × List ℕ))) → IsFirst p pattern first → (r : HasRun first last arrivals captures)
+pub ran : (p : Plan) (pattern : List ℕ) (first last : EngineState) (arrivals : List (Arrival Time)) (captures : List (List (Time × List ℕ))) →
+    IsFirst p pattern first → (r : HasRun first last arrivals captures)
     → Run (setting_in p pattern) (programs_in p) arrivals first.world r.told r.outcomes captures last.world
 ran p pattern first last arrivals captures is r =
     subst (λ (c : Setting). Run c (programs_in p) arrivals first.world r.told r.outcomes captures last.world) is.setting
@@ -99,7 +103,8 @@ pub none_at : (tallies : List Tallies) (q : ℕ) → tallies ≡ replicate 8 no_
 none_at tallies q is = ap (λ (l : List Tallies). tallies_at l q) is ∙ none_in 8 q
 
 -- how many records a port has sent
-pub sent_many : (captures : List (List (Time × List ℕ))) (q : ℕ) (sent : List (Time × List ℕ)) → slice_get captures q ≡ Some sent → length (capture_at captures q) ≡ length sent
+pub sent_many : (captures : List (List (Time × List ℕ))) (q : ℕ) (sent : List (Time × List ℕ)) → slice_get captures q ≡ Some sent →
+    length (capture_at captures q) ≡ length sent
 sent_many captures q sent at = ap (λ o. length (option_map_or capture_of o [])) at ∙ length-map sent captured
 
 -- what it counted

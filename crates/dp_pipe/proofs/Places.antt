@@ -1,5 +1,6 @@
 -- Elements of lists by their places.
-use Rattle.std.proofs.Common.{◌≡◌, ℕ, zero, suc, ◌+◌, ◌<◌, List, [], ◌∷◌, ◌++◌, length, take, drop, Some, refl, ap, sym, ◌∙◌, arith, add-one, add-zero, zero-add, subst}
+use Rattle.std.proofs.Common.{◌≡◌, ℕ, zero, suc, ◌+◌, ◌<◌, List, [], ◌∷◌, ◌++◌, length, take, drop, Some, refl, ap, sym, ◌∙◌, arith, add-one, add-zero}
+use Rattle.std.proofs.Common.{zero-add, subst}
 use Rattle.std.specs.Prelude.{slice_get}
 use Rattle.std.specs.List.{AllZip}
 use Rattle.dp_model.specs.declared.env.Entry.{Entry}
@@ -23,7 +24,8 @@ parted [] k x e = absurd cc
 parted (y ∷ ys) zero x e = let same : y ≡ x = cc in ap (λ z. z ∷ ys) same
 parted (y ∷ ys) (suc k) x e = ap (λ zs. y ∷ zs) (parted ys k x e)
 
-pub zipped_more : {A B : Type 0} (R : A → B → Type 0) (xs : List A) (ys : List B) (x : A) (y : B) → AllZip R xs ys → R x y → AllZip R (xs ++ x ∷ []) (ys ++ y ∷ [])
+pub zipped_more : {A B : Type 0} (R : A → B → Type 0) (xs : List A) (ys : List B) (x : A) (y : B) → AllZip R xs ys → R x y →
+    AllZip R (xs ++ x ∷ []) (ys ++ y ∷ [])
 zipped_more R [] [] x y all r = (r, tt)
 zipped_more R [] (b ∷ ys) x y all r = absurd all
 zipped_more R (a ∷ xs) [] x y all r = absurd all
@@ -48,7 +50,8 @@ pub length-numbered : (how : How) (kind : ℕ → Entry) (k : ℕ) (files : List
 length-numbered how kind k [] = refl
 length-numbered how kind k (f ∷ files) = ap suc (length-numbered how kind (k + 1) files)
 
-pub numbered_at : (how : How) (kind : ℕ → Entry) (k : ℕ) (files : List NodeFiles) (i : ℕ) (f : NodeFiles) → slice_get files i ≡ Some f → slice_get (numbered how kind k files) i ≡ Some (node_of how (kind (k + i)) f)
+pub numbered_at : (how : How) (kind : ℕ → Entry) (k : ℕ) (files : List NodeFiles) (i : ℕ) (f : NodeFiles) → slice_get files i ≡ Some f →
+    slice_get (numbered how kind k files) i ≡ Some (node_of how (kind (k + i)) f)
 numbered_at how kind k [] i f e = absurd cc
 numbered_at how kind k (g ∷ files) zero f e =
     let same : g ≡ f = cc in rw (add-zero) (ap (λ h. Some (node_of how (kind k) h)) same)
@@ -61,7 +64,8 @@ front_of [] ys k lt = absurd (omega arith)
 front_of (x ∷ xs) ys zero lt = refl
 front_of (x ∷ xs) ys (suc k) lt = front_of xs ys k (omega arith)
 
-pub numbered_entry : (how : How) (kind : ℕ → Entry) (k : ℕ) (files : List NodeFiles) (i : ℕ) (node : Node) → slice_get (numbered how kind k files) i ≡ Some node → node.entry ≡ kind (k + i)
+pub numbered_entry : (how : How) (kind : ℕ → Entry) (k : ℕ) (files : List NodeFiles) (i : ℕ) (node : Node) → slice_get (numbered how kind k files) i
+    ≡ Some node → node.entry ≡ kind (k + i)
 numbered_entry how kind k [] i node e = absurd cc
 numbered_entry how kind k (g ∷ files) zero node e =
     let same : node_of how (kind k) g ≡ node = cc in rw add-zero (sym (ap (λ (n : Node). n.entry) same))
@@ -77,7 +81,8 @@ zipped_length R [] (y ∷ ys) all = absurd all
 zipped_length R (x ∷ xs) [] all = absurd all
 zipped_length R (x ∷ xs) (y ∷ ys) all = ap suc (zipped_length R xs ys all.1)
 
-pub zipped_at : {A B : Type 0} (R : A → B → Type 0) (xs : List A) (ys : List B) (k : ℕ) (y : B) → AllZip R xs ys → slice_get ys k ≡ Some y → (x : A) × (slice_get xs k ≡ Some x) × R x y
+pub zipped_at : {A B : Type 0} (R : A → B → Type 0) (xs : List A) (ys : List B) (k : ℕ) (y : B) → AllZip R xs ys → slice_get ys k ≡ Some y →
+    (x : A) × (slice_get xs k ≡ Some x) × R x y
 zipped_at R [] [] k y all e = absurd cc
 zipped_at R [] (z ∷ ys) k y all e = absurd all
 zipped_at R (x ∷ xs) [] k y all e = absurd all

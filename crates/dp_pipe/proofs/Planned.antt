@@ -1,5 +1,6 @@
 -- Loaded nodes are those of a pipeline.
-use Rattle.std.proofs.Common.{◌≡◌, ℕ, ◌+◌, ◌-◌, ◌<◌, ◌≤◌, ◌⊎◌, inl, inr, List, length, Option, Some, None, ap, sym, ◌∙◌, arith, length-append, zero-add, get_or, refl, subst}
+use Rattle.std.proofs.Common.{◌≡◌, ℕ, ◌+◌, ◌-◌, ◌<◌, ◌≤◌, ◌⊎◌, inl, inr, List, length, Option, Some, None, ap, sym, ◌∙◌, arith, length-append, zero-add}
+use Rattle.std.proofs.Common.{get_or, refl, subst}
 use Rattle.std.proofs.lemmas.Option.{slice_get_read}
 use Rattle.std.specs.Prelude.{slice_get}
 use Rattle.dp_model.specs.declared.env.Entry.{Entry}
@@ -21,10 +22,12 @@ use Rattle.dp_pipe.specs.Pipelines.{Plan, IsPlan, IsFor, HasNodes}
 use Rattle.dp_engine.specs.Schemes.{AreNodes}
 use Rattle.dp_pipe.proofs.Places.{length-numbered, numbered_entry, front_of, behind, zipped_length, zipped_at}
 
-for_entry : (known : Option FileMap) (env : Environment) (entry : Entry) (node : Node) (q : Question) → node.entry ≡ entry → IsLoaded known env node q → IsFor env entry q
+for_entry : (known : Option FileMap) (env : Environment) (entry : Entry) (node : Node) (q : Question) → node.entry ≡ entry → IsLoaded known env node q →
+    IsFor env entry q
 for_entry known env entry node q e loaded = record { env_is = loaded.env_is; entry_is = loaded.entry_is ∙ e; checked = loaded.checked }
 
-port_is : (known : Option FileMap) (env : Environment) (how : How) (ports rings : List NodeFiles) (nodes : List Question) → AreLoaded known env (nodes_of how ports rings) nodes
+port_is : (known : Option FileMap) (env : Environment) (how : How) (ports rings : List NodeFiles) (nodes : List Question) →
+    AreLoaded known env (nodes_of how ports rings) nodes
     → (port : ℕ) (q : Question) → port < length ports → slice_get nodes port ≡ Some q → IsFor env (Port port) q
 port_is known env how ports rings nodes all port q lt e =
     let (node, at, loaded) = zipped_at (IsLoaded known env) (nodes_of how ports rings) nodes port q all e in
@@ -32,7 +35,8 @@ port_is known env how ports rings nodes all port q lt e =
     let here : slice_get (numbered how Port 0 ports) port ≡ Some node = sym (front_of (numbered how Port 0 ports) (numbered how Ring 0 rings) port few) ∙ at in
     for_entry known env (Port port) node q (numbered_entry how Port 0 ports port node here ∙ ap Port (zero-add port)) loaded
 
-ring_is : (known : Option FileMap) (env : Environment) (how : How) (ports rings : List NodeFiles) (nodes : List Question) → AreLoaded known env (nodes_of how ports rings) nodes
+ring_is : (known : Option FileMap) (env : Environment) (how : How) (ports rings : List NodeFiles) (nodes : List Question) →
+    AreLoaded known env (nodes_of how ports rings) nodes
     → (ring : ℕ) (q : Question) → slice_get nodes (length ports + ring) ≡ Some q → IsFor env (Ring ring) q
 ring_is known env how ports rings nodes all ring q e =
     let (node, at, loaded) = zipped_at (IsLoaded known env) (nodes_of how ports rings) nodes (length ports + ring) q all e in
@@ -42,17 +46,25 @@ ring_is known env how ports rings nodes all ring q e =
     for_entry known env (Ring ring) node q (numbered_entry how Ring 0 rings ring node here ∙ ap Ring (zero-add ring)) loaded
 
 -- the nodes that are loaded are one for each port and each ring of the environment
-pub has_nodes : (known : Option FileMap) (env : Environment) (how : How) (ports rings : List NodeFiles) (nodes : List Question) → AreLoaded known env (nodes_of how ports rings) nodes
+pub has_nodes : (known : Option FileMap) (env : Environment) (how : How) (ports rings : List NodeFiles) (nodes : List Question) →
+    AreLoaded known env (nodes_of how ports rings) nodes
     → length ports ≡ length env.ports → length rings ≡ length env.rings → HasNodes env nodes
 has_nodes known env how ports rings nodes all p r = record {
-  count = omega (arith, zipped_length (IsLoaded known env) (nodes_of how ports rings) nodes all, length-append (numbered how Port 0 ports) (numbered how Ring 0 rings), length-numbered how Port 0 ports, length-numbered how Ring 0 rings);
+  count = omega (
+    arith,
+    zipped_length (IsLoaded known env) (nodes_of how ports rings) nodes all,
+    length-append (numbered how Port 0 ports) (numbered how Ring 0 rings),
+    length-numbered how Port 0 ports,
+    length-numbered how Ring 0 rings,
+  );
   ports = λ port q lt e. port_is known env how ports rings nodes all port q (omega arith) e;
   rings = λ ring q e. ring_is known env how ports rings nodes all ring q (ap (λ n. slice_get nodes (n + ring)) p ∙ e);
 }
 
 -- ---- the nodes of a pipeline, shown as a plan
 
-node_shown : (p shown : Plan) (k : ℕ) (q : Question) → p ≡ shown → IsPlan shown → k < length shown.env.ports + length shown.env.rings → q ≡ get_or p.nodes k q → slice_get shown.nodes k ≡ Some q
+node_shown : (p shown : Plan) (k : ℕ) (q : Question) → p ≡ shown → IsPlan shown → k < length shown.env.ports + length shown.env.rings →
+    q ≡ get_or p.nodes k q → slice_get shown.nodes k ≡ Some q
 node_shown p shown k q e plan lt is =
     let here : q ≡ get_or shown.nodes k q = is ∙ ap (λ (x : Plan). get_or x.nodes k q) e in
     let few : k < length shown.nodes = omega (arith, plan.nodes.count) in
@@ -87,14 +99,18 @@ all_checked env nodes h k q at = go (order k (length env.ports))
     go (inl less) = (h.ports k q less at).checked
     go (inr most) = (h.rings (k - length env.ports) q (ap (slice_get nodes) (omega (arith, most)) ∙ at)).checked
 
-is_ready : (p : Plan) (pattern : List ℕ) → fault_of p.env ≡ None → IsPlan p → ((k : ℕ) (t : RouteTable) → slice_get p.tables k ≡ Some t → AllByRecursion (λ (route : Route). route.hop ≤ 16777215) t.routes) → AreLaws → IsReady p pattern
+is_ready : (p : Plan) (pattern : List ℕ) → fault_of p.env ≡ None → IsPlan p →
+    ((k : ℕ) (t : RouteTable) → slice_get p.tables k ≡ Some t → AllByRecursion (λ (route : Route). route.hop ≤ 16777215) t.routes) → AreLaws →
+    IsReady p pattern
 is_ready p pattern limits plan hops laws =
     let engine = plan_of p.env p.tables p.nodes pattern limits (are_nodes p.env p.nodes plan.nodes) plan.tables (all_checked p.env p.nodes plan.nodes) hops in
     record { limits = limits; pipeline = engine.pipeline; tables = engine.tables_fit; laws = laws }
 
 -- the same of its parts
-pub is_ready_in : (p : Plan) (pattern : List ℕ) (env : Environment) (tables told : List RouteTable) → env ≡ p.env → tables ≡ p.tables → told ≡ tables → fault_of env ≡ None → IsPlan p
+pub is_ready_in : (p : Plan) (pattern : List ℕ) (env : Environment) (tables told : List RouteTable) → env ≡ p.env → tables ≡ p.tables → told ≡ tables →
+    fault_of env ≡ None → IsPlan p
     → ((k : ℕ) (t : RouteTable) → slice_get told k ≡ Some t → AllByRecursion (λ (route : Route). route.hop ≤ 16777215) t.routes) → AreLaws → IsReady p pattern
 is_ready_in p pattern env tables told env_is tables_are told_are limits plan hops laws =
     is_ready p pattern (subst (λ e. fault_of e ≡ None) env_is limits) plan
-    (subst (λ (l : List RouteTable). (k : ℕ) (t : RouteTable) → slice_get l k ≡ Some t → AllByRecursion (λ (route : Route). route.hop ≤ 16777215) t.routes) (told_are ∙ tables_are) hops) laws
+    (subst (λ (l : List RouteTable). (k : ℕ) (t : RouteTable) → slice_get l k ≡ Some t →
+    AllByRecursion (λ (route : Route). route.hop ≤ 16777215) t.routes) (told_are ∙ tables_are) hops) laws

@@ -42,7 +42,8 @@ region_size top r e =
     subst IsRegionSize (same_Some n r e3) (leb-true 4096 n least, up_to_most 1073741824 i n e4, eqb-true (n % 64) 0 multiple)
 
 -- whatever else is read, the region is the one that was read first
-nested : {P T Q W E : Type 0} (a : Result P E) (b : Result T E) (c : Result Q E) (d : Result W E) (k : P → T → Q → W → Setup) (region : ℕ) → ((p : P) (t : T) (q : Q) (w : W) → (k p t q w).region ≡ region) → (s : Setup)
+nested : {P T Q W E : Type 0} (a : Result P E) (b : Result T E) (c : Result Q E) (d : Result W E) (k : P → T → Q → W → Setup) (region : ℕ) →
+    ((p : P) (t : T) (q : Q) (w : W) → (k p t q w).region ≡ region) → (s : Setup)
     → and_then a (λ p. and_then b (λ t. and_then c (λ q. and_then d (λ w. Ok (k p t q w))))) ≡ Ok s → s.region ≡ region
 nested (Err z) b c d k region all s e = absurd cc
 nested (Ok p) (Err z) c d k region all s e = absurd cc
@@ -56,5 +57,6 @@ nested {E = E} (Ok p) (Ok t) (Ok q) (Ok w) k region all s e = ap (λ (x : Setup)
 pub setup_region : (top : Members) (s : Setup) → setup_in top ≡ Ok s → IsRegionSize s.region
 setup_region top s e =
     let (region, r, e1) = then_ok (ok_or (region_in top) (Top, 0)) _ s e in
-    let same : s.region ≡ region = nested _ _ _ _ (λ pools tables rings ports. record { region = region; pools = pools; tables = tables; rings = rings; ports = ports }) region (λ p t q w. refl) s e1 in
+    let same : s.region ≡ region = nested _ _ _ _ (λ pools tables rings ports.
+    record { region = region; pools = pools; tables = tables; rings = rings; ports = ports }) region (λ p t q w. refl) s e1 in
     subst IsRegionSize (sym same) (region_size top region (was_some (region_in top) (Top, 0) region r))

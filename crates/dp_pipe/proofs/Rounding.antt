@@ -1,5 +1,6 @@
 -- Rounds of a run: each input is asked in its turn.
-use Rattle.std.proofs.Common.{zero, suc, ◌≡◌, ℕ, ◌+◌, ◌*◌, ◌<◌, ◌≤◌, Bool, true, false, List, [], ◌∷◌, length, map, Option, Some, None, Result, Ok, Err, refl, sym, ◌∙◌, ap, subst, arith, ◌⊎◌, inl, inr}
+use Rattle.std.proofs.Common.{zero, suc, ◌≡◌, ℕ, ◌+◌, ◌*◌, ◌<◌, ◌≤◌, Bool, true, false, List, [], ◌∷◌, length, map, Option, Some, None, Result, Ok, Err, refl}
+use Rattle.std.proofs.Common.{sym, ◌∙◌, ap, subst, arith, ◌⊎◌, inl, inr}
 use Rattle.std.specs.Prelude.{slice_get, slice_set, ⊤, if◌then◌else◌}
 use Rattle.std.specs.List.{AllByRecursion}
 use Rattle.std.proofs.lemmas.Bool.{le-ltb}
@@ -24,7 +25,8 @@ decide Open = inl refl
 decide Whole = inr (λ e. cc)
 decide (Cut byte) = inr (λ e. cc)
 
-module _ (unit : TimeUnit) (e0 e : EngineState) (olds news held mids : List (Option (List ℕ))) (progress : List Progress) (inputs : List Input) (round port : ℕ) (p : Progress)
+module _ (unit : TimeUnit) (e0 e : EngineState) (olds news held mids : List (Option (List ℕ))) (progress : List Progress) (inputs : List Input)
+    (round port : ℕ) (p : Progress)
     (along : Along unit e0 e olds news held mids progress inputs round port) (here : slice_get progress port ≡ Some p) (open_p : p.state ≡ Open) where
   abbrev pub i : Input
   i = (input_at olds news progress inputs port p along.stand here).0
@@ -65,8 +67,10 @@ map_set f (y ∷ xs) zero x = refl
 map_set f (y ∷ xs) (suc n) x = ap (λ l. f y ∷ l) (map_set f xs n x)
 
 -- an input that has ended is passed over
-over_on : (unit : TimeUnit) (e0 e : EngineState) (olds news held mids : List (Option (List ℕ))) (progress : List Progress) (inputs : List Input) (round port : ℕ) (p : Progress)
-    → Along unit e0 e olds news held mids progress inputs round port → slice_get progress port ≡ Some p → (p.state ≡ Open → ⊥) → Along unit e0 e olds news held mids progress inputs round (port + 1)
+over_on : (unit : TimeUnit) (e0 e : EngineState) (olds news held mids : List (Option (List ℕ))) (progress : List Progress) (inputs : List Input)
+    (round port : ℕ) (p : Progress)
+    → Along unit e0 e olds news held mids progress inputs round port → slice_get progress port ≡ Some p →
+    (p.state ≡ Open → ⊥) → Along unit e0 e olds news held mids progress inputs round (port + 1)
 over_on unit e0 e olds news held mids progress inputs round port p along here closed =
     let (i, i_here, stands) = input_at olds news progress inputs port p along.stand here in
     record {
@@ -83,43 +87,61 @@ over_on unit e0 e olds news held mids progress inputs round port p along here cl
       wrote = along.wrote;
     }
 
-pub asked_on : {R W : Type 0} (remaining : R → Option (List ℕ)) (contents : W → Option (List ℕ)) (unit : TimeUnit) (e0 e e' : EngineState) (olds held : List (Option (List ℕ))) (ins : List R) (outs outs' : List W) (progress : List Progress) (inputs : List Input) (round port : ℕ)
+pub asked_on : {R W : Type 0} (remaining : R → Option (List ℕ)) (contents : W →
+    Option (List ℕ)) (unit : TimeUnit) (e0 e e' : EngineState) (olds held : List (Option (List ℕ))) (ins : List R) (outs outs' : List W)
+    (progress : List Progress) (inputs : List Input) (round port : ℕ)
     (p p' : Progress) (r r' : R) (answer : Result ⊤ RunCause)
-    → Along unit e0 e olds (map remaining ins) held (map contents outs) progress inputs round port → slice_get progress port ≡ Some p → slice_get ins port ≡ Some r
+    → Along unit e0 e olds (map remaining ins) held (map contents outs) progress inputs round port → slice_get progress port ≡ Some p →
+    slice_get ins port ≡ Some r
     → port < length e0.setting.env.ports → length e0.tallies ≡ 8 → length e0.setting.env.ports ≤ 8 → length outs ≡ length e0.setting.env.ports → answer ≡ Ok tt
     → (p.state ≡ Open → Advances port unit e e' p p' (remaining r) (remaining r') (map contents outs) (map contents outs') answer)
     → ((p.state ≡ Open → ⊥) → (answer ≡ Ok tt) × (e' ≡ e) × (p' ≡ p) × (r' ≡ r) × (outs' ≡ outs))
-    → (now : List Input) × Along unit e0 e' olds (map remaining (slice_set ins port r')) held (map contents outs') (slice_set progress port p') now round (port + 1)
-asked_on remaining contents unit e0 e e' olds held ins outs outs' progress inputs round port p p' r r' answer along here reader there counted few many ok step over =
+    → (now : List Input) × Along unit e0 e' olds (map remaining (slice_set ins port r')) held (map contents outs') (slice_set progress port p') now round
+    (port + 1)
+asked_on remaining contents unit e0 e e' olds held ins outs outs' progress inputs round port p p' r r' answer along here reader there counted few many ok step
+    over =
     go (decide p.state)
   where
-    go : (p.state ≡ Open) ⊎ (p.state ≡ Open → ⊥) → (now : List Input) × Along unit e0 e' olds (map remaining (slice_set ins port r')) held (map contents outs') (slice_set progress port p') now round (port + 1)
+    go : (p.state ≡ Open) ⊎ (p.state ≡ Open → ⊥) → (now : List Input) × Along unit e0 e' olds (map remaining (slice_set ins port r')) held
+        (map contents outs') (slice_set progress port p') now round (port + 1)
     go (inl open_p) =
-        rw (map_set remaining ins port r') (goes_on unit e0 e e' olds (map remaining ins) held (map contents outs) (map contents outs') progress inputs round port p p' (remaining r) (remaining r') along
+        rw (map_set remaining ins port r') (goes_on unit e0 e e' olds (map remaining ins) held (map contents outs) (map contents outs') progress inputs round
+        port p p' (remaining r) (remaining r') along
         (record { counted = counted; few = few; mids_many = length-map outs contents ∙ many }) here open_p there (map_at remaining ins port r reader)
-        (subst (λ (x : Result ⊤ RunCause). Advances port unit e e' p p' (remaining r) (remaining r') (map contents outs) (map contents outs') x) ok (step open_p)))
+        (subst (λ (x : Result ⊤ RunCause). Advances port unit e e' p p' (remaining r) (remaining r') (map contents outs) (map contents outs') x) ok
+        (step open_p)))
     go (inr closed) =
         let (is_ok, e_is, p_is, r_is, outs_is) = over closed in
-        rw (e_is, p_is, r_is, outs_is, set_itself ins port r reader, set_itself progress port p here) (inputs, over_on unit e0 e olds (map remaining ins) held (map contents outs) progress inputs round port p along here closed)
+        rw (e_is, p_is, r_is, outs_is, set_itself ins port r reader, set_itself progress port p here) (
+          inputs,
+          over_on unit e0 e olds (map remaining ins) held (map contents outs) progress inputs round port p along here closed,
+        )
 
-pub asked_stops : {R W : Type 0} (remaining : R → Option (List ℕ)) (contents : W → Option (List ℕ)) (unit : TimeUnit) (e0 e e' : EngineState) (olds held : List (Option (List ℕ))) (ins : List R) (outs outs' : List W) (progress : List Progress) (inputs : List Input) (round port : ℕ)
+pub asked_stops : {R W : Type 0} (remaining : R → Option (List ℕ)) (contents : W →
+    Option (List ℕ)) (unit : TimeUnit) (e0 e e' : EngineState) (olds held : List (Option (List ℕ))) (ins : List R) (outs outs' : List W)
+    (progress : List Progress) (inputs : List Input) (round port : ℕ)
     (p p' : Progress) (r r' : R) (answer : Result ⊤ RunCause) (cause : RunCause)
-    → Along unit e0 e olds (map remaining ins) held (map contents outs) progress inputs round port → slice_get progress port ≡ Some p → slice_get ins port ≡ Some r → length outs ≡ length e0.setting.env.ports → answer ≡ Err cause
+    → Along unit e0 e olds (map remaining ins) held (map contents outs) progress inputs round port → slice_get progress port ≡ Some p →
+    slice_get ins port ≡ Some r → length outs ≡ length e0.setting.env.ports → answer ≡ Err cause
     → (p.state ≡ Open → Advances port unit e e' p p' (remaining r) (remaining r') (map contents outs) (map contents outs') answer)
     → ((p.state ≡ Open → ⊥) → (answer ≡ Ok tt) × (e' ≡ e) × (p' ≡ p) × (r' ≡ r) × (outs' ≡ outs))
     → Stops unit e0 e' olds (map remaining (slice_set ins port r')) held (map contents outs') (slice_set progress port p') cause
 asked_stops remaining contents unit e0 e e' olds held ins outs outs' progress inputs round port p p' r r' answer cause along here reader many err step over =
     go (decide p.state)
   where
-    go : (p.state ≡ Open) ⊎ (p.state ≡ Open → ⊥) → Stops unit e0 e' olds (map remaining (slice_set ins port r')) held (map contents outs') (slice_set progress port p') cause
+    go : (p.state ≡ Open) ⊎ (p.state ≡ Open → ⊥) → Stops unit e0 e' olds (map remaining (slice_set ins port r')) held (map contents outs')
+        (slice_set progress port p') cause
     go (inl open_p) =
-        rw (map_set remaining ins port r') (stops_at unit e0 e e' olds (map remaining ins) held (map contents outs) (map contents outs') progress inputs round port p p' (remaining r) (remaining r') cause along (length-map outs contents ∙ many) here open_p
+        rw (map_set remaining ins port r') (stops_at unit e0 e e' olds (map remaining ins) held (map contents outs) (map contents outs') progress inputs round
+        port p p' (remaining r) (remaining r') cause along (length-map outs contents ∙ many) here open_p
         (map_at remaining ins port r reader)
-        (subst (λ (x : Result ⊤ RunCause). Advances port unit e e' p p' (remaining r) (remaining r') (map contents outs) (map contents outs') x) err (step open_p)))
+        (subst (λ (x : Result ⊤ RunCause). Advances port unit e e' p p' (remaining r) (remaining r') (map contents outs) (map contents outs') x) err
+        (step open_p)))
     go (inr closed) = let bad : Err cause ≡ Ok tt = sym err ∙ (over closed).0 in cc
 
 -- behind all ports the next round begins
-pub round_over : (unit : TimeUnit) (e0 e : EngineState) (olds news held mids : List (Option (List ℕ))) (progress : List Progress) (inputs : List Input) (round n : ℕ) → Along unit e0 e olds news held mids progress inputs round n → length progress ≤ n
+pub round_over : (unit : TimeUnit) (e0 e : EngineState) (olds news held mids : List (Option (List ℕ))) (progress : List Progress) (inputs : List Input)
+    (round n : ℕ) → Along unit e0 e olds news held mids progress inputs round n → length progress ≤ n
     → Along unit e0 e olds news held mids progress inputs (round + 1) 0
 round_over unit e0 e olds news held mids progress inputs round n along most = record {
   first = along.first;
@@ -140,16 +162,20 @@ is_closed Open closed = absurd (closed refl)
 is_closed Whole closed = refl
 is_closed (Cut byte) closed = refl
 
-all_closed : (progress : List Progress) (inputs : List Input) → length progress ≡ length inputs → ((q : ℕ) (p : Progress) (j : Input) → slice_get progress q ≡ Some p → slice_get inputs q ≡ Some j → p.state ≡ j.state) → NoneIsOpen progress
+all_closed : (progress : List Progress) (inputs : List Input) → length progress ≡ length inputs →
+    ((q : ℕ) (p : Progress) (j : Input) → slice_get progress q ≡ Some p → slice_get inputs q ≡ Some j → p.state ≡ j.state) → NoneIsOpen progress
     → AllByRecursion (λ (j : Input). is_over j.state ≡ true) inputs
 all_closed [] [] many same none = tt
 all_closed [] (j ∷ inputs) many same none = absurd (omega (arith, many))
 all_closed (p ∷ progress) [] many same none = absurd (omega (arith, many))
-all_closed (p ∷ progress) (j ∷ inputs) many same none =
-    (is_closed j.state (λ e. none 0 p refl (same 0 p j refl refl ∙ e)), all_closed progress inputs (omega (arith, many)) (λ q a b c d. same (suc q) a b c d) (λ q a b c. none (suc q) a b c))
+all_closed (p ∷ progress) (j ∷ inputs) many same none = (
+  is_closed j.state (λ e. none 0 p refl (same 0 p j refl refl ∙ e)),
+  all_closed progress inputs (omega (arith, many)) (λ q a b c d. same (suc q) a b c d) (λ q a b c. none (suc q) a b c),
+)
 
 -- every input has ended: the run went all the way
-pub went_all : (unit : TimeUnit) (e0 e : EngineState) (olds news held mids : List (Option (List ℕ))) (progress : List Progress) (inputs : List Input) (round port : ℕ) → Along unit e0 e olds news held mids progress inputs round port → NoneIsOpen progress
+pub went_all : (unit : TimeUnit) (e0 e : EngineState) (olds news held mids : List (Option (List ℕ))) (progress : List Progress) (inputs : List Input)
+    (round port : ℕ) → Along unit e0 e olds news held mids progress inputs round port → NoneIsOpen progress
     → AreRounds unit e0 e olds news held mids progress (Ok tt)
 went_all unit e0 e olds news held mids progress inputs round port along none = (
   inputs,
@@ -167,7 +193,8 @@ went_all unit e0 e olds news held mids progress inputs round port along none = (
 )
 
 -- no input has so many records that it is still open
-pub none_left : (unit : TimeUnit) (e0 e : EngineState) (olds news held mids : List (Option (List ℕ))) (progress : List Progress) (inputs : List Input) (round : ℕ) → Along unit e0 e olds news held mids progress inputs round 0 → 16777217 ≤ round → NoneIsOpen progress
+pub none_left : (unit : TimeUnit) (e0 e : EngineState) (olds news held mids : List (Option (List ℕ))) (progress : List Progress) (inputs : List Input)
+    (round : ℕ) → Along unit e0 e olds news held mids progress inputs round 0 → 16777217 ≤ round → NoneIsOpen progress
 none_left unit e0 e olds news held mids progress inputs round along most q p at open_p =
     let (j, here, stands) = input_at olds news progress inputs q p along.stand at in
     let wanted = exact j.state (length j.records) (asked round 0 q) (sym stands.state ∙ open_p) (along.order q j here) in
@@ -179,10 +206,12 @@ none_left unit e0 e olds news held mids progress inputs round along most q p at 
     exact Whole count many e lt = cc
     exact (Cut byte) count many e lt = cc
 
-pub round_ok : (unit : TimeUnit) (e0 e e' : EngineState) (olds news held holds : List (Option (List ℕ))) (progress : List Progress) (round : ℕ) (r : Result ⊤ RunCause) → r ≡ Ok tt → IsRound unit e0 e e' olds news held holds progress round r
+pub round_ok : (unit : TimeUnit) (e0 e e' : EngineState) (olds news held holds : List (Option (List ℕ))) (progress : List Progress) (round : ℕ)
+    (r : Result ⊤ RunCause) → r ≡ Ok tt → IsRound unit e0 e e' olds news held holds progress round r
     → (now : List Input) × Along unit e0 e' olds news held holds progress now (round + 1) 0
 round_ok unit e0 e e' olds news held holds progress round r is h = rw is at h
 
-pub round_err : (unit : TimeUnit) (e0 e e' : EngineState) (olds news held holds : List (Option (List ℕ))) (progress : List Progress) (round : ℕ) (r : Result ⊤ RunCause) (cause : RunCause) → r ≡ Err cause → IsRound unit e0 e e' olds news held holds progress round r
+pub round_err : (unit : TimeUnit) (e0 e e' : EngineState) (olds news held holds : List (Option (List ℕ))) (progress : List Progress) (round : ℕ)
+    (r : Result ⊤ RunCause) (cause : RunCause) → r ≡ Err cause → IsRound unit e0 e e' olds news held holds progress round r
     → AreRounds unit e0 e' olds news held holds progress (Err cause)
 round_err unit e0 e e' olds news held holds progress round r cause is h = rw is at h

@@ -1,5 +1,6 @@
 -- A run goes on by a turn and the drains behind it.
-use Rattle.std.proofs.Common.{◌≡◌, ◌≢◌, ℕ, zero, suc, ◌+◌, ◌<◌, ◌≤◌, Bool, true, false, List, [], ◌∷◌, ◌++◌, length, map, Option, Some, None, refl, sym, ◌∙◌, ap, subst, arith, append-nil, ◌⊎◌, inl, inr}
+use Rattle.std.proofs.Common.{◌≡◌, ◌≢◌, ℕ, zero, suc, ◌+◌, ◌<◌, ◌≤◌, Bool, true, false, List, [], ◌∷◌, ◌++◌, length, map, Option, Some, None, refl, sym, ◌∙◌}
+use Rattle.std.proofs.Common.{ap, subst, arith, append-nil, ◌⊎◌, inl, inr}
 use Rattle.std.specs.Prelude.{slice_get, slice_set, nat_lt, flat_map, ◌==◌, if◌then◌else◌, replicate}
 use Rattle.std.specs.Option.{option_map_or}
 use Rattle.std.proofs.lemmas.Bool.{lt-ltb, eq-eqb, ne_eqb}
@@ -23,13 +24,15 @@ abbrev pub arrival : ℕ → Time → List ℕ → Arrival Time
 arrival port time bytes = record { port = port; time = time; bytes = bytes }
 
 -- each record has an outcome
-pub outcomes_many : (c : Setting) (nodes : Nodes) (arrivals : List (Arrival Time)) (w w' : World) (told : List Bool) (outcomes : List Outcome) (captures : List (List (Time × List ℕ))) → Run c nodes arrivals w told outcomes captures w' → length outcomes ≡ length arrivals
+pub outcomes_many : (c : Setting) (nodes : Nodes) (arrivals : List (Arrival Time)) (w w' : World) (told : List Bool) (outcomes : List Outcome)
+    (captures : List (List (Time × List ℕ))) → Run c nodes arrivals w told outcomes captures w' → length outcomes ≡ length arrivals
 outcomes_many c nodes [] w w' told outcomes captures (none, no_outcomes, are, is) = ap length no_outcomes
 outcomes_many c nodes (a ∷ arrivals) w w' told outcomes captures (outcome, rest, now, later, runs, mid, more, turn, run, is_told, are_outcomes, are) =
     ap length are_outcomes ∙ ap suc (outcomes_many c nodes arrivals (with_empty_outboxes mid) w' later rest more run)
 
 -- as many captures as ports, at most
-pub captures_many : (c : Setting) (nodes : Nodes) (arrivals : List (Arrival Time)) (w w' : World) (told : List Bool) (outcomes : List Outcome) (captures : List (List (Time × List ℕ))) → Run c nodes arrivals w told outcomes captures w' → length captures ≤ length c.env.ports
+pub captures_many : (c : Setting) (nodes : Nodes) (arrivals : List (Arrival Time)) (w w' : World) (told : List Bool) (outcomes : List Outcome)
+    (captures : List (List (Time × List ℕ))) → Run c nodes arrivals w told outcomes captures w' → length captures ≤ length c.env.ports
 captures_many c nodes [] w w' told outcomes captures (none, no_outcomes, are, is) = omega (arith, ap length are, length_none (length c.env.ports))
   where
     length_none : (n : ℕ) → length {A = List (Time × List ℕ)} (replicate n []) ≡ n
@@ -44,12 +47,15 @@ captures_many c nodes (a ∷ arrivals) w w' told outcomes captures (outcome, res
     shorter (x ∷ xs) (y ∷ ys) = let more = shorter xs ys in omega (arith, more)
 
 -- what is counted with one more
-pub tally_more : (port : ℕ) (arrivals : List (Arrival Time)) (outcomes : List Outcome) (a : Arrival Time) (o : Outcome) (t : Tallies) → length outcomes ≡ length arrivals
-    → tally_of port (arrivals ++ a ∷ []) (outcomes ++ o ∷ []) t ≡ (if a.port == port then counted o (tally_of port arrivals outcomes t) else tally_of port arrivals outcomes t)
+pub tally_more : (port : ℕ) (arrivals : List (Arrival Time)) (outcomes : List Outcome) (a : Arrival Time) (o : Outcome) (t : Tallies) →
+    length outcomes ≡ length arrivals
+    → tally_of port (arrivals ++ a ∷ []) (outcomes ++ o ∷ []) t ≡ (if a.port == port then counted o (tally_of port arrivals outcomes t)
+    else tally_of port arrivals outcomes t)
 tally_more port [] [] a o t many = refl
 tally_more port [] (x ∷ outcomes) a o t many = absurd (omega (arith, many))
 tally_more port (b ∷ arrivals) [] a o t many = absurd (omega (arith, many))
-tally_more port (b ∷ arrivals) (x ∷ outcomes) a o t many = tally_more port arrivals outcomes a o (if b.port == port then counted x t else t) (omega (arith, many))
+tally_more port (b ∷ arrivals) (x ∷ outcomes) a o t many = tally_more port arrivals outcomes a o (if b.port == port then counted x t else t)
+    (omega (arith, many))
 
 -- counting an outcome leaves what was sent
 pub counted_sent : (o : Outcome) (t : Tallies) (n : ℕ) → counted o (record t { sent = n }) ≡ record (counted o t) { sent = n }
@@ -58,7 +64,8 @@ counted_sent NoBuffer t n = refl
 counted_sent Oversize t n = refl
 
 -- the places of lists that are joined
-pub joined_at : {A : Type 0} (xs ys : List (List A)) (q : ℕ) (zs : List A) → slice_get (joined xs ys) q ≡ Some zs → (x : List A) × (y : List A) × (slice_get xs q ≡ Some x) × (slice_get ys q ≡ Some y) × (zs ≡ x ++ y)
+pub joined_at : {A : Type 0} (xs ys : List (List A)) (q : ℕ) (zs : List A) → slice_get (joined xs ys) q ≡ Some zs →
+    (x : List A) × (y : List A) × (slice_get xs q ≡ Some x) × (slice_get ys q ≡ Some y) × (zs ≡ x ++ y)
 joined_at [] ys q zs e = cc
 joined_at (x ∷ xs) [] q zs e = cc
 joined_at (x ∷ xs) (y ∷ ys) zero zs e = (x, y, refl, refl, sym (same_Some _ _ e))
@@ -70,11 +77,13 @@ pub turn_tally : (q port : ℕ) (o : Outcome) (tallies : List Tallies) → port 
 turn_tally q port o tallies lt = go (split q port)
   where
     go : (q ≡ port) ⊎ (q ≢ port) → tallies_at (counted_at port o tallies) q ≡ (if port == q then counted o (tallies_at tallies q) else tallies_at tallies q)
-    go (inl same) = subst (λ x. tallies_at (counted_at port o tallies) x ≡ (if port == x then counted o (tallies_at tallies x) else tallies_at tallies x)) (sym same)
+    go (inl same) = subst (λ x. tallies_at (counted_at port o tallies) x ≡ (if port == x then counted o (tallies_at tallies x) else tallies_at tallies x))
+        (sym same)
         (rw (eq-eqb port port refl) (tallies_same tallies port (counted o (tallies_at tallies port)) lt))
     go (inr other) = rw (ne_eqb port q (λ e. other (sym e))) (tallies_other tallies port q (counted o (tallies_at tallies port)) other)
 
-pub run_on : (e e1 e2 e3 : EngineState) (port : ℕ) (time : Time) (bytes : List ℕ) (arrivals : List (Arrival Time)) (captures : List (List (Time × List ℕ))) (unit : TimeUnit) (mids holds : List (Option (List ℕ)))
+pub run_on : (e e1 e2 e3 : EngineState) (port : ℕ) (time : Time) (bytes : List ℕ) (arrivals : List (Arrival Time)) (captures : List (List (Time × List ℕ)))
+    (unit : TimeUnit) (mids holds : List (Option (List ℕ)))
     → port < length e.tallies → length e2.world.outboxes ≡ length e.setting.env.ports
     → HasRun e e1 arrivals captures → TakesTurn port e1 e2 bytes → DrainedFirst (length e.setting.env.ports) unit time e2 e3 mids holds
     → HasRun e e3 (arrivals ++ arrival port time bytes ∷ []) (joined captures (records_at time e2.world))
@@ -83,10 +92,12 @@ run_on e e1 e2 e3 port time bytes arrivals captures unit mids holds there boxes 
     let nodes1 = ap (λ (x : EngineState). x.nodes) run.stays in
     let turned : Turn e.setting e.nodes port bytes e1.world turn.outcome turn.runs turn.told e2.world =
     subst (λ (x : EngineState). Turn x.setting x.nodes port bytes e1.world turn.outcome turn.runs turn.told e2.world) (run.stays) turn.turn in
-    let pushed = run_push e.setting e.nodes arrivals (arrival port time bytes) e.world e1.world e2.world run.told turn.told run.outcomes turn.outcome turn.runs captures boxes run.run turned in
+    let pushed = run_push e.setting e.nodes arrivals (arrival port time bytes) e.world e1.world e2.world run.told turn.told run.outcomes turn.outcome
+    turn.runs captures boxes run.run turned in
     let n = length e.setting.env.ports in
     let world3 : e3.world ≡ with_empty_outboxes e2.world =
-    ap (λ (x : EngineState). x.world) all.is ∙ ap (λ l. record e2.world { outboxes = l }) (ap (λ m. emptied m e2.world.outboxes) (sym boxes) ∙ emptied_all e2.world.outboxes) in
+    ap (λ (x : EngineState). x.world) all.is ∙ ap (λ l. record e2.world { outboxes = l }) (ap (λ m. emptied m e2.world.outboxes) (sym boxes)
+    ∙ emptied_all e2.world.outboxes) in
     let many = outcomes_many e.setting e.nodes arrivals e.world e1.world run.told run.outcomes captures run.run in
     let stays2 : e2 ≡ record e { world = e2.world; turns = e1.turns + 1; tallies = e2.tallies } =
     subst (λ (x : EngineState). e2 ≡ record x { world = e2.world; turns = e1.turns + 1; tallies = e2.tallies }) run.stays
@@ -98,9 +109,11 @@ run_on e e1 e2 e3 port time bytes arrivals captures unit mids holds there boxes 
     record {
       told = run.told ++ turn.told;
       outcomes = run.outcomes ++ turn.outcome ∷ [];
-      run = subst (λ w. Run e.setting e.nodes (arrivals ++ arrival port time bytes ∷ []) e.world (run.told ++ turn.told) (run.outcomes ++ turn.outcome ∷ []) (joined captures (records_at time e2.world)) w) (sym world3) pushed;
+      run = subst (λ w. Run e.setting e.nodes (arrivals ++ arrival port time bytes ∷ []) e.world (run.told ++ turn.told) (run.outcomes
+          ++ turn.outcome ∷ []) (joined captures (records_at time e2.world)) w) (sym world3) pushed;
       turns = omega (arith, turns3, run.turns, length-append arrivals (arrival port time bytes ∷ []));
-      each = all.each ∙ ap (λ (x : EngineState). length x.tallies) turn.is ∙ long e1.tallies port (counted turn.outcome (tallies_at e1.tallies port)) ∙ run.each;
+      each = all.each ∙ ap (λ (x : EngineState). length x.tallies) turn.is ∙ long e1.tallies port (counted turn.outcome (tallies_at e1.tallies port))
+          ∙ run.each;
       tallies = λ q sent at. tallied q sent (joined_at captures (records_at time e2.world) q sent at) many;
       stays = stays3 ∙ ap (λ m. record e { world = e3.world; turns = m; tallies = e3.tallies }) (sym turns3);
     }
@@ -110,10 +123,16 @@ run_on e e1 e2 e3 port time bytes arrivals captures unit mids holds there boxes 
     long (y ∷ xs) zero x = refl
     long (y ∷ xs) (suc i) x = ap suc (long xs i x)
 
-    tallied : (q : ℕ) (sent : List (Time × List ℕ)) → ((x : List (Time × List ℕ)) × (y : List (Time × List ℕ)) × (slice_get captures q ≡ Some x) × (slice_get (records_at time e2.world) q ≡ Some y) × (sent ≡ x ++ y)) → length run.outcomes ≡ length arrivals
-        → tallies_at e3.tallies q ≡ record (tally_of q (arrivals ++ arrival port time bytes ∷ []) (run.outcomes ++ turn.outcome ∷ []) (tallies_at e.tallies q)) { sent = (tallies_at e.tallies q).sent + length sent }
+    tallied : (q : ℕ) (sent : List (Time × List ℕ)) → ((x : List (Time × List ℕ)) × (y : List (Time × List ℕ)) × (slice_get captures q ≡ Some x)
+        × (slice_get (records_at time e2.world) q ≡ Some y) × (sent ≡ x ++ y)) → length run.outcomes ≡ length arrivals
+        → tallies_at e3.tallies q ≡ record (tally_of q (arrivals ++ arrival port time bytes ∷ []) (run.outcomes
+        ++ turn.outcome ∷ []) (tallies_at e.tallies q)) { sent = (tallies_at e.tallies q).sent + length sent }
     tallied q sent (x, y, was, now, is) many =
-        let q_in : q < length e.setting.env.ports = omega (arith, slice_get_within captures q x was, captures_many e.setting e.nodes arrivals e.world e1.world run.told run.outcomes captures run.run) in
+        let q_in : q < length e.setting.env.ports = omega (
+          arith,
+          slice_get_within captures q x was,
+          captures_many e.setting e.nodes arrivals e.world e1.world run.told run.outcomes captures run.run,
+        ) in
         let setting2 : e2.setting ≡ e.setting = ap (λ (z : EngineState). z.setting) turn.is ∙ ap (λ (z : EngineState). z.setting) run.stays in
         let t1 = run.tallies q x was in
         let t2 = ap (λ (z : EngineState). tallies_at z.tallies q) turn.is ∙ turn_tally q port turn.outcome e1.tallies (omega (arith, there, run.each)) in
@@ -128,17 +147,23 @@ run_on e e1 e2 e3 port time bytes arrivals captures unit mids holds there boxes 
             → tallies_at e1.tallies q ≡ record (tally_of q arrivals run.outcomes (tallies_at e.tallies q)) { sent = (tallies_at e.tallies q).sent + length x }
             → tallies_at e2.tallies q ≡ (if port == q then counted turn.outcome (tallies_at e1.tallies q) else tallies_at e1.tallies q)
             → tallies_at e3.tallies q ≡ record (tallies_at e2.tallies q) { sent = (tallies_at e2.tallies q).sent + length y }
-            → tally_of q (arrivals ++ arrival port time bytes ∷ []) (run.outcomes ++ turn.outcome ∷ []) (tallies_at e.tallies q) ≡ (if port == q then counted turn.outcome (tally_of q arrivals run.outcomes (tallies_at e.tallies q)) else tally_of q arrivals run.outcomes (tallies_at e.tallies q))
+            → tally_of q (arrivals ++ arrival port time bytes ∷ []) (run.outcomes ++ turn.outcome ∷ []) (tallies_at e.tallies q)
+            ≡ (if port == q then counted turn.outcome (tally_of q arrivals run.outcomes (tallies_at e.tallies q))
+            else tally_of q arrivals run.outcomes (tallies_at e.tallies q))
             → length sent ≡ length x + length y
-            → tallies_at e3.tallies q ≡ record (tally_of q (arrivals ++ arrival port time bytes ∷ []) (run.outcomes ++ turn.outcome ∷ []) (tallies_at e.tallies q)) { sent = (tallies_at e.tallies q).sent + length sent }
+            → tallies_at e3.tallies q ≡ record (tally_of q (arrivals ++ arrival port time bytes ∷ []) (run.outcomes
+            ++ turn.outcome ∷ []) (tallies_at e.tallies q)) { sent = (tallies_at e.tallies q).sent + length sent }
         go true same t1 t2 t3 after many =
             let base = tally_of q arrivals run.outcomes (tallies_at e.tallies q) in
             let n = (tallies_at e.tallies q).sent in
             let a : tallies_at e2.tallies q ≡ record (counted turn.outcome base) { sent = n + length x } =
             (rw same at t2) ∙ ap (counted turn.outcome) t1 ∙ counted_sent turn.outcome base (n + length x) in
-            t3 ∙ ap (λ (t : Tallies). record t { sent = t.sent + length y }) a ∙ ap (λ m. record (counted turn.outcome base) { sent = m }) (omega (arith, many)) ∙ ap (λ (t : Tallies). record t { sent = n + length sent }) (sym (rw same at after))
+            t3 ∙ ap (λ (t : Tallies). record t { sent = t.sent + length y }) a
+            ∙ ap (λ m. record (counted turn.outcome base) { sent = m }) (omega (arith, many))
+            ∙ ap (λ (t : Tallies). record t { sent = n + length sent }) (sym (rw same at after))
         go false same t1 t2 t3 after many =
             let base = tally_of q arrivals run.outcomes (tallies_at e.tallies q) in
             let n = (tallies_at e.tallies q).sent in
             let a : tallies_at e2.tallies q ≡ record base { sent = n + length x } = (rw same at t2) ∙ t1 in
-            t3 ∙ ap (λ (t : Tallies). record t { sent = t.sent + length y }) a ∙ ap (λ m. record base { sent = m }) (omega (arith, many)) ∙ ap (λ (t : Tallies). record t { sent = n + length sent }) (sym (rw same at after))
+            t3 ∙ ap (λ (t : Tallies). record t { sent = t.sent + length y }) a ∙ ap (λ m. record base { sent = m }) (omega (arith, many))
+            ∙ ap (λ (t : Tallies). record t { sent = n + length sent }) (sym (rw same at after))

@@ -1,5 +1,6 @@
 -- An input that is asked answers, and the run goes on.
-use Rattle.std.proofs.Common.{◌≡◌, ◌≢◌, ℕ, zero, suc, ◌+◌, ◌<◌, ◌≤◌, Bool, true, false, List, [], ◌∷◌, ◌++◌, length, map, take, Option, Some, None, Result, Ok, Err, refl, sym, ◌∙◌, ap, subst, arith, ◌⊎◌, inl, inr}
+use Rattle.std.proofs.Common.{◌≡◌, ◌≢◌, ℕ, zero, suc, ◌+◌, ◌<◌, ◌≤◌, Bool, true, false, List, [], ◌∷◌, ◌++◌, length, map, take, Option, Some, None, Result}
+use Rattle.std.proofs.Common.{Ok, Err, refl, sym, ◌∙◌, ap, subst, arith, ◌⊎◌, inl, inr}
 use Rattle.std.specs.Prelude.{slice_get, slice_set, ⊤}
 use Rattle.std.proofs.lemmas.List.{length-append, length-map}
 use Rattle.std.proofs.lemmas.Option.{slice_get-map, same_Some, slice_get_within}
@@ -24,7 +25,8 @@ use Rattle.dp_pipe.proofs.Advancing.{with_record, ended}
 -- ---- inputs and the sources that read them
 
 -- the input of a progress
-pub input_at : (olds news : List (Option (List ℕ))) (progress : List Progress) (inputs : List Input) (q : ℕ) (p : Progress) → AllStand olds news progress inputs → slice_get progress q ≡ Some p → (i : Input) × (slice_get inputs q ≡ Some i) × Stands p i
+pub input_at : (olds news : List (Option (List ℕ))) (progress : List Progress) (inputs : List Input) (q : ℕ) (p : Progress) →
+    AllStand olds news progress inputs → slice_get progress q ≡ Some p → (i : Input) × (slice_get inputs q ≡ Some i) × Stands p i
 input_at olds news progress inputs q p stand at =
     let (i, here) = get inputs q (omega (arith, slice_get_within progress q p at, stand.many)) in
     (i, here, stand.each q p i at here)
@@ -41,7 +43,8 @@ set_here (z ∷ xs) (suc n) x y e = set_here xs n x y e
 
 -- one input, its source and what its reader has left have changed
 pub all_stand : (olds news : List (Option (List ℕ))) (progress : List Progress) (inputs : List Input) (n : ℕ) (p' : Progress) (i' : Input) (b : Option (List ℕ))
-    → AllStand olds news progress inputs → Stands p' i' → ((old : Option (List ℕ)) → slice_get olds n ≡ Some old → WhereKnown old b (λ bytes rest. HasReadSo i'.state p'.source i'.records bytes rest))
+    → AllStand olds news progress inputs → Stands p' i' → ((old : Option (List ℕ)) → slice_get olds n ≡ Some old →
+    WhereKnown old b (λ bytes rest. HasReadSo i'.state p'.source i'.records bytes rest))
     → AllStand olds (slice_set news n b) (slice_set progress n p') (slice_set inputs n i')
 all_stand olds news progress inputs n p' i' b stand stands read = record {
   many = length_set progress n p' ∙ stand.many ∙ sym (length_set inputs n i');
@@ -49,14 +52,16 @@ all_stand olds news progress inputs n p' i' b stand stands read = record {
   read = λ q p i old new a c d e. reads q p i old new a c d e (split q n);
 }
   where
-    each : (q : ℕ) (p : Progress) (i : Input) → slice_get (slice_set progress n p') q ≡ Some p → slice_get (slice_set inputs n i') q ≡ Some i → (q ≡ n) ⊎ (q ≢ n) → Stands p i
+    each : (q : ℕ) (p : Progress) (i : Input) → slice_get (slice_set progress n p') q ≡ Some p → slice_get (slice_set inputs n i') q ≡ Some i →
+        (q ≡ n) ⊎ (q ≢ n) → Stands p i
     each q p i a c (inl same) =
         let x = set_here progress n p' p (ap (slice_get (slice_set progress n p')) (sym same) ∙ a) in
         let y = set_here inputs n i' i (ap (slice_get (slice_set inputs n i')) (sym same) ∙ c) in
         rw (← x, ← y) stands
     each q p i a c (inr other) = stand.each q p i (sym (get_set_other progress n q p' other) ∙ a) (sym (get_set_other inputs n q i' other) ∙ c)
 
-    reads : (q : ℕ) (p : Progress) (i : Input) (old new : Option (List ℕ)) → slice_get (slice_set progress n p') q ≡ Some p → slice_get (slice_set inputs n i') q ≡ Some i → slice_get olds q ≡ Some old → slice_get (slice_set news n b) q ≡ Some new
+    reads : (q : ℕ) (p : Progress) (i : Input) (old new : Option (List ℕ)) → slice_get (slice_set progress n p') q ≡ Some p →
+        slice_get (slice_set inputs n i') q ≡ Some i → slice_get olds q ≡ Some old → slice_get (slice_set news n b) q ≡ Some new
         → (q ≡ n) ⊎ (q ≢ n) → WhereKnown old new (λ bytes rest. HasReadSo i.state p.source i.records bytes rest)
     reads q p i old new a c d e (inl same) =
         let x = set_here progress n p' p (ap (slice_get (slice_set progress n p')) (sym same) ∙ a) in
@@ -64,17 +69,20 @@ all_stand olds news progress inputs n p' i' b stand stands read = record {
         let z = set_here news n b new (ap (slice_get (slice_set news n b)) (sym same) ∙ e) in
         rw (← x, ← y, ← z) (read old (ap (slice_get olds) (sym same) ∙ d))
     reads q p i old new a c d e (inr other) =
-        stand.read q p i old new (sym (get_set_other progress n q p' other) ∙ a) (sym (get_set_other inputs n q i' other) ∙ c) d (sym (get_set_other news n q b other) ∙ e)
+        stand.read q p i old new (sym (get_set_other progress n q p' other) ∙ a) (sym (get_set_other inputs n q i' other)
+        ∙ c) d (sym (get_set_other news n q b other) ∙ e)
 
 -- facts of the known bytes, one after the other
-pub known_then : (old mid new : Option (List ℕ)) (P Q R : List ℕ → List ℕ → Type 0) → ((bytes left rest : List ℕ) → P bytes left → Q left rest → R bytes rest) → WhereKnown old mid P → WhereKnown mid new Q → WhereKnown old new R
+pub known_then : (old mid new : Option (List ℕ)) (P Q R : List ℕ → List ℕ → Type 0) →
+    ((bytes left rest : List ℕ) → P bytes left → Q left rest → R bytes rest) → WhereKnown old mid P → WhereKnown mid new Q → WhereKnown old new R
 known_then None mid new P Q R f p q = tt
 known_then (Some x) None new P Q R f p q = absurd p
 known_then (Some x) (Some y) None P Q R f p q = absurd q
 known_then (Some x) (Some y) (Some z) P Q R f p q = f x y z p q
 
 -- what was read of an input that is open
-pub open_read : (state : InputState) (s : Standing) (records : List PacketRecord) (bytes rest : List ℕ) → state ≡ Open → HasReadSo state s records bytes rest → HasRead bytes s records rest
+pub open_read : (state : InputState) (s : Standing) (records : List PacketRecord) (bytes rest : List ℕ) → state ≡ Open →
+    HasReadSo state s records bytes rest → HasRead bytes s records rest
 open_read Open s records bytes rest e has = has
 open_read Whole s records bytes rest e has = cc
 open_read (Cut byte) s records bytes rest e has = cc
@@ -85,7 +93,8 @@ open_going Whole s count e on = cc
 open_going (Cut byte) s count e on = cc
 
 -- behind a record
-pub stands_more : (p p' : Progress) (i : Input) (time : Time) (len : ℕ) (buf : List ℕ) → Stands p i → p.state ≡ Open → p'.state ≡ Open → p'.source ≡ advanced p.source len → p.source.given < 16777216
+pub stands_more : (p p' : Progress) (i : Input) (time : Time) (len : ℕ) (buf : List ℕ) → Stands p i → p.state ≡ Open → p'.state ≡ Open →
+    p'.source ≡ advanced p.source len → p.source.given < 16777216
     → Stands p' (with_record (record { time = time; bytes = take len buf }) i)
 stands_more p p' i time len buf stands was is moved less =
     let state : i.state ≡ Open = sym stands.state ∙ was in
@@ -99,7 +108,8 @@ stands_more p p' i time len buf stands was is moved less =
     }
 
 -- behind the last
-pub stands_ended : (p p' : Progress) (i : Input) (state : InputState) → Stands p i → p'.state ≡ state → p'.source ≡ over p.source → (state ≡ Open → ⊥) → Stands p' (ended state i)
+pub stands_ended : (p p' : Progress) (i : Input) (state : InputState) → Stands p i → p'.state ≡ state → p'.source ≡ over p.source →
+    (state ≡ Open → ⊥) → Stands p' (ended state i)
 stands_ended p p' i state stands is moved closed = record {
   unit = ap (λ (s : Standing). s.unit) moved ∙ stands.unit;
   state = is;

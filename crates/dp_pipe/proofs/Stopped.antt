@@ -27,21 +27,26 @@ use Rattle.dp_pipe.proofs.PacketRuns.{IsReady, IsFirst}
 use Rattle.dp_pipe.proofs.Through.{not_before}
 
 -- an input of which no record was read
-none_read : (progress : List Progress) → AllByRecursion IsBegun progress → AllByRecursion (λ (i : Input). (i.records ≡ []) × (i.state ≡ Open)) (all_begun progress)
+none_read : (progress : List Progress) → AllByRecursion IsBegun progress →
+    AllByRecursion (λ (i : Input). (i.records ≡ []) × (i.state ≡ Open)) (all_begun progress)
 none_read [] begun = tt
 none_read (x ∷ progress) begun = ((refl, begun.0.state), none_read progress begun.1)
 
 -- a writer failed behind a turn
-stopped_writing : (p : Plan) (pattern : List ℕ) (first last : EngineState) (unit : TimeUnit) (olds news held hdr holds : List (Option (List ℕ))) (inputs : List Input) (progress : List Progress) (port : ℕ) (r : Report)
-    → IsReady p pattern → IsFirst p pattern first → bytes_needed p.env ≤ p.region → length held ≡ length p.env.ports → length hdr ≡ length held → HeadersWritten unit held hdr → FailedAt unit first last olds news hdr holds inputs port
-    → map (λ (i : Input). i.state) inputs ≡ map (λ (x : Progress). x.state) progress → Tells last progress r → StoppedWriting p pattern olds news held holds port r
+stopped_writing : (p : Plan) (pattern : List ℕ) (first last : EngineState) (unit : TimeUnit) (olds news held hdr holds : List (Option (List ℕ)))
+    (inputs : List Input) (progress : List Progress) (port : ℕ) (r : Report)
+    → IsReady p pattern → IsFirst p pattern first → bytes_needed p.env ≤ p.region → length held ≡ length p.env.ports → length hdr ≡ length held →
+    HeadersWritten unit held hdr → FailedAt unit first last olds news hdr holds inputs port
+    → map (λ (i : Input). i.state) inputs ≡ map (λ (x : Progress). x.state) progress → Tells last progress r →
+    StoppedWriting p pattern olds news held holds port r
 stopped_writing p pattern first last unit olds news held hdr holds inputs progress port r ready is room held_many many headers f states tells =
     let (few_ports, few_rings, few_tables) = few p.env ready.limits in
     let ports = ports_in p pattern first is in
     let before = earlier p pattern first last unit olds news hdr holds inputs port ready is f few_ports in
     let run = through p pattern first last unit olds news hdr holds inputs port ready is f few_ports in
     let long : length f.captures ≡ length held = captures_long p pattern first last unit olds news hdr holds inputs port ready is f few_ports ∙ sym held_many in
-    let new_long : length (records_at f.last.time f.behind.world) ≡ length held = records_long p pattern first last unit olds news hdr holds inputs port ready is f few_ports ∙ sym held_many in
+    let new_long : length (records_at f.last.time f.behind.world) ≡ length held =
+    records_long p pattern first last unit olds news hdr holds inputs port ready is f few_ports ∙ sym held_many in
     record {
       room = room;
       inputs = inputs;
@@ -57,22 +62,29 @@ stopped_writing p pattern first last unit olds news held hdr holds inputs progre
       goes_on = goes_on_by p pattern first last unit olds news hdr holds inputs port ready is f few_ports;
       there = omega (arith, f.stopped.there, there);
       ahead = λ q old new less here at. subst (λ (u : TimeUnit). Appends old new (capture_text u run.captures q)) f.unit_is
-          (given_ahead unit f.captures f.last.time f.behind last held hdr f.mids holds port many f.mids_many headers f.wrote long new_long f.stopped q old new less here at);
+          (given_ahead unit f.captures f.last.time f.behind last held hdr f.mids holds port many f.mids_many headers f.wrote long new_long f.stopped q old new
+          less here at);
       sent = own_sent p pattern first last unit olds news hdr holds inputs port ready is f few_ports;
       not_less = omega arith;
-      own = λ old new here at. subst (λ (u : TimeUnit). WroteFront old new u (capture_at run.captures port) (length (capture_at f.captures port) + f.stopped.whole)) f.unit_is
-          (given_own unit f.captures f.last.time f.behind last held hdr f.mids holds port many f.mids_many headers f.wrote long new_long f.stopped old new here at);
+      own = λ old new here at. subst (λ (u : TimeUnit). WroteFront old new u (capture_at run.captures port)
+          (length (capture_at f.captures port) + f.stopped.whole)) f.unit_is
+          (given_own unit f.captures f.last.time f.behind last held hdr f.mids holds port many f.mids_many headers f.wrote long new_long f.stopped old new
+          here at);
       behind = λ q old new less here at. subst (λ (u : TimeUnit). Appends old new (capture_text u f.captures q)) f.unit_is
-          (given_behind unit f.captures f.last.time f.behind last held hdr f.mids holds port many f.mids_many headers f.wrote long new_long f.stopped q old new less here at);
+          (given_behind unit f.captures f.last.time f.behind last held hdr f.mids holds port many f.mids_many headers f.wrote long new_long f.stopped q old
+          new less here at);
       numbers = numbers_told p pattern _ run last progress inputs _ r few_ports few_rings (f.inputs_many ∙ ports) states
           (counted_failed p pattern first last unit olds news hdr holds inputs port ready is f few_ports) tells;
     }
   where
     there : length f.behind.setting.env.ports ≡ length p.env.ports
-    there = ap (λ (e : EngineState). length e.setting.env.ports) f.turn.is ∙ ap (λ (e : EngineState). length e.setting.env.ports) f.run.stays ∙ ports_in p pattern first is
+    there = ap (λ (e : EngineState). length e.setting.env.ports) f.turn.is ∙ ap (λ (e : EngineState). length e.setting.env.ports) f.run.stays
+        ∙ ports_in p pattern first is
 
-stopped_by : (p : Plan) (pattern : List ℕ) (first last : EngineState) (olds news held holds : List (Option (List ℕ))) (progress : List Progress) (cause : RunCause) (r : Report)
-    → IsReady p pattern → IsAscending 0 pattern → IsFirst p pattern first → bytes_needed p.env ≤ p.region → length held ≡ length p.env.ports → GoesForward first last olds news held holds progress (Err cause) → Tells last progress r
+stopped_by : (p : Plan) (pattern : List ℕ) (first last : EngineState) (olds news held holds : List (Option (List ℕ))) (progress : List Progress)
+    (cause : RunCause) (r : Report)
+    → IsReady p pattern → IsAscending 0 pattern → IsFirst p pattern first → bytes_needed p.env ≤ p.region → length held ≡ length p.env.ports →
+    GoesForward first last olds news held holds progress (Err cause) → Tells last progress r
     → StoppedBy p pattern olds news held holds cause r
 stopped_by p pattern first last olds news held holds progress Memory r ready ascends is room many (inl fails) tells = absurd fails
 stopped_by p pattern first last olds news held holds progress Memory r ready ascends is room many (inr made) tells = absurd made.rounds
@@ -80,7 +92,13 @@ stopped_by p pattern first last olds news held holds progress NoRoom r ready asc
 stopped_by p pattern first last olds news held holds progress NoRoom r ready ascends is room many (inr made) tells = absurd made.rounds
 stopped_by p pattern first last olds news held holds progress (In port error) r ready ascends is room many (inl (fault, kept, begun, same)) tells =
     let (few_ports, few_rings, few_tables) = few p.env ready.limits in
-    inl (record { room = room; fault = fault; kept = kept; idle = idle_told p pattern first progress r is ascends few_ports few_rings begun (subst (λ (e : EngineState). Tells e progress r) same tells) })
+    inl (record {
+      room = room;
+      fault = fault;
+      kept = kept;
+      idle = idle_told p pattern first progress r is ascends few_ports few_rings begun
+          (subst (λ (e : EngineState). Tells e progress r) same tells);
+    })
 stopped_by p pattern first last olds news held holds progress (In port error) r ready ascends is room many (inr made) tells =
     let (inputs, states, went, fault) = made.rounds in
     let done = went_on p pattern first last made.unit olds news held made.mids holds inputs progress r ready is made.mids_many made.headers went states tells in
@@ -98,41 +116,50 @@ stopped_by p pattern first last olds news held holds progress (Out port) r ready
     })
 stopped_by p pattern first last olds news held holds progress (Out port) r ready ascends is room many (inr made) tells =
     let (inputs, states, failed) = made.rounds in
-    inr (stopped_writing p pattern first last made.unit olds news held made.mids holds inputs progress port r ready is room many made.mids_many made.headers failed states tells)
+    inr (stopped_writing p pattern first last made.unit olds news held made.mids holds inputs progress port r ready is room many made.mids_many made.headers
+    failed states tells)
 
-pub stopped_so : (p : Plan) (pattern : List ℕ) (olds news held holds : List (Option (List ℕ))) (answer : Result Report RunFault) → IsReady p pattern → IsAscending 0 pattern → length held ≡ length p.env.ports → RanOn p pattern olds news held holds answer
+pub stopped_so : (p : Plan) (pattern : List ℕ) (olds news held holds : List (Option (List ℕ))) (answer : Result Report RunFault) → IsReady p pattern →
+    IsAscending 0 pattern → length held ≡ length p.env.ports → RanOn p pattern olds news held holds answer
     → IfErr answer (λ (f : RunFault). StoppedBy p pattern olds news held holds f.cause f.report)
 stopped_so p pattern olds news held holds (Ok r) ready ascends many ran = tt
 stopped_so p pattern olds news held holds (Err fault) ready ascends many ran =
-    stopped_by p pattern ran.first ran.last olds news held holds ran.progress fault.cause fault.report ready ascends (is_first p pattern olds news held holds (Err fault) ran) ran.room many ran.went ran.tells
+    stopped_by p pattern ran.first ran.last olds news held holds ran.progress fault.cause fault.report ready ascends
+    (is_first p pattern olds news held holds (Err fault) ran) ran.room many ran.went ran.tells
 
 -- no engine was opened
-pub unopened_so : (p : Plan) (pattern : List ℕ) (olds news held holds : List (Option (List ℕ))) (cause : RunCause) (r : Report) → IsUnopened p cause → IsIdle p.env r → StoppedBy p pattern olds news held holds cause r
+pub unopened_so : (p : Plan) (pattern : List ℕ) (olds news held holds : List (Option (List ℕ))) (cause : RunCause) (r : Report) → IsUnopened p cause →
+    IsIdle p.env r → StoppedBy p pattern olds news held holds cause r
 unopened_so p pattern olds news held holds Memory r why idle = idle
 unopened_so p pattern olds news held holds NoRoom r why idle = (why, idle)
 unopened_so p pattern olds news held holds (In port error) r why idle = absurd why
 unopened_so p pattern olds news held holds (Out port) r why idle = absurd why
 
-pub all_stopped : (p : Plan) (pattern : List ℕ) (olds news held holds : List (Option (List ℕ))) (answer : Result Report RunFault) → IsReady p pattern → IsAscending 0 pattern → length held ≡ length p.env.ports → RunAnswers p pattern olds news held holds answer
+pub all_stopped : (p : Plan) (pattern : List ℕ) (olds news held holds : List (Option (List ℕ))) (answer : Result Report RunFault) → IsReady p pattern →
+    IsAscending 0 pattern → length held ≡ length p.env.ports → RunAnswers p pattern olds news held holds answer
     → IfErr answer (λ (f : RunFault). StoppedBy p pattern olds news held holds f.cause f.report)
 all_stopped p pattern olds news held holds answer ready ascends many (inl ran) = stopped_so p pattern olds news held holds answer ready ascends many ran
 all_stopped p pattern olds news held holds (Ok r) ready ascends many (inr unopened) = tt
-all_stopped p pattern olds news held holds (Err fault) ready ascends many (inr (why, idle)) = unopened_so p pattern olds news held holds fault.cause fault.report why idle
+all_stopped p pattern olds news held holds (Err fault) ready ascends many (inr (why, idle)) =
+    unopened_so p pattern olds news held holds fault.cause fault.report why idle
 
 -- ---- memory and room
 
-no_room_by : (p : Plan) (cause : RunCause) → IsUnopened p cause → (◌≡◌ {A = Result ⊤ RunCause} (Err cause) (Err Memory)) ⊎ ((◌≡◌ {A = Result ⊤ RunCause} (Err cause) (Err NoRoom)) ↔ (p.region < bytes_needed p.env))
+no_room_by : (p : Plan) (cause : RunCause) → IsUnopened p cause → (◌≡◌ {A = Result ⊤ RunCause} (Err cause) (Err Memory))
+    ⊎ ((◌≡◌ {A = Result ⊤ RunCause} (Err cause) (Err NoRoom)) ↔ (p.region < bytes_needed p.env))
 no_room_by p Memory why = inl refl
 no_room_by p NoRoom why = inr (λ e. why, λ less. refl)
 no_room_by p (In port error) why = absurd why
 no_room_by p (Out port) why = absurd why
 
 -- there is no room exactly where the region is smaller than the engine needs, if there is memory
-pub no_room_so : (p : Plan) (pattern : List ℕ) (olds news held holds : List (Option (List ℕ))) (answer : Result Report RunFault) → RunAnswers p pattern olds news held holds answer
+pub no_room_so : (p : Plan) (pattern : List ℕ) (olds news held holds : List (Option (List ℕ))) (answer : Result Report RunFault) →
+    RunAnswers p pattern olds news held holds answer
     → (answer_of answer ≡ Err Memory) ⊎ ((answer_of answer ≡ Err NoRoom) ↔ (p.region < bytes_needed p.env))
 no_room_so p pattern olds news held holds answer (inl ran) =
     inr (
-      λ e. absurd (not_before ran.first ran.last olds news held holds ran.progress NoRoom (subst (GoesForward ran.first ran.last olds news held holds ran.progress) e ran.went) (inr refl)),
+      λ e. absurd (not_before ran.first ran.last olds news held holds ran.progress NoRoom
+          (subst (GoesForward ran.first ran.last olds news held holds ran.progress) e ran.went) (inr refl)),
       λ less. absurd (omega (arith, less, ran.room)),
     )
 no_room_so p pattern olds news held holds (Ok r) (inr unopened) = absurd unopened

@@ -1,5 +1,6 @@
 -- A run stops at what one input answers, or at what a writer does behind it.
-use Rattle.std.proofs.Common.{◌≡◌, ◌≢◌, ℕ, zero, suc, ◌+◌, ◌<◌, ◌≤◌, Bool, true, false, List, [], ◌∷◌, ◌++◌, length, map, take, Option, Some, None, Result, Ok, Err, refl, sym, ◌∙◌, ap, subst, arith, ◌⊎◌, inl, inr}
+use Rattle.std.proofs.Common.{◌≡◌, ◌≢◌, ℕ, zero, suc, ◌+◌, ◌<◌, ◌≤◌, Bool, true, false, List, [], ◌∷◌, ◌++◌, length, map, take, Option, Some, None, Result}
+use Rattle.std.proofs.Common.{Ok, Err, refl, sym, ◌∙◌, ap, subst, arith, ◌⊎◌, inl, inr}
 use Rattle.std.specs.Prelude.{slice_get, slice_set, ⊤}
 use Rattle.std.proofs.lemmas.List.{length-append}
 use Rattle.std.proofs.lemmas.Option.{same_Some, slice_get_within}
@@ -20,7 +21,8 @@ use Rattle.dp_engine.specs.Engines.{EngineState}
 use Rattle.dp_pipe.specs.declared.forwarding.Progress.{Progress}
 use Rattle.dp_pipe.specs.declared.forwarding.RunCause.{RunCause}
 use Rattle.dp_pipe.specs.declared.forwarding.RunCause.TheVariants.{In, Out}
-use Rattle.dp_pipe.specs.Forwarding.{Input, HasReadSo, Gives, AreRead, Refuses, Stands, AllStand, ReadsTurn, Follows, Advances, Along, Stops, arrivals_of, unit_for, units_of}
+use Rattle.dp_pipe.specs.Forwarding.{Input, HasReadSo, Gives, AreRead, Refuses, Stands, AllStand, ReadsTurn, Follows, Advances, Along, Stops, arrivals_of}
+use Rattle.dp_pipe.specs.Forwarding.{unit_for, units_of}
 use Rattle.dp_pipe.proofs.Forwarded.{split, length_set}
 use Rattle.dp_pipe.proofs.RunOn.{arrival}
 use Rattle.dp_pipe.proofs.Advancing.{with_record, arrivals_more, order_next}
@@ -41,14 +43,18 @@ state_of i = i.state
 abbrev state_at : Progress → InputState
 state_at p = p.state
 
-states_each : (progress : List Progress) (inputs : List Input) → length progress ≡ length inputs → ((q : ℕ) (p : Progress) (i : Input) → slice_get progress q ≡ Some p → slice_get inputs q ≡ Some i → p.state ≡ i.state) → map state_of inputs ≡ map state_at progress
+states_each : (progress : List Progress) (inputs : List Input) → length progress ≡ length inputs →
+    ((q : ℕ) (p : Progress) (i : Input) → slice_get progress q ≡ Some p → slice_get inputs q ≡ Some i → p.state ≡ i.state) →
+    map state_of inputs ≡ map state_at progress
 states_each [] [] many each = refl
 states_each [] (i ∷ inputs) many each = absurd (omega (arith, many))
 states_each (p ∷ progress) [] many each = absurd (omega (arith, many))
 states_each (p ∷ progress) (i ∷ inputs) many each =
-    ap (λ x. x ∷ map state_of inputs) (sym (each 0 p i refl refl)) ∙ ap (λ l. p.state ∷ l) (states_each progress inputs (omega (arith, many)) (λ q a b c d. each (suc q) a b c d))
+    ap (λ x. x ∷ map state_of inputs) (sym (each 0 p i refl refl)) ∙ ap
+    (λ l. p.state ∷ l) (states_each progress inputs (omega (arith, many)) (λ q a b c d. each (suc q) a b c d))
 
-pub states_same : (olds news : List (Option (List ℕ))) (progress : List Progress) (inputs : List Input) → AllStand olds news progress inputs → map state_of inputs ≡ map state_at progress
+pub states_same : (olds news : List (Option (List ℕ))) (progress : List Progress) (inputs : List Input) → AllStand olds news progress inputs →
+    map state_of inputs ≡ map state_at progress
 states_same olds news progress inputs stand = states_each progress inputs stand.many (λ q p i a b. (stand.each q p i a b).state)
 
 states_set : (progress : List Progress) (n : ℕ) (p : Progress) → map state_at (slice_set progress n p) ≡ slice_set (map state_at progress) n p.state
@@ -63,7 +69,8 @@ states_get (x ∷ progress) (suc n) p e = states_get progress n p e
 
 -- ---- what was read
 
-pub gives_of : (state : InputState) (s : Standing) (unit : TimeUnit) (records : List PacketRecord) (bytes rest : List ℕ) → s.unit ≡ unit → HasReadSo state s records bytes rest → Gives state unit records bytes
+pub gives_of : (state : InputState) (s : Standing) (unit : TimeUnit) (records : List PacketRecord) (bytes rest : List ℕ) → s.unit ≡ unit →
+    HasReadSo state s records bytes rest → Gives state unit records bytes
 gives_of Open s unit records bytes rest same has = (s, rest, has, same)
 gives_of Whole s unit records bytes rest same has = rw (← same) has
 gives_of (Cut byte) s unit records bytes rest same has = rw (← same) has
@@ -73,7 +80,8 @@ known_map None b P Q f h = tt
 known_map (Some x) None P Q f h = absurd h
 known_map (Some x) (Some y) P Q f h = f x y h
 
-progress_at : (progress : List Progress) (inputs : List Input) (q : ℕ) (i : Input) → length progress ≡ length inputs → slice_get inputs q ≡ Some i → (p : Progress) × (slice_get progress q ≡ Some p)
+progress_at : (progress : List Progress) (inputs : List Input) (q : ℕ) (i : Input) → length progress ≡ length inputs → slice_get inputs q ≡ Some i →
+    (p : Progress) × (slice_get progress q ≡ Some p)
 progress_at progress inputs q i many at = get progress q (omega (arith, slice_get_within inputs q i at, many))
   where
     get : {A : Type 0} (xs : List A) (q : ℕ) → q < length xs → (x : A) × (slice_get xs q ≡ Some x)
@@ -81,10 +89,12 @@ progress_at progress inputs q i many at = get progress q (omega (arith, slice_ge
     get (x ∷ xs) zero lt = (x, refl)
     get (x ∷ xs) (suc q) lt = get xs q (omega (arith, lt))
 
-pub are_read : (olds news : List (Option (List ℕ))) (progress : List Progress) (inputs : List Input) → AllStand olds news progress inputs → AreRead olds news inputs
+pub are_read : (olds news : List (Option (List ℕ))) (progress : List Progress) (inputs : List Input) → AllStand olds news progress inputs →
+    AreRead olds news inputs
 are_read olds news progress inputs stand q i old new at a b =
     let (p, here) = progress_at progress inputs q i stand.many at in
-    known_map old new _ _ (λ bytes rest has. gives_of i.state p.source i.unit i.records bytes rest (stand.each q p i here at).unit has) (stand.read q p i old new here at a b)
+    known_map old new _ _ (λ bytes rest has. gives_of i.state p.source i.unit i.records bytes rest (stand.each q p i here at).unit has)
+    (stand.read q p i old new here at a b)
 
 set_here : {A : Type 0} (xs : List A) (n : ℕ) (x y : A) → slice_get (slice_set xs n x) n ≡ Some y → x ≡ y
 set_here [] n x y e = cc
@@ -92,8 +102,10 @@ set_here (z ∷ xs) zero x y e = same_Some x y e
 set_here (z ∷ xs) (suc n) x y e = set_here xs n x y e
 
 -- an input that has a fault was read so far
-read_set : (olds news : List (Option (List ℕ))) (inputs : List Input) (n : ℕ) (i : Input) (b : Option (List ℕ)) → AreRead olds news inputs → slice_get inputs n ≡ Some i
-    → ((old : Option (List ℕ)) → slice_get olds n ≡ Some old → WhereKnown old b (λ bytes rest. Gives i.state i.unit i.records bytes)) → AreRead olds (slice_set news n b) inputs
+read_set : (olds news : List (Option (List ℕ))) (inputs : List Input) (n : ℕ) (i : Input) (b : Option (List ℕ)) → AreRead olds news inputs →
+    slice_get inputs n ≡ Some i
+    → ((old : Option (List ℕ)) → slice_get olds n ≡ Some old → WhereKnown old b (λ bytes rest. Gives i.state i.unit i.records bytes)) →
+    AreRead olds (slice_set news n b) inputs
 read_set olds news inputs n i b read here now q j old new at a c = go (split q n)
   where
     go : (q ≡ n) ⊎ (q ≢ n) → WhereKnown old new (λ bytes rest. Gives j.state j.unit j.records bytes)
@@ -104,7 +116,8 @@ read_set olds news inputs n i b read here now q j old new at a c = go (split q n
     go (inr other) = read q j old new at a (sym (get_set_other news n q b other) ∙ c)
 
 -- what a refusal says of the bytes
-refuses_of : (error : PcapError) (s s' : Standing) (unit : TimeUnit) (records : List PacketRecord) (bytes rest buf : List ℕ) → s.unit ≡ unit → ReadsOn bytes records s s' rest buf (Err error) → Refuses unit records error bytes
+refuses_of : (error : PcapError) (s s' : Standing) (unit : TimeUnit) (records : List PacketRecord) (bytes rest buf : List ℕ) → s.unit ≡ unit →
+    ReadsOn bytes records s s' rest buf (Err error) → Refuses unit records error bytes
 refuses_of BadMagic s s' unit records bytes rest buf same has = rw (← same) has
 refuses_of BadVersion s s' unit records bytes rest buf same has = rw (← same) has
 refuses_of BadLink s s' unit records bytes rest buf same has = rw (← same) has
@@ -115,8 +128,10 @@ refuses_of TooMany s s' unit records bytes rest buf same has = rw (← same) has
 refuses_of Read s s' unit records bytes rest buf same has = tt
 refuses_of error s s' unit records bytes rest buf same has = rw (← same) has
 
-pub stops_at : (unit : TimeUnit) (e0 e e' : EngineState) (olds news held mids holds : List (Option (List ℕ))) (progress : List Progress) (inputs : List Input) (round port : ℕ) (p p' : Progress) (a b : Option (List ℕ)) (cause : RunCause)
-    → Along unit e0 e olds news held mids progress inputs round port → length mids ≡ length e0.setting.env.ports → slice_get progress port ≡ Some p → p.state ≡ Open → slice_get news port ≡ Some a
+pub stops_at : (unit : TimeUnit) (e0 e e' : EngineState) (olds news held mids holds : List (Option (List ℕ))) (progress : List Progress) (inputs : List Input)
+    (round port : ℕ) (p p' : Progress) (a b : Option (List ℕ)) (cause : RunCause)
+    → Along unit e0 e olds news held mids progress inputs round port → length mids ≡ length e0.setting.env.ports → slice_get progress port ≡ Some p →
+    p.state ≡ Open → slice_get news port ≡ Some a
     → Advances port unit e e' p p' a b mids holds (Err cause)
     → Stops unit e0 e' olds (slice_set news port b) held holds (slice_set progress port p') cause
 stops_at unit e0 e e' olds news held mids holds progress inputs round port p p' a b cause along mids_many here open_p left_a step =
@@ -136,16 +151,20 @@ stops_at unit e0 e e' olds news held mids holds progress inputs round port p p' 
 
     states : p'.state ≡ Open → map state_of inputs ≡ map state_at (slice_set progress port p')
     states is = states_same olds news progress inputs along.stand
-        ∙ sym (states_set progress port p' ∙ ap (slice_set (map state_at progress) port) (is ∙ sym open_p) ∙ set_itself (map state_at progress) port p.state (states_get progress port p here))
+        ∙ sym (states_set progress port p' ∙ ap (slice_set (map state_at progress) port) (is ∙ sym open_p)
+        ∙ set_itself (map state_at progress) port p.state (states_get progress port p here))
 
-    go : (answer : Result Next PcapError) → ReadsTurn port e step.engine p.source p'.source a b answer → IsInRange p.source answer → Moves p.source p'.source answer → Follows port unit step.engine e' p'.state mids holds answer (Err cause)
+    go : (answer : Result Next PcapError) → ReadsTurn port e step.engine p.source p'.source a b answer → IsInRange p.source answer →
+        Moves p.source p'.source answer → Follows port unit step.engine e' p'.state mids holds answer (Err cause)
         → Stops unit e0 e' olds (slice_set news port b) held holds (slice_set progress port p') cause
     go (Ok (Record time len)) (buf, more, (fits, turn)) (nano, few, less) moves (is, q, cause_is, stops) =
         let r : PacketRecord = record { time = time; bytes = take len buf } in
         let i' = with_record r i in
         let stands = stands_more p p' i time len buf i_stands open_p is moves less in
         let stand = all_stand olds news progress inputs port p' i' b along.stand stands (λ old at.
-        known_then old a b _ _ _ (λ bytes left rest before now. rw i_open (now bytes i.records (open_read i.state p.source i.records bytes left i_open before))) (along.stand.read port p i old a here i_here at left_a) more) in
+        known_then old a b _ _ _ (λ bytes left rest before now. rw i_open
+        (now bytes i.records (open_read i.state p.source i.records bytes left i_open before))) (along.stand.read port p i old a here i_here at left_a)
+        more) in
         rw cause_is (
           slice_set inputs port i',
           states_same olds (slice_set news port b) (slice_set progress port p') (slice_set inputs port i') stand,
@@ -157,7 +176,8 @@ stops_at unit e0 e e' olds news held mids holds progress inputs round port p p' 
             last = arrival port time (take len buf);
             arrivals_are = arrivals_more inputs round port i r along.order i_here i_open;
             round = round;
-            order = order_next inputs round port i' along.order (rw i_open (length-append i.records (r ∷ []) ∙ ap (λ m. m + 1) (wanted round port (length i.records) i.state i_open (along.order port i i_here))));
+            order = order_next inputs round port i' along.order (rw i_open (length-append i.records (r ∷ [])
+                ∙ ap (λ m. m + 1) (wanted round port (length i.records) i.state i_open (along.order port i i_here))));
             engine = e;
             captures = along.captures;
             many = along.many;
@@ -175,11 +195,19 @@ stops_at unit e0 e e' olds news held mids holds progress inputs round port p p' 
     go (Err error) (buf, more, same) range moves (is, answer_is, e_is, holds_is) =
         let cause_is : cause ≡ In port error = same_err cause (In port error) answer_is in
         let read = read_set olds news inputs port i b (are_read olds news progress inputs along.stand) i_here (λ old at.
-        known_then old a b _ _ _ (λ bytes left rest before now. rw i_open (p.source, left, open_read i.state p.source i.records bytes left i_open before, i_stands.unit)) (along.stand.read port p i old a here i_here at left_a) more) in
-        let fault : (old new : Option (List ℕ)) → slice_get olds port ≡ Some old → slice_get (slice_set news port b) port ≡ Some new → WhereKnown old new (λ bytes rest. Refuses i.unit i.records error bytes) = λ old new at c.
+        known_then old a b _ _ _ (λ bytes left rest before now. rw i_open (
+          p.source,
+          left,
+          open_read i.state p.source i.records bytes left i_open before,
+          i_stands.unit,
+        )) (along.stand.read port p i old a here i_here at left_a) more) in
+        let fault : (old new : Option (List ℕ)) → slice_get olds port ≡ Some old → slice_get (slice_set news port b) port ≡ Some new →
+        WhereKnown old new (λ bytes rest. Refuses i.unit i.records error bytes) = λ old new at c.
         let z = set_here news port b new c in
         subst (λ x. WhereKnown old x (λ bytes rest. Refuses i.unit i.records error bytes)) z
-        (known_then old a b _ _ _ (λ bytes left rest before now. refuses_of error p.source p'.source i.unit i.records bytes rest buf i_stands.unit (now bytes i.records (open_read i.state p.source i.records bytes left i_open before))) (along.stand.read port p i old a here i_here at left_a) more) in
+        (known_then old a b _ _ _ (λ bytes left rest before now. refuses_of error p.source p'.source i.unit i.records bytes rest buf i_stands.unit
+        (now bytes i.records (open_read i.state p.source i.records bytes left i_open before))) (along.stand.read port p i old a here i_here at left_a)
+        more) in
         rw (cause_is, e_is ∙ same, holds_is) (
           inputs,
           states is,

@@ -16,14 +16,16 @@ use Rattle.dp_pipe.specs.Config.{Holds, HoldAll, IsFillFault, IsTablesFault}
 use Rattle.dp_pipe.specs.Views.{values, table_says}
 
 -- the first elements, seen through a view, and one more
-take_seen : {A B : Type 0} (see : A → B) (xs : List A) (i : ℕ) (x : A) → i < length xs → get_or xs i x ≡ x → take (i + 1) (map see xs) ≡ take i (map see xs) ++ see x ∷ []
+take_seen : {A B : Type 0} (see : A → B) (xs : List A) (i : ℕ) (x : A) → i < length xs → get_or xs i x ≡ x → take (i + 1) (map see xs) ≡ take i (map see xs)
+    ++ see x ∷ []
 take_seen {B = B} see xs i x lt here =
     take-map see (i + 1) xs ∙ rw (take_more xs i x lt, here) (map_push see (take i xs) x) ∙ ap (λ (ys : List B). ys ++ see x ∷ []) (sym (take-map see i xs))
 
 get_seen : {A B : Type 0} (see : A → B) (xs : List A) (i : ℕ) (x : A) → i < length xs → get_or xs i x ≡ x → slice_get (map see xs) i ≡ Some (see x)
 get_seen see xs i x lt here = slice_get-map see xs i ∙ rw (slice_get-get_or xs i x lt, here) refl
 
-takes_more : (old middle new : RouteTable) (values : List Data) (value : Data) → TakesAll old middle values → Takes middle new value → TakesAll old new (values ++ value ∷ [])
+takes_more : (old middle new : RouteTable) (values : List Data) (value : Data) → TakesAll old middle values → Takes middle new value →
+    TakesAll old new (values ++ value ∷ [])
 takes_more old middle new [] value same t = (new, rw same t, refl)
 takes_more old middle new (v ∷ values) value (next, first, others) t = (next, first, takes_more next middle new values value others t)
 
@@ -31,7 +33,8 @@ pub route_more : (old middle new : RouteTable) (vs : List Value) (i : ℕ) (v : 
     → TakesAll old middle (take i (values vs)) → Takes middle new (view v) → TakesAll old new (take (i + 1) (values vs))
 route_more old middle new vs i v lt here before t = rw (take_seen view vs i v lt here) (takes_more old middle new (take i (values vs)) (view v) before t)
 
-hold_more : (ts : List TableSays) (tables : List RouteTable) (t : TableSays) (table : RouteTable) → HoldAll ts tables → Holds t table → HoldAll (ts ++ t ∷ []) (tables ++ table ∷ [])
+hold_more : (ts : List TableSays) (tables : List RouteTable) (t : TableSays) (table : RouteTable) → HoldAll ts tables → Holds t table →
+    HoldAll (ts ++ t ∷ []) (tables ++ table ∷ [])
 hold_more [] [] t table h here = (here, tt)
 hold_more [] (x ∷ tables) t table h here = absurd h
 hold_more (s ∷ ts) [] t table h here = absurd h
@@ -39,10 +42,12 @@ hold_more (s ∷ ts) (x ∷ tables) t table (first, others) here = (first, hold_
 
 pub table_more : (ts : List code.TableSays) (tables : List RouteTable) (i : ℕ) (t : code.TableSays) (table : RouteTable) → i < length ts → get_or ts i t ≡ t
     → HoldAll (take i (map table_says ts)) tables → Holds (table_says t) table → HoldAll (take (i + 1) (map table_says ts)) (tables ++ table ∷ [])
-table_more ts tables i t table lt here before h = rw (take_seen table_says ts i t lt here) (hold_more (take i (map table_says ts)) tables (table_says t) table before h)
+table_more ts tables i t table lt here before h = rw (take_seen table_says ts i t lt here)
+    (hold_more (take i (map table_says ts)) tables (table_says t) table before h)
 
 -- a table that is not filled
-fault_at : (ts : List TableSays) (tables : List RouteTable) (i : ℕ) (t : TableSays) (e : PipeError) → HoldAll (take i ts) tables → slice_get ts i ≡ Some t → IsFillFault i t e → IsTablesFault ts e
+fault_at : (ts : List TableSays) (tables : List RouteTable) (i : ℕ) (t : TableSays) (e : PipeError) → HoldAll (take i ts) tables → slice_get ts i ≡ Some t →
+    IsFillFault i t e → IsTablesFault ts e
 fault_at ts tables i t errors.Memory before here h = tt
 fault_at ts tables i t errors.NotToml before here h = absurd h
 fault_at ts tables i t (errors.BadKey kind place) before here h = absurd h

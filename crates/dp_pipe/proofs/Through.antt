@@ -1,5 +1,6 @@
 -- Where all rounds of a run begin, and what stays of an engine behind them.
-use Rattle.std.proofs.Common.{◌≡◌, ◌⊎◌, inl, inr, ℕ, zero, suc, ◌+◌, ◌<◌, ◌≤◌, List, [], ◌∷◌, ◌++◌, Option, Some, None, Result, Ok, Err, length, map, take, replicate, refl, ap, sym, ◌∙◌, subst, arith, zero-add}
+use Rattle.std.proofs.Common.{◌≡◌, ◌⊎◌, inl, inr, ℕ, zero, suc, ◌+◌, ◌<◌, ◌≤◌, List, [], ◌∷◌, ◌++◌, Option, Some, None, Result, Ok, Err, length, map, take}
+use Rattle.std.proofs.Common.{replicate, refl, ap, sym, ◌∙◌, subst, arith, zero-add}
 use Rattle.std.specs.Prelude.{slice_get, flat_map, max, ⊤, IfErr}
 use Rattle.std.specs.Option.{option_map_or}
 use Rattle.std.specs.List.{AllByRecursion}
@@ -19,7 +20,8 @@ use Rattle.dp_pipe.specs.declared.running.RunFault.{RunFault}
 use Rattle.dp_pipe.specs.declared.forwarding.Progress.{Progress}
 use Rattle.dp_pipe.specs.declared.forwarding.RunCause.{RunCause}
 use Rattle.dp_pipe.specs.declared.forwarding.RunCause.TheVariants.{Memory, NoRoom, In, Out}
-use Rattle.dp_pipe.specs.Forwarding.{Input, AllStand, AskedUntil, AnswersSo, asked, Along, HasRun, AreWritten, AreRounds, FailedAt, Stops, arrivals_of, records_in, records_many, capture_at, capture_of, tally_of, AreRead, unit_for, units_of}
+use Rattle.dp_pipe.specs.Forwarding.{Input, AllStand, AskedUntil, AnswersSo, asked, Along, HasRun, AreWritten, AreRounds, FailedAt, Stops, arrivals_of}
+use Rattle.dp_pipe.specs.Forwarding.{records_in, records_many, capture_at, capture_of, tally_of, AreRead, unit_for, units_of}
 use Rattle.dp_pipe.specs.Running.{all_begun, begun, IsBegun, GoesForward, answer_of, HeadersFail, IsHeaderCause, IsWriteCause}
 use Rattle.dp_pipe.proofs.Heading.{told_at, all_at, length_set, keeps_it}
 
@@ -75,7 +77,8 @@ asked_none : (q : ℕ) → asked 0 0 q ≡ 0
 asked_none q = rw (le-ltb q 0 (omega arith)) refl
 
 pub along_none : (unit : TimeUnit) (e : EngineState) (olds news mids : List (Option (List ℕ))) (progress : List Progress)
-    → e.turns ≡ 0 → length mids ≡ length e.setting.env.ports → length progress ≡ length e.setting.env.ports → unit ≡ unit_for (units_of (all_begun progress)) → AllStand olds news progress (all_begun progress) → AllByRecursion IsBegun progress
+    → e.turns ≡ 0 → length mids ≡ length e.setting.env.ports → length progress ≡ length e.setting.env.ports →
+    unit ≡ unit_for (units_of (all_begun progress)) → AllStand olds news progress (all_begun progress) → AllByRecursion IsBegun progress
     → Along unit e e olds news mids mids progress (all_begun progress) 0 0
 along_none unit e olds news mids progress first many inputs_many unit_is stand begins = record {
   first = first;
@@ -113,7 +116,8 @@ fail_read e olds news held progress (In port error) begins is = (is, kept, begin
     kept : (q : ℕ) (old new : Option (List ℕ)) → slice_get held q ≡ Some old → slice_get held q ≡ Some new → Keeps old new
     kept q old new here there = subst (Keeps old) (same_Some old new (sym here ∙ there)) (keeps_it old)
 
-pub fail_write : (e : EngineState) (olds news held holds : List (Option (List ℕ))) (progress : List Progress) (cause : RunCause) → length progress ≡ length e.setting.env.ports → AreRead olds news (all_begun progress) → AllByRecursion IsBegun progress
+pub fail_write : (e : EngineState) (olds news held holds : List (Option (List ℕ))) (progress : List Progress) (cause : RunCause) →
+    length progress ≡ length e.setting.env.ports → AreRead olds news (all_begun progress) → AllByRecursion IsBegun progress
     → IsWriteCause (unit_for (units_of (all_begun progress))) held holds cause → HeadersFail e e olds news held holds progress (Err cause)
 fail_write e olds news held holds progress Memory many read begins is = absurd is
 fail_write e olds news held holds progress NoRoom many read begins is = absurd is
@@ -130,18 +134,22 @@ pub record Stays (e e' : EngineState) : Type 0 where
 stays_run : (e e' : EngineState) (arrivals : List (Arrival Time)) (captures : List (List (Time × List ℕ))) → HasRun e e' arrivals captures → Stays e e'
 stays_run e e' arrivals captures run = record { setting = ap (λ (x : EngineState). x.setting) run.stays; each = run.each }
 
-pub stays_failed : (unit : TimeUnit) (e e' : EngineState) (olds news held holds : List (Option (List ℕ))) (inputs : List Input) (port : ℕ) → FailedAt unit e e' olds news held holds inputs port → Stays e e'
+pub stays_failed : (unit : TimeUnit) (e e' : EngineState) (olds news held holds : List (Option (List ℕ))) (inputs : List Input) (port : ℕ) →
+    FailedAt unit e e' olds news held holds inputs port → Stays e e'
 stays_failed unit e e' olds news held holds inputs port f =
     let ran = stays_run e f.engine f.before f.captures f.run in
     let turn = f.turn.is in
     let first = f.stopped.first in
     let last = f.stopped.is in
     record {
-      setting = ap (λ (x : EngineState). x.setting) last ∙ ap (λ (x : EngineState). x.setting) first.is ∙ ap (λ (x : EngineState). x.setting) turn ∙ ran.setting;
-      each = ap (λ (x : EngineState). length x.tallies) last ∙ length_set f.stopped.engine.tallies port _ ∙ first.each ∙ ap (λ (x : EngineState). length x.tallies) turn ∙ length_set f.engine.tallies f.last.port _ ∙ ran.each;
+      setting = ap (λ (x : EngineState). x.setting) last ∙ ap (λ (x : EngineState). x.setting) first.is ∙ ap (λ (x : EngineState). x.setting) turn
+          ∙ ran.setting;
+      each = ap (λ (x : EngineState). length x.tallies) last ∙ length_set f.stopped.engine.tallies port _ ∙ first.each
+          ∙ ap (λ (x : EngineState). length x.tallies) turn ∙ length_set f.engine.tallies f.last.port _ ∙ ran.each;
     }
 
-pub stays_rounds : (unit : TimeUnit) (e e' : EngineState) (olds news held holds : List (Option (List ℕ))) (progress : List Progress) (answer : Result ⊤ RunCause) → AreRounds unit e e' olds news held holds progress answer → Stays e e'
+pub stays_rounds : (unit : TimeUnit) (e e' : EngineState) (olds news held holds : List (Option (List ℕ))) (progress : List Progress)
+    (answer : Result ⊤ RunCause) → AreRounds unit e e' olds news held holds progress answer → Stays e e'
 stays_rounds unit e e' olds news held holds progress (Ok done) (inputs, states, went, over) = stays_run e e' _ _ went.run
 stays_rounds unit e e' olds news held holds progress (Err (In port error)) (inputs, states, went, fault) = stays_run e e' _ _ went.run
 stays_rounds unit e e' olds news held holds progress (Err (Out port)) (inputs, states, failed) = stays_failed unit e e' olds news held holds inputs port failed

@@ -53,9 +53,12 @@ text_of Memory = codes "memory"
 text_of NotToml = codes "1 NotToml"
 text_of (BadKey kind place) = codes "2 BadKey " ++ (part_text kind ++ (codes " " ++ decimal place))
 text_of (BadEnv error) = codes "3 BadEnv " ++ (decimal (number_of_cause error) ++ (codes " " ++ decimal (place_of_cause error)))
-text_of (BadTable table route cause) = codes "4 BadTable " ++ (decimal table ++ (codes " " ++ (decimal route ++ (codes " " ++ decimal (number_of_route cause)))))
+text_of (BadTable table route cause) = codes "4 BadTable " ++ (decimal table
+    ++ (codes " " ++ (decimal route ++ (codes " " ++ decimal (number_of_route cause)))))
 text_of (File node) = codes "5 File " ++ node_text node
-text_of (Asm node fault) = codes "6 Asm " ++ (node_text node ++ (codes " line " ++ (decimal fault.line ++ (codes " cause " ++ decimal (lang.number_of fault.cause)))))
-text_of (BadCert node fault) = codes "7 BadCert " ++ (node_text node ++ (codes " line " ++ (decimal fault.line ++ (codes " cause " ++ decimal (cert.number_of fault.cause)))))
+text_of (Asm node fault) = codes "6 Asm " ++ (node_text node ++ (codes " line "
+    ++ (decimal fault.line ++ (codes " cause " ++ decimal (lang.number_of fault.cause)))))
+text_of (BadCert node fault) = codes "7 BadCert " ++ (node_text node ++ (codes " line "
+    ++ (decimal fault.line ++ (codes " cause " ++ decimal (cert.number_of fault.cause)))))
 text_of (NotInferred node label rule) = node_text node ++ (codes " not inferred at " ++ (decimal label ++ (codes " by J" ++ decimal rule)))
 text_of (Refused node label rule) = node_text node ++ (codes " refused at " ++ (decimal label ++ (codes " by J" ++ decimal rule)))

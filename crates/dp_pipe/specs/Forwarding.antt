@@ -1,5 +1,6 @@
 -- Runs from captures to captures: what inputs give, what ports write, and where a run stops.
-use Rattle.std.specs.Prelude.{◌≡◌, ◌≢◌, ℕ, zero, suc, ◌+◌, ◌<◌, ◌≤◌, ◌==◌, Bool, true, false, nat_lt, if◌then◌else◌, List, [], ◌∷◌, ◌++◌, length, map, flat_map, take, Option, None, Some, slice_get, Result, Ok, Err, IsTrue, ⊤}
+use Rattle.std.specs.Prelude.{◌≡◌, ◌≢◌, ℕ, zero, suc, ◌+◌, ◌<◌, ◌≤◌, ◌==◌, Bool, true, false, nat_lt, if◌then◌else◌, List, [], ◌∷◌, ◌++◌, length, map}
+use Rattle.std.specs.Prelude.{flat_map, take, Option, None, Some, slice_get, Result, Ok, Err, IsTrue, ⊤}
 use Rattle.std.specs.List.{list_any, AllByRecursion}
 use Rattle.std.specs.Option.{option_map_or}
 use Rattle.std.specs.Io.KnownBytes.{Appends}
@@ -114,7 +115,8 @@ pub record HasRun (e e' : EngineState) (arrivals : List (Arrival Time)) (capture
   pub turns : e'.turns ≡ e.turns + length arrivals
   pub each : length e'.tallies ≡ length e.tallies
   pub tallies : (port : ℕ) (sent : List (Time × List ℕ)) → slice_get captures port ≡ Some sent
-      → tallies_at e'.tallies port ≡ record (tally_of port arrivals outcomes (tallies_at e.tallies port)) { sent = (tallies_at e.tallies port).sent + length sent }
+      → tallies_at e'.tallies port ≡ record (tally_of port arrivals outcomes (tallies_at e.tallies port))
+      { sent = (tallies_at e.tallies port).sent + length sent }
   pub stays : e' ≡ record e { world = e'.world; turns = e'.turns; tallies = e'.tallies }
 
 -- the capture of a port in a run, as it is written
@@ -130,13 +132,15 @@ records_text unit records = flat_map (record_text unit) records
 -- each writer was given the records that stand at its port, as far as its bytes are known
 abbrev pub AreWritten : TimeUnit → List (Option (List ℕ)) → List (Option (List ℕ)) → (ℕ → List PacketRecord) → Type 0
 AreWritten unit olds news records =
-    (port : ℕ) (old new : Option (List ℕ)) → slice_get olds port ≡ Some old → slice_get news port ≡ Some new → Appends old new (records_text unit (records port))
+    (port : ℕ) (old new : Option (List ℕ)) → slice_get olds port ≡ Some old → slice_get news port ≡ Some new →
+    Appends old new (records_text unit (records port))
 
 -- ---- how a run goes
 
 -- The run has read these inputs, one for each port, and ran on their records: each turn and each drain, and all was written, in
 -- nanoseconds if any input has them.
-pub record Went (unit : TimeUnit) (e e' : EngineState) (olds news : List (Option (List ℕ))) (held holds : List (Option (List ℕ))) (inputs : List Input) : Type 0 where
+pub record Went (unit : TimeUnit) (e e' : EngineState) (olds news : List (Option (List ℕ))) (held holds : List (Option (List ℕ))) (inputs : List Input) : Type
+    0 where
   pub inputs_many : length inputs ≡ length e.setting.env.ports
   pub unit_is : unit ≡ unit_for (units_of inputs)
   pub read : AreRead olds news inputs
@@ -199,7 +203,10 @@ pub record DrainedFirst (n : ℕ) (unit : TimeUnit) (time : Time) (e e' : Engine
   pub is : e' ≡ record e { world = record e.world { outboxes = emptied n e.world.outboxes }; tallies = e'.tallies }
   pub each : length e'.tallies ≡ length e.tallies
   pub tallies : (q : ℕ) → q < length e.setting.env.ports
-      → tallies_at e'.tallies q ≡ record (tallies_at e.tallies q) { sent = (tallies_at e.tallies q).sent + (if nat_lt q n then length (drained_at time e.world q) else 0) }
+      → tallies_at e'.tallies q ≡ record (tallies_at e.tallies q) {
+        sent = (tallies_at e.tallies q).sent
+            + (if nat_lt q n then length (drained_at time e.world q) else 0);
+      }
 
 -- the drains of all ports
 abbrev pub DrainedAll : TimeUnit → Time → EngineState → EngineState → List (Option (List ℕ)) → List (Option (List ℕ)) → Type 0
@@ -213,7 +220,8 @@ pub record DrainsStopped (unit : TimeUnit) (time : Time) (e e' : EngineState) (h
   pub first : DrainedFirst port unit time e engine held mids
   pub others : (q : ℕ) → q ≢ port → slice_get holds q ≡ slice_get mids q
   pub whole : ℕ
-  pub own : (old new : Option (List ℕ)) → slice_get held port ≡ Some old → slice_get holds port ≡ Some new → WrotePart old new unit (drained_at time e.world port) whole
+  pub own : (old new : Option (List ℕ)) → slice_get held port ≡ Some old → slice_get holds port ≡ Some new →
+      WrotePart old new unit (drained_at time e.world port) whole
   pub is : e' ≡ drained port whole engine
 
 -- ---- how inputs stand while a run goes on
@@ -248,7 +256,8 @@ records_many [] = 0
 records_many (i ∷ inputs) = length i.records + records_many inputs
 
 -- a run from an engine before its first turn to another one, in a round in which a port comes next
-pub record Along (unit : TimeUnit) (e e' : EngineState) (olds news held holds : List (Option (List ℕ))) (progress : List Progress) (inputs : List Input) (round port : ℕ) : Type 0 where
+pub record Along (unit : TimeUnit) (e e' : EngineState) (olds news held holds : List (Option (List ℕ))) (progress : List Progress) (inputs : List Input)
+    (round port : ℕ) : Type 0 where
   pub first : e.turns ≡ 0
   pub held_many : length held ≡ length e.setting.env.ports
   pub inputs_many : length inputs ≡ length e.setting.env.ports
@@ -264,15 +273,18 @@ pub record Along (unit : TimeUnit) (e e' : EngineState) (olds news held holds : 
 -- ---- one step of a run
 
 -- what follows an answer of an input: behind a record all ports are drained
-abbrev pub Follows : ℕ → TimeUnit → EngineState → EngineState → InputState → List (Option (List ℕ)) → List (Option (List ℕ)) → Result Next PcapError → Result ⊤ RunCause → Type 0
+abbrev pub Follows : ℕ → TimeUnit → EngineState → EngineState → InputState → List (Option (List ℕ)) → List (Option (List ℕ)) → Result Next PcapError →
+    Result ⊤ RunCause → Type 0
 Follows port unit e e' state held holds (Ok (Record time len)) (Ok done) = (state ≡ Open) × DrainedAll unit time e e' held holds
-Follows port unit e e' state held holds (Ok (Record time len)) (Err cause) = (state ≡ Open) × (q : ℕ) × (cause ≡ Out q) × DrainsStopped unit time e e' held holds q
+Follows port unit e e' state held holds (Ok (Record time len)) (Err cause) =
+    (state ≡ Open) × (q : ℕ) × (cause ≡ Out q) × DrainsStopped unit time e e' held holds q
 Follows port unit e e' state held holds (Ok End) answer = (state ≡ Whole) × (answer ≡ Ok tt) × (e' ≡ e) × (holds ≡ held)
 Follows port unit e e' state held holds (Ok (next.Cut byte)) answer = (state ≡ Cut byte) × (answer ≡ Ok tt) × (e' ≡ e) × (holds ≡ held)
 Follows port unit e e' state held holds (Err error) answer = (state ≡ Open) × (answer ≡ Err (In port error)) × (e' ≡ e) × (holds ≡ held)
 
 -- an input that is open is asked for what comes next
-pub record Advances (port : ℕ) (unit : TimeUnit) (e e' : EngineState) (p p' : Progress) (old new : Option (List ℕ)) (held holds : List (Option (List ℕ))) (answer : Result ⊤ RunCause) : Type 0 where
+pub record Advances (port : ℕ) (unit : TimeUnit) (e e' : EngineState) (p p' : Progress) (old new : Option (List ℕ)) (held holds : List (Option (List ℕ)))
+    (answer : Result ⊤ RunCause) : Type 0 where
   pub next : Result Next PcapError
   -- behind the turn
   pub engine : EngineState
@@ -284,7 +296,8 @@ pub record Advances (port : ℕ) (unit : TimeUnit) (e e' : EngineState) (p p' : 
 -- A writer failed in the drains behind a turn. There was a run on all records but the last, all of which was written; then a
 -- turn with the last; and then the drains behind it, in port order, of which that of a port stopped. Until then the inputs were
 -- asked in turn.
-pub record FailedAt (unit : TimeUnit) (e e' : EngineState) (olds news : List (Option (List ℕ))) (held holds : List (Option (List ℕ))) (inputs : List Input) (port : ℕ) : Type 0 where
+pub record FailedAt (unit : TimeUnit) (e e' : EngineState) (olds news : List (Option (List ℕ))) (held holds : List (Option (List ℕ))) (inputs : List Input)
+    (port : ℕ) : Type 0 where
   pub inputs_many : length inputs ≡ length e.setting.env.ports
   pub unit_is : unit ≡ unit_for (units_of inputs)
   pub read : AreRead olds news inputs
@@ -305,7 +318,8 @@ pub record FailedAt (unit : TimeUnit) (e e' : EngineState) (olds news : List (Op
   pub stopped : DrainsStopped unit last.time behind e' mids holds port
 
 -- a run stops in a round
-abbrev pub Stops : TimeUnit → EngineState → EngineState → List (Option (List ℕ)) → List (Option (List ℕ)) → List (Option (List ℕ)) → List (Option (List ℕ)) → List Progress → RunCause → Type 0
+abbrev pub Stops : TimeUnit → EngineState → EngineState → List (Option (List ℕ)) → List (Option (List ℕ)) → List (Option (List ℕ)) → List (Option (List ℕ)) →
+    List Progress → RunCause → Type 0
 Stops unit e e' olds news held holds progress (In port error) =
     (inputs : List Input) × (map (λ (i : Input). i.state) inputs ≡ map (λ (p : Progress). p.state) progress)
     × Went unit e e' olds news held holds inputs × HasFault olds news inputs port error
@@ -315,12 +329,14 @@ Stops unit e e' olds news held holds progress (Out port) =
 Stops unit e e' olds news held holds progress cause = ⊥
 
 -- a round, from a run in which its first port comes next
-abbrev pub IsRound : TimeUnit → EngineState → EngineState → EngineState → List (Option (List ℕ)) → List (Option (List ℕ)) → List (Option (List ℕ)) → List (Option (List ℕ)) → List Progress → ℕ → Result ⊤ RunCause → Type 0
+abbrev pub IsRound : TimeUnit → EngineState → EngineState → EngineState → List (Option (List ℕ)) → List (Option (List ℕ)) → List (Option (List ℕ)) →
+    List (Option (List ℕ)) → List Progress → ℕ → Result ⊤ RunCause → Type 0
 IsRound unit e0 e e' olds news held holds progress round (Ok done) = (inputs : List Input) × Along unit e0 e' olds news held holds progress inputs (round + 1) 0
 IsRound unit e0 e e' olds news held holds progress round (Err cause) = Stops unit e0 e' olds news held holds progress cause
 
 -- all rounds: at the end every input has ended
-abbrev pub AreRounds : TimeUnit → EngineState → EngineState → List (Option (List ℕ)) → List (Option (List ℕ)) → List (Option (List ℕ)) → List (Option (List ℕ)) → List Progress → Result ⊤ RunCause → Type 0
+abbrev pub AreRounds : TimeUnit → EngineState → EngineState → List (Option (List ℕ)) → List (Option (List ℕ)) → List (Option (List ℕ)) →
+    List (Option (List ℕ)) → List Progress → Result ⊤ RunCause → Type 0
 AreRounds unit e e' olds news held holds progress (Ok done) =
     (inputs : List Input) × (map (λ (i : Input). i.state) inputs ≡ map (λ (p : Progress). p.state) progress)
     × Went unit e e' olds news held holds inputs × AllByRecursion (λ (i : Input). is_over i.state ≡ true) inputs

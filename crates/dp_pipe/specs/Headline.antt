@@ -40,14 +40,16 @@ pub record PacketRun (p : Plan) (pattern : List ℕ) (arrivals : List (Arrival T
   pub captures : List (List (Time × List ℕ))
   pub last : World
   pub run : Run (setting_in p pattern) (programs_in p) arrivals first told outcomes captures last
-  pub never_stuck : (b : Beginning) → IsOfRun (setting_in p pattern) (programs_in p) arrivals first b → NeverStuck (setting_in p pattern) b.program b.packet b.number b.world
+  pub never_stuck : (b : Beginning) → IsOfRun (setting_in p pattern) (programs_in p) arrivals first b →
+      NeverStuck (setting_in p pattern) b.program b.packet b.number b.world
   pub copies : Captures p.env (routes_of p.tables) (programs_in p) arrivals told captures last.cuts
 
 -- ---- what was written
 
 -- each writer was given these bytes, as far as its bytes are known
 abbrev pub AreGiven : List (Option (List ℕ)) → List (Option (List ℕ)) → (ℕ → List ℕ) → Type 0
-AreGiven held holds bytes = (port : ℕ) (old new : Option (List ℕ)) → slice_get held port ≡ Some old → slice_get holds port ≡ Some new → Appends old new (bytes port)
+AreGiven held holds bytes = (port : ℕ) (old new : Option (List ℕ)) → slice_get held port ≡ Some old → slice_get holds port ≡ Some new →
+    Appends old new (bytes port)
 
 -- the whole capture of a port: the header, and what it sent
 abbrev pub capture_text : TimeUnit → List (List (Time × List ℕ)) → ℕ → List ℕ
@@ -73,7 +75,8 @@ port_numbers outcomes sent state = record {
 }
 
 -- the numbers of a run on what was read of these inputs, of which each port has written so many records whole
-pub record HasNumbers (p : Plan) (pattern : List ℕ) (arrivals : List (Arrival Time)) (run : PacketRun p pattern arrivals) (inputs : List Input) (sent : ℕ → ℕ) (r : Report) : Type 0 where
+pub record HasNumbers (p : Plan) (pattern : List ℕ) (arrivals : List (Arrival Time)) (run : PacketRun p pattern arrivals) (inputs : List Input) (sent : ℕ →
+    ℕ) (r : Report) : Type 0 where
   pub many : length r.ports.items ≡ length p.env.ports
   pub ports : (port : ℕ) (i : Input) → slice_get inputs port ≡ Some i
       → slice_get r.ports.items port ≡ Some (port_numbers (outcomes_at port arrivals run.outcomes) (sent port) i.state)
@@ -111,7 +114,8 @@ pub record HeaderRefused (p : Plan) (olds news held holds : List (Option (List �
 
 -- The input of this port is the first with a fault, behind a record: there was a run on the records before, and each writer was
 -- given the whole capture of its port in that run.
-pub record StoppedReading (p : Plan) (pattern : List ℕ) (olds news held holds : List (Option (List ℕ))) (port : ℕ) (error : PcapError) (r : Report) : Type 0 where
+pub record StoppedReading (p : Plan) (pattern : List ℕ) (olds news held holds : List (Option (List ℕ))) (port : ℕ) (error : PcapError)
+    (r : Report) : Type 0 where
   pub room : bytes_needed p.env ≤ p.region
   pub inputs : List Input
   pub many : length inputs ≡ length p.env.ports
@@ -142,7 +146,8 @@ pub record WroteFront (old new : Option (List ℕ)) (unit : TimeUnit) (records :
   pub wrote : Appends old new (text unit (take sent records) ++ take bytes (record_text unit next))
 
 -- a run that goes on by one more record: its turn, and then the drains of all ports
-pub record GoesOnBy (p : Plan) (pattern : List ℕ) (before : List (Arrival Time)) (last : Arrival Time) (earlier : PacketRun p pattern before) (run : PacketRun p pattern (before ++ last ∷ [])) : Type 0 where
+pub record GoesOnBy (p : Plan) (pattern : List ℕ) (before : List (Arrival Time)) (last : Arrival Time) (earlier : PacketRun p pattern before)
+    (run : PacketRun p pattern (before ++ last ∷ [])) : Type 0 where
   pub first : run.first ≡ earlier.first
   pub mid : World
   pub outcome : Outcome
@@ -192,7 +197,8 @@ pub record StoppedWriting (p : Plan) (pattern : List ℕ) (olds news held holds 
 
 -- Why a run stopped, and what it did until then. Without memory, and exactly where the region is smaller than the engine needs,
 -- there was none.
-abbrev pub StoppedBy : Plan → List ℕ → List (Option (List ℕ)) → List (Option (List ℕ)) → List (Option (List ℕ)) → List (Option (List ℕ)) → RunCause → Report → Type 0
+abbrev pub StoppedBy : Plan → List ℕ → List (Option (List ℕ)) → List (Option (List ℕ)) → List (Option (List ℕ)) → List (Option (List ℕ)) → RunCause → Report →
+    Type 0
 StoppedBy p pattern olds news held holds Memory r = IsIdle p.env r
 StoppedBy p pattern olds news held holds NoRoom r = (p.region < bytes_needed p.env) × IsIdle p.env r
 StoppedBy p pattern olds news held holds (In port error) r =

@@ -1,5 +1,6 @@
 -- How a route is written, and the table that takes routes in.
-use Rattle.std.specs.Prelude.{◌≡◌, ℕ, ◌+◌, ◌-◌, ◌*◌, ◌&&◌, ◌==◌, nat_le, List, [], ◌∷◌, length, take, slice_get, Option, Some, None, option_and_then, option_map, if◌then◌else◌}
+use Rattle.std.specs.Prelude.{◌≡◌, ℕ, ◌+◌, ◌-◌, ◌*◌, ◌&&◌, ◌==◌, nat_le, List, [], ◌∷◌, length, take, slice_get, Option, Some, None, option_and_then}
+use Rattle.std.specs.Prelude.{option_map, if◌then◌else◌}
 use Rattle.std.specs.Char.{is_ascii_digit}
 use Rattle.std.specs.List.{list_all, before_first, after_first}
 use Rattle.toml.specs.Data.{Data, as_str}

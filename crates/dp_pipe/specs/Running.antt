@@ -1,5 +1,6 @@
 -- What the run of a pipeline answers: what it read, the run of packets that it made, what it wrote, and what it reports.
-use Rattle.std.specs.Prelude.{◌≡◌, ℕ, ◌+◌, ◌<◌, ◌≤◌, ◌⊎◌, ◌==◌, nat_lt, if◌then◌else◌, Bool, List, [], ◌∷◌, ◌++◌, length, map, take, replicate, Option, None, Some, slice_get, slice_index_or, Result, Ok, Err, IsTrue, true, ⊤}
+use Rattle.std.specs.Prelude.{◌≡◌, ℕ, ◌+◌, ◌<◌, ◌≤◌, ◌⊎◌, ◌==◌, nat_lt, if◌then◌else◌, Bool, List, [], ◌∷◌, ◌++◌, length, map, take, replicate, Option, None}
+use Rattle.std.specs.Prelude.{Some, slice_get, slice_index_or, Result, Ok, Err, IsTrue, true, ⊤}
 use Rattle.std.specs.List.{list_all, AllByRecursion}
 use Rattle.std.specs.Option.{option_map_or}
 use Rattle.std.specs.Io.KnownBytes.{Appends, Keeps}
@@ -89,7 +90,8 @@ AreKept olds news = (q : ℕ) (old new : Option (List ℕ)) → slice_get olds q
 
 -- each writer was given a header
 abbrev pub HeadersWritten : TimeUnit → List (Option (List ℕ)) → List (Option (List ℕ)) → Type 0
-HeadersWritten unit held holds = (q : ℕ) (old new : Option (List ℕ)) → slice_get held q ≡ Some old → slice_get holds q ≡ Some new → Appends old new (header_text unit)
+HeadersWritten unit held holds = (q : ℕ) (old new : Option (List ℕ)) → slice_get held q ≡ Some old → slice_get holds q ≡ Some new →
+    Appends old new (header_text unit)
 
 -- the header of this port's output is the first that was not written whole: those before it were, and nothing behind it
 pub record HeadersStopped (unit : TimeUnit) (held holds : List (Option (List ℕ))) (port : ℕ) : Type 0 where
@@ -114,15 +116,18 @@ IsWriteCause unit held holds cause = ⊥
 -- ---- an engine that is open
 
 -- A header was at fault, or not written whole, and no record was read.
-abbrev pub HeadersFail : EngineState → EngineState → List (Option (List ℕ)) → List (Option (List ℕ)) → List (Option (List ℕ)) → List (Option (List ℕ)) → List Progress → Result ⊤ RunCause → Type 0
+abbrev pub HeadersFail : EngineState → EngineState → List (Option (List ℕ)) → List (Option (List ℕ)) → List (Option (List ℕ)) → List (Option (List ℕ)) →
+    List Progress → Result ⊤ RunCause → Type 0
 HeadersFail e e' olds news held holds progress (Err (In port error)) =
     HasHeaderFault olds news port error × AreKept held holds × AllByRecursion IsBegun progress × (e' ≡ e)
 HeadersFail e e' olds news held holds progress (Err (Out port)) =
-    (length progress ≡ length e.setting.env.ports) × AreRead olds news (all_begun progress) × HeadersStopped (unit_for (units_of (all_begun progress))) held holds port × AllByRecursion IsBegun progress × (e' ≡ e)
+    (length progress ≡ length e.setting.env.ports) × AreRead olds news (all_begun progress)
+    × HeadersStopped (unit_for (units_of (all_begun progress))) held holds port × AllByRecursion IsBegun progress × (e' ≡ e)
 HeadersFail e e' olds news held holds progress answer = ⊥
 
 -- All headers were written, of the one unit of time in which records are, and then all rounds were made.
-pub record RoundsMade (e e' : EngineState) (olds news held holds : List (Option (List ℕ))) (progress : List Progress) (answer : Result ⊤ RunCause) : Type 0 where
+pub record RoundsMade (e e' : EngineState) (olds news held holds : List (Option (List ℕ))) (progress : List Progress) (answer : Result ⊤ RunCause) : Type
+    0 where
   pub unit : TimeUnit
   pub mids : List (Option (List ℕ))
   pub mids_many : length mids ≡ length held
@@ -130,7 +135,8 @@ pub record RoundsMade (e e' : EngineState) (olds news held holds : List (Option 
   pub rounds : AreRounds unit e e' olds news mids holds progress answer
 
 -- headers in, headers out, and all rounds: what is known behind an answer
-abbrev pub GoesForward : EngineState → EngineState → List (Option (List ℕ)) → List (Option (List ℕ)) → List (Option (List ℕ)) → List (Option (List ℕ)) → List Progress → Result ⊤ RunCause → Type 0
+abbrev pub GoesForward : EngineState → EngineState → List (Option (List ℕ)) → List (Option (List ℕ)) → List (Option (List ℕ)) → List (Option (List ℕ)) →
+    List Progress → Result ⊤ RunCause → Type 0
 GoesForward e e' olds news held holds progress answer =
     HeadersFail e e' olds news held holds progress answer ⊎ RoundsMade e e' olds news held holds progress answer
 
@@ -182,5 +188,6 @@ Unopened p (Err fault) = IsUnopened p fault.cause × IsIdle p.env fault.report
 
 -- What a run answers: the bytes that each reader had and has left, and those that each writer held and holds, as far as they are
 -- known.
-abbrev pub RunAnswers : Plan → List ℕ → List (Option (List ℕ)) → List (Option (List ℕ)) → List (Option (List ℕ)) → List (Option (List ℕ)) → Result Report RunFault → Type 0
+abbrev pub RunAnswers : Plan → List ℕ → List (Option (List ℕ)) → List (Option (List ℕ)) → List (Option (List ℕ)) → List (Option (List ℕ)) →
+    Result Report RunFault → Type 0
 RunAnswers p pattern olds news held holds answer = RanOn p pattern olds news held holds answer ⊎ Unopened p answer

@@ -1,5 +1,6 @@
 -- What the table of a pipeline file says.
-use Rattle.std.specs.Prelude.{ℕ, ◌+◌, ◌%◌, Bool, true, ◌&&◌, ◌==◌, nat_le, List, [], ◌∷◌, Option, Some, None, option_and_then, option_map, ok_or, Result, Ok, Err, if◌then◌else◌, codes}
+use Rattle.std.specs.Prelude.{ℕ, ◌+◌, ◌%◌, Bool, true, ◌&&◌, ◌==◌, nat_le, List, [], ◌∷◌, Option, Some, None, option_and_then, option_map, ok_or, Result, Ok}
+use Rattle.std.specs.Prelude.{Err, if◌then◌else◌, codes}
 use Rattle.toml.specs.Data.{Data, Members, get_member, as_table}
 use Rattle.dp_model.specs.declared.row.Fact.{Fact}
 use Rattle.dp_model.specs.declared.row.Fact.TheVariants.{Held}
@@ -93,7 +94,8 @@ node_files_in table =
 -- what each packet of a ring meets
 abbrev pub fact_in : Members → Option Fact
 fact_in table =
-    option_and_then (λ share. option_and_then (λ head. option_and_then (λ tail. option_and_then (λ first. option_and_then (λ last. option_map (λ segs. Held share head tail first last segs)
+    option_and_then (λ share. option_and_then (λ head. option_and_then
+    (λ tail. option_and_then (λ first. option_and_then (λ last. option_map (λ segs. Held share head tail first last segs)
     (number_at (codes "segs") 255 table))
     (number_at (codes "last") 65535 table))
     (number_at (codes "first") 65535 table))
@@ -140,7 +142,8 @@ port_spec_in table =
 abbrev pub port_in : Members → Option PortSays
 port_in table =
     if has_only port_keys table then
-    option_and_then (λ spec. option_and_then (λ files. option_and_then (λ input. option_map (λ output. record { spec = spec; files = files; input = input; output = output })
+    option_and_then (λ spec. option_and_then (λ files. option_and_then
+    (λ input. option_map (λ output. record { spec = spec; files = files; input = input; output = output })
     (text_at (codes "out") table))
     (text_at (codes "in") table))
     (node_files_in table))

@@ -1,5 +1,6 @@
 //! A run from captures to captures, over an engine that is open: headers, then record by record, round by round.
-ghost use Rattle.std.specs.Prelude.{◌≡◌, ℕ, ◌+◌, ◌<◌, ◌≤◌, ◌↔◌, true, false, [], List, Option, Ok, Err, length, map, take, slice_get, Some, OnOk, OnErr, IfOk, IfErr, IsOk, IsErr, IsErrOf, IsTrue};
+ghost use Rattle.std.specs.Prelude.{◌≡◌, ℕ, ◌+◌, ◌<◌, ◌≤◌, ◌↔◌, true, false, [], List, Option, Ok, Err, length, map, take, slice_get, Some, OnOk, OnErr};
+ghost use Rattle.std.specs.Prelude.{IfOk, IfErr, IsOk, IsErr, IsErrOf, IsTrue};
 ghost use Rattle.dp_pcap.specs.Source.{body_in, IsInRange, Moves, failed_pulls};
 ghost use Rattle.dp_pipe.specs.Devices.{AllSound, AllFared, FaredAlone, failed_reader, failed_writer, failed_drain};
 ghost use Rattle.dp_pipe.specs.Forwarding.{Input, ReadsTurn, DrainedAll, DrainsStopped, DrainedFirst, Advances, Along, IsRound, AreRounds, NoneIsOpen};
@@ -125,7 +126,8 @@ fn advance<R: Feed, W: Sink>(
     requires open { input.old.source.is_open ≡ true }
     requires state { input.old.state ≡ InputState.Open }
     requires limit { engine.old.turns + 16777216 ≤ 134217728 + input.old.source.given }
-    ensures step { Advances port unit engine.old engine.new input.old input.new (R.remaining r.old) (R.remaining r.new) (map W.contents outs.old) (map W.contents outs.new) result }
+    ensures step { Advances port unit engine.old engine.new input.old input.new (R.remaining r.old) (R.remaining r.new) (map W.contents outs.old)
+        (map W.contents outs.new) result }
     ensures many { length outs.new ≡ length outs.old }
     ensures buf { length buf.new ≡ length buf.old }
     ensures reader { IsTrue (R.is_broken r.new) → result ≡ Err (RunCause.In port PcapError.Read) }
@@ -173,8 +175,10 @@ fn ask<R: Feed, W: Sink>(
     requires buf { 262144 ≤ length buf.old }
     requires open { input.old.state ≡ InputState.Open → input.old.source.is_open ≡ true }
     requires limit { input.old.state ≡ InputState.Open → engine.old.turns + 16777216 ≤ 134217728 + input.old.source.given }
-    ensures step { input.old.state ≡ InputState.Open → Advances port unit engine.old engine.new input.old input.new (R.remaining r.old) (R.remaining r.new) (map W.contents outs.old) (map W.contents outs.new) result }
-    ensures over { (input.old.state ≡ InputState.Open → ⊥) → (result ≡ Ok tt) × (engine.new ≡ engine.old) × (input.new ≡ input.old) × (r.new ≡ r.old) × (outs.new ≡ outs.old) }
+    ensures step { input.old.state ≡ InputState.Open → Advances port unit engine.old engine.new input.old input.new (R.remaining r.old) (R.remaining r.new)
+        (map W.contents outs.old) (map W.contents outs.new) result }
+    ensures over { (input.old.state ≡ InputState.Open → ⊥) → (result ≡ Ok tt) × (engine.new ≡ engine.old) × (input.new ≡ input.old) × (r.new ≡ r.old)
+        × (outs.new ≡ outs.old) }
     ensures many { length outs.new ≡ length outs.old }
     ensures buf { length buf.new ≡ length buf.old }
     ensures fared_reader { FaredAlone R.is_broken R.failures (failed_reader result) port r.old r.new }
@@ -201,10 +205,13 @@ fn round<R: Feed, W: Sink>(
     requires few { length outs.old ≤ 8 }
     requires counted { length engine.old.tallies ≡ 8 }
     requires buf { 262144 ≤ length buf.old }
-    requires along { (e0 : EngineState) × (olds : List (Option (List ℕ))) × (held : List (Option (List ℕ))) × (read : List Input) × (k : ℕ) × Along unit e0 engine.old olds (map R.remaining ins.old) held (map W.contents outs.old) inputs.old read k 0 }
-    ensures goes { (e0 : EngineState) (olds held : List (Option (List ℕ))) (read : List Input) (k : ℕ) → Along unit e0 engine.old olds (map R.remaining ins.old) held (map W.contents outs.old) inputs.old read k 0
+    requires along { (e0 : EngineState) × (olds : List (Option (List ℕ))) × (held : List (Option (List ℕ))) × (read : List Input) × (k : ℕ)
+        × Along unit e0 engine.old olds (map R.remaining ins.old) held (map W.contents outs.old) inputs.old read k 0 }
+    ensures goes { (e0 : EngineState) (olds held : List (Option (List ℕ))) (read : List Input) (k : ℕ) →
+        Along unit e0 engine.old olds (map R.remaining ins.old) held (map W.contents outs.old) inputs.old read k 0
         → IsRound unit e0 engine.old engine.new olds (map R.remaining ins.new) held (map W.contents outs.new) inputs.new k result }
-    ensures many { (length inputs.new ≡ length inputs.old) × (length ins.new ≡ length ins.old) × (length outs.new ≡ length outs.old) × (length buf.new ≡ length buf.old) }
+    ensures many { (length inputs.new ≡ length inputs.old) × (length ins.new ≡ length ins.old) × (length outs.new ≡ length outs.old)
+        × (length buf.new ≡ length buf.old) }
     ensures fared_readers { AllFared R.is_broken R.failures (failed_reader result) ins.old ins.new }
     ensures fared_writers { AllSound W.is_broken outs.old → AllFared W.is_broken W.failures (failed_writer result) outs.old outs.new }
 {
@@ -242,8 +249,10 @@ pub(crate) fn rounds<R: Feed, W: Sink>(
     requires few { length outs.old ≤ 8 }
     requires counted { length engine.old.tallies ≡ 8 }
     requires buf { 262144 ≤ length buf.old }
-    requires along { (e0 : EngineState) × (olds : List (Option (List ℕ))) × (held : List (Option (List ℕ))) × (read : List Input) × Along unit e0 engine.old olds (map R.remaining ins.old) held (map W.contents outs.old) inputs.old read 0 0 }
-    ensures goes { (e0 : EngineState) (olds held : List (Option (List ℕ))) (read : List Input) → Along unit e0 engine.old olds (map R.remaining ins.old) held (map W.contents outs.old) inputs.old read 0 0
+    requires along { (e0 : EngineState) × (olds : List (Option (List ℕ))) × (held : List (Option (List ℕ))) × (read : List Input)
+        × Along unit e0 engine.old olds (map R.remaining ins.old) held (map W.contents outs.old) inputs.old read 0 0 }
+    ensures goes { (e0 : EngineState) (olds held : List (Option (List ℕ))) (read : List Input) →
+        Along unit e0 engine.old olds (map R.remaining ins.old) held (map W.contents outs.old) inputs.old read 0 0
         → AreRounds unit e0 engine.new olds (map R.remaining ins.new) held (map W.contents outs.new) inputs.new result }
     ensures many { length inputs.new ≡ length inputs.old }
     ensures fared_readers { AllFared R.is_broken R.failures (failed_reader result) ins.old ins.new }

@@ -5,7 +5,8 @@ ghost use Rattle.std.specs.Option.{option_map};
 ghost use Rattle.dp_pipe.specs.Files.{IsFile};
 ghost use Rattle.dp_pipe.specs.declared.nodes.How.{How};
 ghost use Rattle.dp_pipe.specs.Views.{node_names};
-ghost use Rattle.dp_pipe.specs.Nodes.{cert_read, node_of, nodes_of, IsProgramOf, IsCertOf, HasCert, IsLoaded, IsMissing, HasNoProgram, IsBadCert, IsRefusedBy, IsWithoutCert, HasNoCert, Fails, AreLoaded, FailsAtFirst};
+ghost use Rattle.dp_pipe.specs.Nodes.{cert_read, node_of, nodes_of, IsProgramOf, IsCertOf, HasCert, IsLoaded, IsMissing, HasNoProgram, IsBadCert};
+ghost use Rattle.dp_pipe.specs.Nodes.{IsRefusedBy, IsWithoutCert, HasNoCert, Fails, AreLoaded, FailsAtFirst};
 ghost use Rattle.dp_cert.specs.Spelling.{certificate_of};
 ghost use Rattle.dp_check.specs.Faults.{question, IsWith, IsChecked};
 ghost use Rattle.dp_infer.specs.Inference.{SaysMost};
@@ -199,7 +200,8 @@ fn node_at<'a>(
     requires few_ports { length ports.now ≤ 8 }
     requires few_rings { length rings.now ≤ 8 }
     requires place { place < length ports.now + length rings.now }
-    ensures { (how : How) → slice_get (nodes_of how (map (λ port. node_names port.files) ports.now) (map node_names rings.now)) place ≡ Some (node_of how result.0 (node_names result.1.now)) }
+    ensures { (how : How) → slice_get (nodes_of how (map (λ port. node_names port.files) ports.now) (map node_names rings.now)) place
+        ≡ Some (node_of how result.0 (node_names result.1.now)) }
 {
     if place < ports.len() {
         (Entry::Port(place as u8), &ports[place].files)
@@ -224,8 +226,10 @@ pub(crate) fn load_nodes<F: Files>(
 ) -> Result<Vec<Checked>, PipeError>
     requires few_ports { length ports.now ≤ 8 }
     requires few_rings { length rings.now ≤ 8 }
-    ensures loaded { IfOk result (λ nodes. AreLoaded (F.known files.old) env.now (nodes_of how (map (λ port. node_names port.files) ports.now) (map node_names rings.now)) nodes.items) }
-    ensures fails { IfErr result (λ e. (e ≡ PipeError.Memory) ⊎ FailsAtFirst (F.known files.old) env.now (nodes_of how (map (λ port. node_names port.files) ports.now) (map node_names rings.now)) e) }
+    ensures loaded { IfOk result (λ nodes. AreLoaded (F.known files.old) env.now
+        (nodes_of how (map (λ port. node_names port.files) ports.now) (map node_names rings.now)) nodes.items) }
+    ensures fails { IfErr result (λ e. (e ≡ PipeError.Memory) ⊎ FailsAtFirst (F.known files.old) env.now
+        (nodes_of how (map (λ port. node_names port.files) ports.now) (map node_names rings.now)) e) }
     ensures stays { F.known files.new ≡ F.known files.old }
 {
     let mut nodes = Vec::new(alloc);

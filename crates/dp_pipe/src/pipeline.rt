@@ -28,9 +28,23 @@ impl Model for Pipeline {
 
     ghost Value = { Plan };
 
-    ghost view = { λ a. record { env = a.env; region = a.region; tables = a.tables.items; nodes = a.nodes.items; inputs = map input_of a.ports.items; outputs = map output_of a.ports.items } };
+    ghost view = { λ a. record {
+      env = a.env;
+      region = a.region;
+      tables = a.tables.items;
+      nodes = a.nodes.items;
+      inputs = map input_of a.ports.items;
+      outputs = map output_of a.ports.items;
+    } };
 
-    ghost invariant = { λ a. IsPlan (record { env = a.env; region = a.region; tables = a.tables.items; nodes = a.nodes.items; inputs = map input_of a.ports.items; outputs = map output_of a.ports.items }) };
+    ghost invariant = { λ a. IsPlan (record {
+      env = a.env;
+      region = a.region;
+      tables = a.tables.items;
+      nodes = a.nodes.items;
+      inputs = map input_of a.ports.items;
+      outputs = map output_of a.ports.items;
+    }) };
 }
 
 impl Pipeline {
@@ -47,7 +61,14 @@ impl Pipeline {
         requires nodes { HasNodes env nodes.items }
         requires tables { length tables.items ≡ env.tables }
         requires ports { length ports.items ≡ length env.ports }
-        ensures { result ≡ record { env = env; region = region; tables = tables.items; nodes = nodes.items; inputs = map input_of ports.items; outputs = map output_of ports.items } }
+        ensures { result ≡ record {
+          env = env;
+          region = region;
+          tables = tables.items;
+          nodes = nodes.items;
+          inputs = map input_of ports.items;
+          outputs = map output_of ports.items;
+        } }
     {
         Pipeline {
             env,

@@ -1,6 +1,7 @@
 //! The run of a pipeline, from captures to captures.
 
-ghost use Rattle.std.specs.Prelude.{◌≡◌, ℕ, ◌+◌, ◌<◌, ◌≤◌, ◌++◌, ◌∷◌, ◌⊎◌, ◌↔◌, [], Err, false, length, map, replicate, slice_get, Some, OnOk, OnErr, IfOk, IfErr, IsOk, IsTrue, vec_len};
+ghost use Rattle.std.specs.Prelude.{◌≡◌, ℕ, ◌+◌, ◌<◌, ◌≤◌, ◌++◌, ◌∷◌, ◌⊎◌, ◌↔◌, [], Err, false, length, map, replicate, slice_get, Some, OnOk, OnErr, IfOk};
+ghost use Rattle.std.specs.Prelude.{IfErr, IsOk, IsTrue, vec_len};
 ghost use Rattle.std.specs.List.{AllByRecursion, list_any};
 ghost use Rattle.std.specs.Vec.{vec_capacity};
 ghost use Rattle.dp_pcap.specs.Source.{IsStart};
@@ -143,7 +144,8 @@ fn forward<R: Feed, W: Sink>(
     requires none { (inputs.old.items ≡ []) × (vec_len inputs.old ≡ 0) }
     requires room { 8 ≤ vec_capacity inputs.old }
     requires buf { 262144 ≤ length buf.old }
-    ensures forward { spec.GoesForward engine.old engine.new (map R.remaining ins.old) (map R.remaining ins.new) (map W.contents outs.old) (map W.contents outs.new) inputs.new.items result }
+    ensures forward { spec.GoesForward engine.old engine.new (map R.remaining ins.old) (map R.remaining ins.new) (map W.contents outs.old)
+        (map W.contents outs.new) inputs.new.items result }
     ensures many { length inputs.new.items ≤ length engine.old.setting.env.ports }
     ensures setting { engine.new.setting ≡ engine.old.setting }
     ensures counted { length engine.new.tallies ≡ 8 }
@@ -183,7 +185,8 @@ fn run_through<R: Feed, W: Sink>(
     requires none { (inputs.old.items ≡ []) × (vec_len inputs.old ≡ 0) }
     requires room { 8 ≤ vec_capacity inputs.old }
     requires buf { 262144 ≤ length buf.old }
-    ensures through { (last : EngineState) × spec.GoesForward engine last (map R.remaining ins.old) (map R.remaining ins.new) (map W.contents outs.old) (map W.contents outs.new) inputs.new.items (spec.answer_of result) × spec.Tells last inputs.new.items (spec.report_of result) }
+    ensures through { (last : EngineState) × spec.GoesForward engine last (map R.remaining ins.old) (map R.remaining ins.new) (map W.contents outs.old)
+        (map W.contents outs.new) inputs.new.items (spec.answer_of result) × spec.Tells last inputs.new.items (spec.report_of result) }
     ensures free { spec.AllFree engine.setting.env result }
     ensures sound { IsOk result → AllSound R.is_broken ins.new × AllSound W.is_broken outs.new }
     ensures fared_readers { AllFared R.is_broken R.failures (failed_reader (spec.answer_of result)) ins.old ins.new }
@@ -300,10 +303,14 @@ pub fn run<R: Feed, W: Sink>(
     requires readers { length ins.old ≡ length pipeline.env.ports }
     requires writers { length outs.old ≡ length pipeline.env.ports }
     requires pattern { IsAscending 0 pattern.items }
-    ensures answers { spec.RunAnswers pipeline pattern.items (map R.remaining ins.old) (map R.remaining ins.new) (map W.contents outs.old) (map W.contents outs.new) result }
-    ensures forwarded { IfOk result (Forwarded pipeline pattern.items (map R.remaining ins.old) (map R.remaining ins.new) (map W.contents outs.old) (map W.contents outs.new)) }
-    ensures stopped { IfErr result (λ f. StoppedBy pipeline pattern.items (map R.remaining ins.old) (map R.remaining ins.new) (map W.contents outs.old) (map W.contents outs.new) f.cause f.report) }
-    ensures no_room { (spec.answer_of result ≡ Err RunCause.Memory) ⊎ ((spec.answer_of result ≡ Err RunCause.NoRoom) ↔ (pipeline.region < bytes_needed pipeline.env)) }
+    ensures answers { spec.RunAnswers pipeline pattern.items (map R.remaining ins.old) (map R.remaining ins.new) (map W.contents outs.old)
+        (map W.contents outs.new) result }
+    ensures forwarded { IfOk result (Forwarded pipeline pattern.items (map R.remaining ins.old) (map R.remaining ins.new) (map W.contents outs.old)
+        (map W.contents outs.new)) }
+    ensures stopped { IfErr result (λ f. StoppedBy pipeline pattern.items (map R.remaining ins.old) (map R.remaining ins.new) (map W.contents outs.old)
+        (map W.contents outs.new) f.cause f.report) }
+    ensures no_room { (spec.answer_of result ≡ Err RunCause.Memory) ⊎ ((spec.answer_of result
+        ≡ Err RunCause.NoRoom) ↔ (pipeline.region < bytes_needed pipeline.env)) }
     ensures free { spec.AllFree pipeline.env result }
     ensures untouched { IfErr result (λ f. (f.cause ≡ RunCause.Memory) ⊎ (f.cause ≡ RunCause.NoRoom) → (ins.new ≡ ins.old) × (outs.new ≡ outs.old)) }
     // Where all went well, no device is broken.

@@ -1,5 +1,6 @@
 -- Several gets, one after another, and several puts.
-use Rattle.std.proofs.Common.{◌≡◌, ℕ, zero, suc, ◌+◌, Bool, true, false, not, cond, List, [], ◌∷◌, ◌++◌, length, slice_get, slice_set, Some, refl, sym, ap, subst, ◌∙◌, arith}
+use Rattle.std.proofs.Common.{◌≡◌, ℕ, zero, suc, ◌+◌, Bool, true, false, not, cond, List, [], ◌∷◌, ◌++◌, length, slice_get, slice_set, Some, refl, sym, ap}
+use Rattle.std.proofs.Common.{subst, ◌∙◌, arith}
 use Rattle.std.specs.Prelude.{unwrap_or}
 use Rattle.std.proofs.lemmas.Bool.{true≢false}
 use Rattle.std.proofs.lemmas.Option.{none-some}
@@ -33,7 +34,8 @@ are_got_more old mid [] i same was_in = (ap (λ v. slice_get v.out i) (sym same)
 are_got_more old mid (j ∷ is) i more was_in = (more.0, are_got_more (got old j) mid is i more.1 was_in)
 
 -- what stays as they are handed out
-pub got_keeps : (is : List ℕ) (old new : PoolView) → AreGot old is new → (new.zones ≡ old.zones) × (new.objects ≡ old.objects) × (new.size ≡ old.size) × (new.cache ≡ old.cache)
+pub got_keeps : (is : List ℕ) (old new : PoolView) → AreGot old is new → (new.zones ≡ old.zones) × (new.objects ≡ old.objects) × (new.size ≡ old.size)
+    × (new.cache ≡ old.cache)
 got_keeps [] old new same = (ap (λ v. v.zones) same, ap (λ v. v.objects) same, ap (λ v. v.size) same, ap (λ v. v.cache) same)
 got_keeps (i ∷ is) old new more = got_keeps is (got old i) new more.1
 
@@ -67,7 +69,8 @@ stays_out [] old new i same out = ap (λ v. slice_get v.out i) same ∙ out
 stays_out (j ∷ is) old new i more out = stays_out is (got old j) new i more.1 (get_other old.out j i true (λ e. apart old.out i j out more.0 (sym e)) ∙ out)
 
 -- and comes back beside them
-back_beside : (is : List ℕ) (old new : PoolView) (i : ℕ) (xs : List Bool) → AreGot old is new → slice_get old.out i ≡ Some true → AreOut xs is → AreOut (back i xs) is
+back_beside : (is : List ℕ) (old new : PoolView) (i : ℕ) (xs : List Bool) → AreGot old is new → slice_get old.out i ≡ Some true → AreOut xs is →
+    AreOut (back i xs) is
 back_beside [] old new i xs same out are = tt
 back_beside (j ∷ is) old new i xs more out are =
     let off : i ≡ j → ⊥ = apart old.out i j out more.0 in
@@ -84,31 +87,37 @@ got_out (i ∷ is) old new more =
 
 -- ---- what stays as they come back
 
-all_kept : (is : List ℕ) (p : PoolView) → ((all_back p is).zones ≡ p.zones) × ((all_back p is).objects ≡ p.objects) × ((all_back p is).size ≡ p.size) × ((all_back p is).cache ≡ p.cache)
+all_kept : (is : List ℕ) (p : PoolView) → ((all_back p is).zones ≡ p.zones) × ((all_back p is).objects ≡ p.objects) × ((all_back p is).size ≡ p.size)
+    × ((all_back p is).cache ≡ p.cache)
 all_kept [] p = (refl, refl, refl, refl)
 all_kept (i ∷ is) p = all_kept is (put_back p i)
 
-pub back_keeps : (is : List ℕ) (old new : PoolView) → new ≡ all_back old is → (new.zones ≡ old.zones) × (new.objects ≡ old.objects) × (new.size ≡ old.size) × (new.cache ≡ old.cache)
+pub back_keeps : (is : List ℕ) (old new : PoolView) → new ≡ all_back old is → (new.zones ≡ old.zones) × (new.objects ≡ old.objects) × (new.size ≡ old.size)
+    × (new.cache ≡ old.cache)
 back_keeps is old new e =
     let kept = all_kept is old in
     (ap (λ v. v.zones) e ∙ kept.0, ap (λ v. v.objects) e ∙ kept.1, ap (λ v. v.size) e ∙ kept.2, ap (λ v. v.cache) e ∙ kept.3)
 
 -- ---- the pool over its indexes
 
-pub handed_got : (objects : ZoneView) (size count : ℕ) (is : List ℕ) (old new : IndexView) → AreHanded old is new → AreGot (pool_of objects old count size) is (pool_of objects new count size)
+pub handed_got : (objects : ZoneView) (size count : ℕ) (is : List ℕ) (old new : IndexView) → AreHanded old is new →
+    AreGot (pool_of objects old count size) is (pool_of objects new count size)
 handed_got objects size count [] old new same = ap (λ v. pool_of objects v count size) same
 handed_got objects size count (i ∷ is) old new more = (more.0, handed_got objects size count is (handed old i) new more.1)
 
-pub returned_back : (objects : ZoneView) (size count : ℕ) (is : List ℕ) (v : IndexView) → pool_of objects (all_returned v is) count size ≡ all_back (pool_of objects v count size) is
+pub returned_back : (objects : ZoneView) (size count : ℕ) (is : List ℕ) (v : IndexView) → pool_of objects (all_returned v is) count size
+    ≡ all_back (pool_of objects v count size) is
 returned_back objects size count [] v = refl
 returned_back objects size count (i ∷ is) v = returned_back objects size count is (returned v i)
 
 -- what their indexes keep
-pub handed_keeps : (is : List ℕ) (old new : IndexView) → AreHanded old is new → (length new.out ≡ length old.out) × (new.cache ≡ old.cache) × (new.home ≡ old.home)
+pub handed_keeps : (is : List ℕ) (old new : IndexView) → AreHanded old is new → (length new.out ≡ length old.out) × (new.cache ≡ old.cache)
+    × (new.home ≡ old.home)
 handed_keeps [] old new same = (ap (λ v. length v.out) same, ap (λ v. v.cache) same, ap (λ v. v.home) same)
 handed_keeps (i ∷ is) old new more =
     let rest = handed_keeps is (handed old i) new more.1 in (rest.0 ∙ length-set old.out i true, rest.1, rest.2)
 
-pub returned_keeps : (is : List ℕ) (v : IndexView) → (length (all_returned v is).out ≡ length v.out) × ((all_returned v is).cache ≡ v.cache) × ((all_returned v is).home ≡ v.home)
+pub returned_keeps : (is : List ℕ) (v : IndexView) → (length (all_returned v is).out ≡ length v.out) × ((all_returned v is).cache ≡ v.cache)
+    × ((all_returned v is).home ≡ v.home)
 returned_keeps [] v = (refl, refl, refl)
 returned_keeps (i ∷ is) v = let rest = returned_keeps is (returned v i) in (rest.0 ∙ length-set v.out i false, rest.1, rest.2)

@@ -1,5 +1,6 @@
 -- Several indexes that leave the end of the cache or join it, one after another.
-use Rattle.std.proofs.Common.{◌≡◌, ℕ, suc, ◌+◌, ◌-◌, ◌*◌, ◌/◌, ◌<◌, ◌≤◌, cond, min, List, [], ◌∷◌, ◌++◌, length, take, drop, inl, inr, sym, ap, ap₂, ◌∙◌, subst, arith, append_assoc}
+use Rattle.std.proofs.Common.{◌≡◌, ℕ, suc, ◌+◌, ◌-◌, ◌*◌, ◌/◌, ◌<◌, ◌≤◌, cond, min, List, [], ◌∷◌, ◌++◌, length, take, drop, inl, inr, sym, ap, ap₂, ◌∙◌}
+use Rattle.std.proofs.Common.{subst, arith, append_assoc}
 use Rattle.std.proofs.Common.{length-append}
 use Rattle.std.proofs.lemmas.Bool.Decides.{eqb_tells}
 use Rattle.std.proofs.lemmas.List.{append-nil, take-append-drop}
@@ -41,7 +42,8 @@ tail_handed n cache front (x ∷ tail) queue some are =
     ((left.was_in, subst (λ v. AreHanded v tail (view_of cache n front queue)) step rest.0), rest.1)
 
 -- indexes join the cache, which keeps all of them
-pub end_returned : (n cache : ℕ) (is cached : List ℕ) (queue : RingView) → 0 < cache → length cached + length is < 3 * cache / 2 → AreOut (absent n (cached ++ queue.entries)) is → AreOnce n (cached ++ queue.entries)
+pub end_returned : (n cache : ℕ) (is cached : List ℕ) (queue : RingView) → 0 < cache → length cached + length is < 3 * cache / 2 →
+    AreOut (absent n (cached ++ queue.entries)) is → AreOnce n (cached ++ queue.entries)
     → (view_of cache n (cached ++ is) queue ≡ all_returned (view_of cache n cached queue) is) × AreOnce n ((cached ++ is) ++ queue.entries)
 end_returned n cache [] cached queue some room out are = (
   ap (λ xs. view_of cache n xs queue) (append-nil cached),
@@ -52,7 +54,8 @@ end_returned n cache (x ∷ is) cached queue some room out are =
     let long : length (cached ++ x ∷ []) ≡ length cached + 1 = length-append cached (x ∷ []) in
     let rest = end_returned n cache is (cached ++ x ∷ []) queue some (omega (arith, long, room)) (subst (λ o. AreOut o is) (sym came.out) out.1) came.once in
     let old = view_of cache n cached queue in
-    let step : view_of cache n (cached ++ x ∷ []) queue ≡ returned old x = ap₂ (with_state old) (long ∙ sym (put_more cache (length cached) some (omega (arith, room)))) came.out in
+    let step : view_of cache n (cached ++ x ∷ []) queue ≡ returned old x =
+    ap₂ (with_state old) (long ∙ sym (put_more cache (length cached) some (omega (arith, room)))) came.out in
     let joined : (cached ++ x ∷ []) ++ is ≡ cached ++ x ∷ is = append_assoc cached (x ∷ []) is in (
       ap (λ xs. view_of cache n xs queue) (sym joined) ∙ (rest.0 ∙ ap (λ v. all_returned v is) step),
       subst (λ xs. AreOnce n (xs ++ queue.entries)) joined rest.1,
@@ -60,7 +63,8 @@ end_returned n cache (x ∷ is) cached queue some room out are =
 
 -- ---- a part of the cache
 
-pub taken_cached : (n cache left : ℕ) (items new is : List ℕ) (queue : RingView) → (cache ≡ 0 → length items ≡ 0) → AreOnce n (items ++ queue.entries) → new ≡ take left items → is ≡ drop left items
+pub taken_cached : (n cache left : ℕ) (items new is : List ℕ) (queue : RingView) → (cache ≡ 0 → length items ≡ 0) → AreOnce n (items ++ queue.entries) →
+    new ≡ take left items → is ≡ drop left items
     → AreHanded (view_of cache n items queue) is (view_of cache n new queue) × AreOnce n (new ++ queue.entries)
 taken_cached n cache left items new is queue none are front tail =
     let parts = take-append-drop left items in

@@ -7,7 +7,8 @@ use Rattle.dp_pool.specs.Pools.{stride_of, objects_from, object_place, spilled}
 use Rattle.dp_pool.proofs.Objects.{place_from, place_within, stride_covers}
 
 -- the bytes behind the place are those that were there, with the rest of ws over them
-bytes_in-behind : (xs : List ℕ) (p d n : ℕ) (ws : List ℕ) → p + d + n ≤ length xs → bytes_in (overlaid xs p ws) (p + d) n ≡ refilled (bytes_in xs (p + d) n) (drop d ws)
+bytes_in-behind : (xs : List ℕ) (p d n : ℕ) (ws : List ℕ) → p + d + n ≤ length xs → bytes_in (overlaid xs p ws) (p + d) n
+    ≡ refilled (bytes_in xs (p + d) n) (drop d ws)
 bytes_in-behind xs p d n ws fits = same_lists _ _ (search (rules, places)) (λ k e h. grind (arith, places))
 
 -- and the bytes before it stay
@@ -15,7 +16,8 @@ bytes_in-before : (xs : List ℕ) (p q n : ℕ) (ws : List ℕ) → q + n ≤ p 
 bytes_in-before xs p q n ws before fits = same_lists _ _ (search (rules, places)) (λ k e h. grind (arith, places))
 
 -- so do the objects before the place
-objects_before : (xs : List ℕ) (size q p n : ℕ) (ws : List ℕ) → object_place size q n ≤ p → p ≤ length xs → objects_from (overlaid xs p ws) size q n ≡ objects_from xs size q n
+objects_before : (xs : List ℕ) (size q p n : ℕ) (ws : List ℕ) → object_place size q n ≤ p → p ≤ length xs → objects_from (overlaid xs p ws) size q n
+    ≡ objects_from xs size q n
 objects_before xs size q p zero ws before fits = refl
 objects_before xs size q p (suc n) ws before fits =
     let high = place_from size (q + stride_of size) n in
@@ -25,7 +27,8 @@ objects_before xs size q p (suc n) ws before fits =
     (objects_before xs size (q + stride_of size) p n ws before fits)
 
 -- the objects behind it have the rest of ws over them
-objects_behind : (xs : List ℕ) (size p d n : ℕ) (ws : List ℕ) → object_place size (p + d) n ≤ length xs → objects_from (overlaid xs p ws) size (p + d) n ≡ spilled (stride_of size) (objects_from xs size (p + d) n) (drop d ws)
+objects_behind : (xs : List ℕ) (size p d n : ℕ) (ws : List ℕ) → object_place size (p + d) n ≤ length xs → objects_from (overlaid xs p ws) size (p + d) n
+    ≡ spilled (stride_of size) (objects_from xs size (p + d) n) (drop d ws)
 objects_behind xs size p d zero ws fits = refl
 objects_behind xs size p d (suc n) ws fits =
     let high = place_from size (p + d + stride_of size) n in
@@ -41,7 +44,8 @@ objects_behind xs size p d (suc n) ws fits =
 
 -- an object of the list has ws over it
 pub objects_left : (xs : List ℕ) (size q n i : ℕ) (ws : List ℕ) → i < n → object_place size q n ≤ length xs
-    → objects_from (overlaid xs (object_place size q i) ws) size q n ≡ take i (objects_from xs size q n) ++ spilled (stride_of size) (drop i (objects_from xs size q n)) ws
+    → objects_from (overlaid xs (object_place size q i) ws) size q n ≡ take i (objects_from xs size q n)
+    ++ spilled (stride_of size) (drop i (objects_from xs size q n)) ws
 objects_left xs size q zero i ws less fits = absurd (omega (arith, less))
 objects_left xs size q (suc n) zero ws less fits =
     let here : q + 0 ≡ q = omega arith in
@@ -68,7 +72,8 @@ refilled-whole : (xs ws : List ℕ) → length ws ≡ length xs → refilled xs 
 refilled-whole xs ws e = same_lists _ _ (search (rules, places)) (λ k d h. grind (arith, places))
 
 -- what was left is then that object, and no other is touched
-pub left_whole : (os : List (List ℕ)) (stride i : ℕ) (ws : List ℕ) → i < length os → length ws ≡ length (slice_index_or os i []) → length ws ≤ stride → take i os ++ spilled stride (drop i os) ws ≡ slice_set os i ws
+pub left_whole : (os : List (List ℕ)) (stride i : ℕ) (ws : List ℕ) → i < length os → length ws ≡ length (slice_index_or os i []) → length ws ≤ stride →
+    take i os ++ spilled stride (drop i os) ws ≡ slice_set os i ws
 left_whole [] stride i ws less e fits = absurd (omega (arith, less))
 left_whole (o ∷ os) stride zero ws less e fits =
     ap₂ (λ (o : List ℕ) (os : List (List ℕ)). o ∷ os) (refilled-whole o ws e) (ap (spilled stride os) (drop_all stride ws fits) ∙ spilled-none stride os)

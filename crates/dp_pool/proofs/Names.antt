@@ -11,7 +11,8 @@ same_name_refl [] = refl
 same_name_refl (b ∷ name) = ap (λ t. t && same_name name name) (eq-eqb b b refl) ∙ same_name_refl name
 
 -- what was reserved last is given back
-pub without_last : (name : List ℕ) (table : List Reserved) (r : Reserved) → has_name name table ≡ false → r.name ≡ name → without_name name (table ++ r ∷ []) ≡ table
+pub without_last : (name : List ℕ) (table : List Reserved) (r : Reserved) → has_name name table ≡ false → r.name ≡ name → without_name name (table ++ r ∷ [])
+    ≡ table
 without_last name [] r fresh is = ap (λ t. cond t [] (r ∷ [])) (ap (λ n. same_name n name) is ∙ same_name_refl name)
 without_last name (s ∷ table) r fresh is =
     let parts = or_parts (is_named name s) (has_name name table) fresh in

@@ -15,7 +15,8 @@ stride_covers size = omega arith
 
 pub object_place_is : (size place i : ℕ) → object_place size place i ≡ place + i * stride_of size
 object_place_is size place zero = omega arith
-object_place_is size place (suc i) = object_place_is size (place + stride_of size) i ∙ (let more : suc i * stride_of size ≡ i * stride_of size + stride_of size = suc-mul i (stride_of size) in omega (arith, more))
+object_place_is size place (suc i) = object_place_is size (place + stride_of size) i
+    ∙ (let more : suc i * stride_of size ≡ i * stride_of size + stride_of size = suc-mul i (stride_of size) in omega (arith, more))
 
 pub place_from : (size place i : ℕ) → place ≤ object_place size place i
 place_from size place zero = omega arith
@@ -31,7 +32,8 @@ pub length-objects : (bytes : List ℕ) (size place n : ℕ) → length (objects
 length-objects bytes size place zero = refl
 length-objects bytes size place (suc n) = let rest = length-objects bytes size (place + stride_of size) n in omega (arith, rest)
 
-pub object_is : (bytes : List ℕ) (size place n i : ℕ) → i < n → slice_index_or (objects_from bytes size place n) i [] ≡ bytes_in bytes (object_place size place i) size
+pub object_is : (bytes : List ℕ) (size place n i : ℕ) → i < n → slice_index_or (objects_from bytes size place n) i []
+    ≡ bytes_in bytes (object_place size place i) size
 object_is bytes size place zero i less = absurd (omega (arith, less))
 object_is bytes size place (suc n) zero less = refl
 object_is bytes size place (suc n) (suc i) less = object_is bytes size (place + stride_of size) n i (omega (arith, less))
@@ -39,7 +41,8 @@ object_is bytes size place (suc n) (suc i) less = object_is bytes size (place + 
 -- ---- writes
 
 -- a write inside of a part of the bytes
-bytes_in-inside : (xs : List ℕ) (q n at : ℕ) (ws : List ℕ) → at + length ws ≤ n → q + n ≤ length xs → bytes_in (with_bytes xs (q + at) ws) q n ≡ overwritten (bytes_in xs q n) at ws
+bytes_in-inside : (xs : List ℕ) (q n at : ℕ) (ws : List ℕ) → at + length ws ≤ n → q + n ≤ length xs → bytes_in (with_bytes xs (q + at) ws) q n
+    ≡ overwritten (bytes_in xs q n) at ws
 bytes_in-inside xs q n at ws fits room =
     let whole = with_bytes xs (q + at) ws in
     let part = bytes_in xs q n in
@@ -72,7 +75,8 @@ bytes_in-inside xs q n at ws fits room =
     ])
 
 -- a write before all the objects leaves them
-objects_kept : (bytes : List ℕ) (size place n p : ℕ) (ws : List ℕ) → p + length ws ≤ length bytes → p + length ws ≤ place → object_place size place n ≤ length bytes
+objects_kept : (bytes : List ℕ) (size place n p : ℕ) (ws : List ℕ) → p + length ws ≤ length bytes → p + length ws ≤ place →
+    object_place size place n ≤ length bytes
     → objects_from (with_bytes bytes p ws) size place n ≡ objects_from bytes size place n
 objects_kept bytes size place zero p ws fits before room = refl
 objects_kept bytes size place (suc n) p ws fits before room =
@@ -83,7 +87,8 @@ objects_kept bytes size place (suc n) p ws fits before room =
 
 -- a write into an object changes it alone
 pub objects_written : (bytes : List ℕ) (size place n i at : ℕ) (ws : List ℕ) → i < n → at + length ws ≤ size → object_place size place n ≤ length bytes
-    → objects_from (with_bytes bytes (object_place size place i + at) ws) size place n ≡ slice_set (objects_from bytes size place n) i (overwritten (bytes_in bytes (object_place size place i) size) at ws)
+    → objects_from (with_bytes bytes (object_place size place i + at) ws) size place n
+    ≡ slice_set (objects_from bytes size place n) i (overwritten (bytes_in bytes (object_place size place i) size) at ws)
 objects_written bytes size place zero i at ws less fits room = absurd (omega (arith, less))
 objects_written bytes size place (suc n) zero at ws less fits room =
     let low = place_from size (place + stride_of size) n in

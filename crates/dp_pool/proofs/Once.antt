@@ -1,5 +1,6 @@
 -- Lists of indexes, each once.
-use Rattle.std.proofs.Common.{◌≡◌, ℕ, zero, suc, ◌+◌, ◌<◌, ◌≤◌, Bool, true, false, not, cond, eqb, leb, List, [], ◌∷◌, ◌++◌, length, slice_get, slice_set, count_by, Some, refl, sym, ap, ap₂, ◌∙◌, arith, inl, inr}
+use Rattle.std.proofs.Common.{◌≡◌, ℕ, zero, suc, ◌+◌, ◌<◌, ◌≤◌, Bool, true, false, not, cond, eqb, leb, List, [], ◌∷◌, ◌++◌, length, slice_get, slice_set}
+use Rattle.std.proofs.Common.{count_by, Some, refl, sym, ap, ap₂, ◌∙◌, arith, inl, inr}
 use Rattle.std.specs.Prelude.{unwrap_or}
 use Rattle.std.proofs.lemmas.Option.{slice_get_within}
 use Rattle.std.proofs.lemmas.Bool.{false≢true, cases_Bool, leb-true, leb-false}
@@ -107,30 +108,38 @@ once_same n old new same are = record {
 absent_from_same : (i n : ℕ) (old new : List ℕ) → ((j : ℕ) → i ≤ j → occurs j new ≡ occurs j old) → absent_from i n new ≡ absent_from i n old
 absent_from_same i zero old new same = refl
 absent_from_same i (suc n) old new same =
-    ap₂ (λ (b : Bool) (bs : List Bool). b ∷ bs) (ap (λ k. eqb k 0) (same i (omega arith))) (absent_from_same (suc i) n old new (λ j from. same j (omega (arith, from))))
+    ap₂ (λ (b : Bool) (bs : List Bool). b ∷ bs) (ap (λ k. eqb k 0) (same i (omega arith)))
+    (absent_from_same (suc i) n old new (λ j from. same j (omega (arith, from))))
 
 pub absent_same : (n : ℕ) (old new : List ℕ) → ((i : ℕ) → occurs i new ≡ occurs i old) → absent n new ≡ absent n old
 absent_same n old new same = absent_from_same 0 n old new (λ j from. same j)
 
-absent_from_set : (i n m k : ℕ) (old new : List ℕ) (b : Bool) → k ≡ i + m → m < n → ((j : ℕ) → (j ≡ k → ⊥) → occurs j new ≡ occurs j old) → eqb (occurs k new) 0 ≡ b
+absent_from_set : (i n m k : ℕ) (old new : List ℕ) (b : Bool) → k ≡ i + m → m < n → ((j : ℕ) → (j ≡ k → ⊥) → occurs j new ≡ occurs j old) →
+    eqb (occurs k new) 0 ≡ b
     → absent_from i n new ≡ slice_set (absent_from i n old) m b
 absent_from_set i zero m k old new b at less others is = absurd (omega (arith, less))
 absent_from_set i (suc n) zero k old new b at less others is =
     let here : k ≡ i = omega (arith, at) in
-    ap₂ (λ (b : Bool) (bs : List Bool). b ∷ bs) (ap (λ j. eqb (occurs j new) 0) (sym here) ∙ is) (absent_from_same (suc i) n old new (λ j from. others j (λ same. omega (arith, same, here, from))))
+    ap₂ (λ (b : Bool) (bs : List Bool). b ∷ bs) (ap (λ j. eqb (occurs j new) 0) (sym here)
+    ∙ is) (absent_from_same (suc i) n old new (λ j from. others j (λ same. omega (arith, same, here, from))))
 absent_from_set i (suc n) (suc m) k old new b at less others is =
-    ap₂ (λ (b : Bool) (bs : List Bool). b ∷ bs) (ap (λ j. eqb j 0) (others i (λ same. omega (arith, same, at)))) (absent_from_set (suc i) n m k old new b (omega (arith, at)) (omega (arith, less)) others is)
+    ap₂ (λ (b : Bool) (bs : List Bool). b ∷ bs) (ap (λ j. eqb j 0) (others i (λ same. omega (arith, same, at))))
+    (absent_from_set (suc i) n m k old new b (omega (arith, at)) (omega (arith, less)) others is)
 
 -- one index goes: it is absent then, and was not before
-pub absent_taken : (n k : ℕ) (old new : List ℕ) → k < n → ((i : ℕ) → occurs i old ≡ hit k i + occurs i new) → AreOnce n old → absent n new ≡ slice_set (absent n old) k true
+pub absent_taken : (n k : ℕ) (old new : List ℕ) → k < n → ((i : ℕ) → occurs i old ≡ hit k i + occurs i new) → AreOnce n old →
+    absent n new ≡ slice_set (absent n old) k true
 absent_taken n k old new less more are =
-    absent_from_set 0 n k k old new true (omega arith) less (λ j off. let is = more j in let here = hit_other k j (λ same. off (sym same)) in omega (arith, is, here))
-    (let is = more k in let here = hit_same k in let once = are.once k in ap (λ m. eqb m 0) (let none : occurs k new ≡ 0 = omega (arith, is, here, once) in none))
+    absent_from_set 0 n k k old new true (omega arith) less (λ j off. let is = more j in
+    let here = hit_other k j (λ same. off (sym same)) in omega (arith, is, here))
+    (let is = more k in let here = hit_same k in let once = are.once k in
+    ap (λ m. eqb m 0) (let none : occurs k new ≡ 0 = omega (arith, is, here, once) in none))
 
 -- one index comes: it is not absent then
 pub absent_put : (n k : ℕ) (old new : List ℕ) → k < n → ((i : ℕ) → occurs i new ≡ hit k i + occurs i old) → absent n new ≡ slice_set (absent n old) k false
 absent_put n k old new less more =
-    absent_from_set 0 n k k old new false (omega arith) less (λ j off. let is = more j in let here = hit_other k j (λ same. off (sym same)) in omega (arith, is, here))
+    absent_from_set 0 n k k old new false (omega arith) less (λ j off. let is = more j in
+    let here = hit_other k j (λ same. off (sym same)) in omega (arith, is, here))
     (elim (eqb_tells (occurs k new) 0) [
       | inl e ↦ absurd (let is = more k in let here = hit_same k in let none = e.1 in omega (arith, is, here, none))
       | inr e ↦ e.0
@@ -146,9 +155,11 @@ taken_once n k old new more are = record {
 
 pub put_once : (n k : ℕ) (old new : List ℕ) → k < n → occurs k old ≡ 0 → ((i : ℕ) → occurs i new ≡ hit k i + occurs i old) → AreOnce n old → AreOnce n new
 put_once n k old new less out more are = record {
-  below = λ i past. let is = more i in let none = are.below i past in let here = hit_other k i (λ same. omega (arith, same, less, past)) in omega (arith, is, none, here);
+  below = λ i past. let is = more i in let none = are.below i past in let here = hit_other k i (λ same. omega (arith, same, less, past)) in
+      omega (arith, is, none, here);
   once = λ i. elim (eqb_tells k i) [
-    | inl e ↦ let is = more i in let here : hit k i ≡ 1 = ap (λ b. cond b 1 0) e.0 in let none : occurs i old ≡ 0 = ap (λ j. occurs j old) (sym e.1) ∙ out in omega (arith, is, here, none)
+    | inl e ↦ let is = more i in let here : hit k i ≡ 1 = ap (λ b. cond b 1 0) e.0 in
+        let none : occurs i old ≡ 0 = ap (λ j. occurs j old) (sym e.1) ∙ out in omega (arith, is, here, none)
     | inr e ↦ let is = more i in let here : hit k i ≡ 0 = ap (λ b. cond b 1 0) e.0 in let few = are.once i in omega (arith, is, here, few)
   ];
 }
@@ -172,7 +183,8 @@ pub absent_get : (n m : ℕ) (ins : List ℕ) → m < n → slice_get (absent n 
 absent_get n m ins less = absent_from_get 0 n m ins less ∙ ap (λ j. Some (eqb (occurs j ins) 0)) (let at : 0 + m ≡ m = omega arith in at)
 
 -- an index that stands there is below n, and not absent
-pub present : (n k : ℕ) (ins rest : List ℕ) → ((i : ℕ) → occurs i ins ≡ hit k i + occurs i rest) → AreOnce n ins → (k < n) × (slice_get (absent n ins) k ≡ Some false)
+pub present : (n k : ℕ) (ins rest : List ℕ) → ((i : ℕ) → occurs i ins ≡ hit k i + occurs i rest) → AreOnce n ins →
+    (k < n) × (slice_get (absent n ins) k ≡ Some false)
 present n k ins rest more are =
     let some : 1 ≤ occurs k ins = let is = more k in let here = hit_same k in omega (arith, is, here) in
     let less : k < n = elim (cases_Bool (leb n k)) [

@@ -5,7 +5,8 @@ use Rattle.dp_region.specs.Spans.{bytes_in, with_bytes, overlaid}
 use Rattle.dp_region.specs.Laws.{length-bytes_in}
 use Rattle.dp_zone.specs.Zones.{ZoneView}
 use Rattle.dp_pool.specs.Queues.{IndexView}
-use Rattle.dp_pool.specs.Pools.{PoolView, PoolZones, IsPool, object_in, overwritten, with_object, with_written, with_left, stride_of, objects_from, object_place}
+use Rattle.dp_pool.specs.Pools.{PoolView, PoolZones, IsPool, object_in, overwritten, with_object, with_written, with_left, stride_of, objects_from}
+use Rattle.dp_pool.specs.Pools.{object_place}
 use Rattle.dp_pool.proofs.Lent.{objects_left, left_whole}
 use Rattle.dp_pool.proofs.Objects.{length-objects, object_is, objects_written, object_place_is, place_within, stride_covers}
 
@@ -34,12 +35,14 @@ small_drop (suc n) [] small k = omega arith
 small_drop (suc n) (x ∷ xs) small k = small_drop n xs (λ j. small (suc j)) k
 
 -- and so are those of each object
-small_objects : (bytes : List ℕ) (size place n : ℕ) → ((k : ℕ) → slice_index bytes k < 256) → (i k : ℕ) → slice_index (slice_index_or (objects_from bytes size place n) i []) k < 256
+small_objects : (bytes : List ℕ) (size place n : ℕ) → ((k : ℕ) → slice_index bytes k < 256) →
+    (i k : ℕ) → slice_index (slice_index_or (objects_from bytes size place n) i []) k < 256
 small_objects bytes size place zero small i k = omega arith
 small_objects bytes size place (suc n) small zero k = small_take size (drop place bytes) (small_drop place bytes small) k
 small_objects bytes size place (suc n) small (suc i) k = small_objects bytes size (place + stride_of size) n small i k
 
-pub is_pool : (size cache cached n : ℕ) (bytes : List ℕ) (out : List Bool) (zones : PoolZones) → length out ≡ n → 1 ≤ n → n ≤ 65535 → n * stride_of size ≤ length bytes → ((k : ℕ) → slice_index bytes k < 256) → (1 ≤ size) × (size ≤ 4224) → (cache ≤ 512) × (3 * cache ≤ 2 * n)
+pub is_pool : (size cache cached n : ℕ) (bytes : List ℕ) (out : List Bool) (zones : PoolZones) → length out ≡ n → 1 ≤ n → n ≤ 65535 →
+    n * stride_of size ≤ length bytes → ((k : ℕ) → slice_index bytes k < 256) → (1 ≤ size) × (size ≤ 4224) → (cache ≤ 512) × (3 * cache ≤ 2 * n)
     → IsPool (record { size = size; cache = cache; cached = cached; objects = objects_from bytes size 0 n; out = out; zones = zones })
 is_pool size cache cached n bytes out zones long some few room small sizes caches =
     let objects = length-objects bytes size 0 n in
@@ -47,7 +50,8 @@ is_pool size cache cached n bytes out zones long some few room small sizes cache
       some = omega (arith, objects, some);
       count = omega (arith, objects, few);
       out = long ∙ sym objects;
-      sizes = λ i less. let low : i < n = omega (arith, less, objects) in ap length (object_is bytes size 0 n i low) ∙ length-bytes_in bytes (object_place size 0 i) size (object_fits bytes size n i low room);
+      sizes = λ i less. let low : i < n = omega (arith, less, objects) in
+          ap length (object_is bytes size 0 n i low) ∙ length-bytes_in bytes (object_place size 0 i) size (object_fits bytes size n i low room);
       bytes = small_objects bytes size 0 n small;
       size = sizes;
       cache = (caches.0, omega (arith, objects, caches.1));
@@ -75,7 +79,8 @@ pool_of objects indexes count size = record {
 abbrev pub with_objects : PoolView → List (List ℕ) → PoolView
 with_objects p objects = record p { objects = objects }
 
-module _ (zone : ZoneView) (indexes : IndexView) (count size index : ℕ) (now : PoolView) (is : pool_of zone indexes count size ≡ now) (there : index < length now.objects) where
+module _ (zone : ZoneView) (indexes : IndexView) (count size index : ℕ) (now : PoolView) (is : pool_of zone indexes count size
+    ≡ now) (there : index < length now.objects) where
   -- the index is below the number of objects
   pub index_below : index < count
   index_below = let same = ap (λ v. length v.objects) is in let long = length-objects zone.bytes size 0 count in omega (arith, there, same, long)
@@ -85,14 +90,16 @@ module _ (zone : ZoneView) (indexes : IndexView) (count size index : ℕ) (now :
   object_bytes = sym (object_is zone.bytes size 0 count index index_below) ∙ ap (λ v. object_in v index) is
 
   -- bytes that are written into the zone at an object's place are written into the object
-  pub pool_written : (at : ℕ) (ws : List ℕ) (place : ℕ) (new : ZoneView) → place ≡ object_place size 0 index → at + length ws ≤ now.size → count * stride_of size ≤ length zone.bytes
+  pub pool_written : (at : ℕ) (ws : List ℕ) (place : ℕ) (new : ZoneView) → place ≡ object_place size 0 index → at + length ws ≤ now.size →
+      count * stride_of size ≤ length zone.bytes
       → new ≡ record zone { bytes = with_bytes zone.bytes (place + at) ws } → pool_of new indexes count size ≡ with_written now index at ws
   pool_written at ws place new is_place within room is_new =
       let sizes = ap (λ v. v.size) is in
       let fits : at + length ws ≤ size = omega (arith, within, sizes) in
       let end = object_place_is size 0 count in
       let bytes = zone.bytes in
-      let objects : objects_from (with_bytes bytes (place + at) ws) size 0 count ≡ slice_set (objects_from bytes size 0 count) index (overwritten (object_in (pool_of zone indexes count size) index) at ws) =
+      let objects : objects_from (with_bytes bytes (place + at) ws) size 0 count
+      ≡ slice_set (objects_from bytes size 0 count) index (overwritten (object_in (pool_of zone indexes count size) index) at ws) =
       ap (λ p. objects_from (with_bytes bytes (p + at) ws) size 0 count) is_place
       ∙ (objects_written bytes size 0 count index at ws index_below fits (omega (arith, end, room))
       ∙ ap (λ b. slice_set (objects_from bytes size 0 count) index (overwritten b at ws)) (sym (object_is bytes size 0 count index index_below))) in
@@ -101,7 +108,8 @@ module _ (zone : ZoneView) (indexes : IndexView) (count size index : ℕ) (now :
       ∙ ap (λ v. with_written v index at ws) is)
 
   -- what is left in an object that was lent is left in the zone from its place on
-  pub pool_left : (place : ℕ) → place ≡ object_place size 0 index → count * stride_of size ≤ length zone.bytes → (ws : List ℕ) → pool_of (record zone { bytes = overlaid zone.bytes place ws }) indexes count size ≡ with_left index now ws
+  pub pool_left : (place : ℕ) → place ≡ object_place size 0 index → count * stride_of size ≤ length zone.bytes →
+      (ws : List ℕ) → pool_of (record zone { bytes = overlaid zone.bytes place ws }) indexes count size ≡ with_left index now ws
   pool_left place is_place room ws =
       let end = object_place_is size 0 count in
       ap (λ p. pool_of (record zone { bytes = overlaid zone.bytes p ws }) indexes count size) is_place
@@ -112,6 +120,7 @@ module _ (zone : ZoneView) (indexes : IndexView) (count size index : ℕ) (now :
   pub left_alone : count * stride_of size ≤ length zone.bytes → (ws : List ℕ) → length ws ≡ now.size → with_left index now ws ≡ with_object now index ws
   left_alone room ws long =
       let sizes = ap (λ v. v.size) is in
-      let bytes = ap length (sym object_bytes) ∙ length-bytes_in zone.bytes (object_place size 0 index) size (object_fits zone.bytes size count index index_below room) in
+      let bytes = ap length (sym object_bytes) ∙ length-bytes_in zone.bytes (object_place size 0 index) size
+      (object_fits zone.bytes size count index index_below room) in
       let covers = stride_covers now.size in
       ap (with_objects now) (left_whole now.objects (stride_of now.size) index ws there (long ∙ sym (bytes ∙ sizes)) (omega (arith, covers, long)))

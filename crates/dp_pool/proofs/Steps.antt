@@ -27,10 +27,12 @@ gone n k old new more are =
     let known = present n k old new more are in
     record { once = taken_once n k old new more are; was_in = known.1; out = absent_taken n k old new known.0 more are }
 
-pub gone_queued : (n k : ℕ) (cached queue : List ℕ) → slice_get queue 0 ≡ Some k → AreOnce n (cached ++ queue) → Gone n (cached ++ queue) (cached ++ drop 1 queue) k
+pub gone_queued : (n k : ℕ) (cached queue : List ℕ) → slice_get queue 0 ≡ Some k → AreOnce n (cached ++ queue) →
+    Gone n (cached ++ queue) (cached ++ drop 1 queue) k
 gone_queued n k cached [] is are = absurd (none-some k is)
 gone_queued n k cached (x ∷ queue) is are =
-    subst (λ j. Gone n (cached ++ x ∷ queue) (cached ++ queue) j) (ap (λ o. unwrap_or o x) is) (gone n x (cached ++ x ∷ queue) (cached ++ queue) (λ i. from_queue cached queue x i) are)
+    subst (λ j. Gone n (cached ++ x ∷ queue) (cached ++ queue) j) (ap (λ o. unwrap_or o x) is)
+    (gone n x (cached ++ x ∷ queue) (cached ++ queue) (λ i. from_queue cached queue x i) are)
 
 pub none_queued : (queue : List ℕ) → slice_get queue 0 ≡ None → queue ≡ []
 none_queued [] is = refl
@@ -46,20 +48,24 @@ pub record Back (n : ℕ) (old new : List ℕ) (k : ℕ) : Type 0 where
   pub once : AreOnce n new
   pub out : absent n new ≡ back k (absent n old)
 
-came : (n k : ℕ) (old new : List ℕ) → ((i : ℕ) → occurs i new ≡ hit k i + occurs i old) → slice_get (absent n old) k ≡ Some true → AreOnce n old → Back n old new k
+came : (n k : ℕ) (old new : List ℕ) → ((i : ℕ) → occurs i new ≡ hit k i + occurs i old) → slice_get (absent n old) k ≡ Some true → AreOnce n old →
+    Back n old new k
 came n k old new more is are =
     let known = missing n k old is in
     record { once = put_once n k old new known.0 known.1 more are; out = absent_put n k old new known.0 more }
 
-pub back_queued : (n k : ℕ) (cached queue : List ℕ) → slice_get (absent n (cached ++ queue)) k ≡ Some true → AreOnce n (cached ++ queue) → Back n (cached ++ queue) (cached ++ (queue ++ k ∷ [])) k
+pub back_queued : (n k : ℕ) (cached queue : List ℕ) → slice_get (absent n (cached ++ queue)) k ≡ Some true → AreOnce n (cached ++ queue) →
+    Back n (cached ++ queue) (cached ++ (queue ++ k ∷ [])) k
 back_queued n k cached queue is are = came n k (cached ++ queue) (cached ++ (queue ++ k ∷ [])) (λ i. to_queue cached queue k i) is are
 
-pub back_cached : (n k : ℕ) (cached queue : List ℕ) → slice_get (absent n (cached ++ queue)) k ≡ Some true → AreOnce n (cached ++ queue) → Back n (cached ++ queue) ((cached ++ k ∷ []) ++ queue) k
+pub back_cached : (n k : ℕ) (cached queue : List ℕ) → slice_get (absent n (cached ++ queue)) k ≡ Some true → AreOnce n (cached ++ queue) →
+    Back n (cached ++ queue) ((cached ++ k ∷ []) ++ queue) k
 back_cached n k cached queue is are = came n k (cached ++ queue) ((cached ++ k ∷ []) ++ queue) (λ i. from_cache cached queue k i) is are
 
 -- ---- an index that comes back to the cache
 
-module _ (n k : ℕ) (cached queue pushed : List ℕ) (is : pushed ≡ cached ++ k ∷ []) (out : slice_get (absent n (cached ++ queue)) k ≡ Some true) (are : AreOnce n (cached ++ queue)) where
+module _ (n k : ℕ) (cached queue pushed : List ℕ) (is : pushed ≡ cached ++ k ∷ []) (out : slice_get (absent n (cached ++ queue)) k
+    ≡ Some true) (are : AreOnce n (cached ++ queue)) where
   pub pushed_back : Back n (cached ++ queue) (pushed ++ queue) k
   pushed_back = subst (λ xs. Back n (cached ++ queue) (xs ++ queue) k) (sym is) (back_cached n k cached queue out are)
 

@@ -1,5 +1,6 @@
 -- The indexes below a number, and whether one is among those that are in.
-use Rattle.std.proofs.Common.{◌≡◌, ℕ, zero, suc, ◌+◌, ◌<◌, ◌≤◌, Bool, true, false, not, ◌&&◌, ◌||◌, cond, eqb, ltb, List, [], ◌∷◌, ◌++◌, length, length-append, replicate, refl, sym, ap, ap₂, ◌∙◌, arith, inl, inr}
+use Rattle.std.proofs.Common.{◌≡◌, ℕ, zero, suc, ◌+◌, ◌<◌, ◌≤◌, Bool, true, false, not, ◌&&◌, ◌||◌, cond, eqb, ltb, List, [], ◌∷◌, ◌++◌, length}
+use Rattle.std.proofs.Common.{length-append, replicate, refl, sym, ap, ap₂, ◌∙◌, arith, inl, inr}
 use Rattle.std.specs.Prelude.{unwrap_or}
 use Rattle.std.specs.List.{list_any}
 use Rattle.std.proofs.lemmas.Bool.{cases_Bool, ltb-true, ltb-false}
@@ -27,7 +28,8 @@ in_upto (suc n) i less =
     let parts = occurs-append i (upto n) (n ∷ []) in
     elim (eqb_tells n i) [
       | inl e ↦ let here : hit n i ≡ 1 = ap (λ b. cond b 1 0) e.0 in let rest = past_upto n i (omega (arith, e.1)) in omega (arith, parts, here, rest)
-      | inr e ↦ let here : hit n i ≡ 0 = ap (λ b. cond b 1 0) e.0 in let off = e.1 in let rest = in_upto n i (omega (arith, less, off)) in omega (arith, parts, here, rest)
+      | inr e ↦ let here : hit n i ≡ 0 = ap (λ b. cond b 1 0) e.0 in let off = e.1 in
+          let rest = in_upto n i (omega (arith, less, off)) in omega (arith, parts, here, rest)
     ]
 
 pub once_upto : (n : ℕ) → AreOnce n (upto n)
@@ -42,7 +44,8 @@ once_upto n = record {
 none_absent : (i n : ℕ) (ins : List ℕ) → ((j : ℕ) → i ≤ j → j < i + n → occurs j ins ≡ 1) → absent_from i n ins ≡ replicate n false
 none_absent i zero ins there = refl
 none_absent i (suc n) ins there =
-    ap₂ (λ (b : Bool) (bs : List Bool). b ∷ bs) (ap (λ k. eqb k 0) (there i (omega arith) (omega arith))) (none_absent (suc i) n ins (λ j from to. there j (omega (arith, from)) (omega (arith, to))))
+    ap₂ (λ (b : Bool) (bs : List Bool). b ∷ bs) (ap (λ k. eqb k 0) (there i (omega arith) (omega arith)))
+    (none_absent (suc i) n ins (λ j from to. there j (omega (arith, from)) (omega (arith, to))))
 
 -- all of them are in
 pub absent-upto : (n : ℕ) → absent n (upto n) ≡ replicate n false
@@ -83,7 +86,8 @@ neither a b = elim (eqb_tells (a + b) 0) [
 ]
 
 -- an index is out that is below n and stands neither in the cache nor in the queue
-pub out_is : (n i : ℕ) (cached queue : List ℕ) → i < n → (not (list_any (λ x. eqb x i) cached) && not (list_any (λ x. eqb x i) queue)) ≡ is_out_in (absent n (cached ++ queue)) i
+pub out_is : (n i : ℕ) (cached queue : List ℕ) → i < n → (not (list_any (λ x. eqb x i) cached) && not (list_any (λ x. eqb x i) queue))
+    ≡ is_out_in (absent n (cached ++ queue)) i
 out_is n i cached queue less =
     ap₂ (λ a b. not a && not b) (any_occurs i cached) (any_occurs i queue)
     ∙ (neither (occurs i cached) (occurs i queue)

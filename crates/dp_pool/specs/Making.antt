@@ -35,7 +35,8 @@ abbrev pub IsQueueLen : ℕ → ℕ → Type 0
 IsQueueLen n len = (count : ℕ) × IsNextPowerOfTwo (n + 1) count × (len ≡ 4 * count)
 
 -- a zone of that name and length is taken from the heap and stands last in the table
-pub record Reserves (name : List ℕ) (len : ℕ) (old : List Reserved) (before : List Element) (place : ℕ) (new : List Reserved) (after : List Element) : Type 0 where
+pub record Reserves (name : List ℕ) (len : ℕ) (old : List Reserved) (before : List Element) (place : ℕ) (new : List Reserved) (after : List Element) : Type
+    0 where
   pub reservable : IsReservable name len 0 old
   pub taken : Taken before (rounded len) (alignment 0) place after
   pub table : new ≡ old ++ record { name = name; place = place; len = rounded len } ∷ []
@@ -60,7 +61,8 @@ number_of BadCache = 3
 number_of (Zone error) = 4
 
 -- a pool of n objects is made, all of them in: its zones are taken, the objects' first
-pub record IsMade (name : List ℕ) (n size cache : ℕ) (home : Home) (old : List Reserved) (before : List Element) (p : PoolView) (new : List Reserved) (after : List Element) : Type 0 where
+pub record IsMade (name : List ℕ) (n size cache : ℕ) (home : Home) (old : List Reserved) (before : List Element) (p : PoolView) (new : List Reserved)
+    (after : List Element) : Type 0 where
   pub count : IsPoolCount n
   pub size_fits : IsObjectSize size
   pub cache_fits : IsCacheSize n cache

@@ -1,5 +1,6 @@
 -- Pools of objects.
-use Rattle.std.specs.Prelude.{◌≡◌, refl, ℕ, zero, suc, ◌+◌, ◌*◌, ◌/◌, ◌<◌, ◌≤◌, Bool, false, List, [], ◌∷◌, ◌++◌, take, drop, length, slice_get, slice_index, slice_index_or, slice_set, Some, unwrap_or}
+use Rattle.std.specs.Prelude.{◌≡◌, refl, ℕ, zero, suc, ◌+◌, ◌*◌, ◌/◌, ◌<◌, ◌≤◌, Bool, false, List, [], ◌∷◌, ◌++◌, take, drop, length, slice_get, slice_index}
+use Rattle.std.specs.Prelude.{slice_index_or, slice_set, Some, unwrap_or}
 use Rattle.std.specs.Coded.{Coded, code_by, coded×, coded_list, coded_ℕ, coded_bool}
 use Rattle.dp_region.specs.Ownership.{Home, home_code}
 use Rattle.dp_region.specs.Spans.{bytes_in, refilled}
@@ -32,7 +33,8 @@ pub record PoolView : Type 0 where
 -- it is stored as the tuple of its fields
 abbrev pub pool_code : Coded PoolView
 pool_code =
-    code_by (ℕ × (ℕ × (ℕ × (List (List ℕ) × (List Bool × PoolZones))))) (coded× coded_ℕ (coded× coded_ℕ (coded× coded_ℕ (coded× (coded_list (coded_list coded_ℕ)) (coded× (coded_list coded_bool) zones_code)))))
+    code_by (ℕ × (ℕ × (ℕ × (List (List ℕ) × (List Bool × PoolZones)))))
+    (coded× coded_ℕ (coded× coded_ℕ (coded× coded_ℕ (coded× (coded_list (coded_list coded_ℕ)) (coded× (coded_list coded_bool) zones_code)))))
     (λ p. (p.size, (p.cache, (p.cached, (p.objects, (p.out, p.zones))))))
     (λ t. record { size = t.0; cache = t.1.0; cached = t.1.1.0; objects = t.1.1.1.0; out = t.1.1.1.1.0; zones = t.1.1.1.1.1 }) (λ _. refl)
 

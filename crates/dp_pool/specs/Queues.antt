@@ -1,5 +1,6 @@
 -- The indexes of a pool: which are in, and how many of them stand in the cache.
-use Rattle.std.specs.Prelude.{◌≡◌, refl, ℕ, ◌+◌, ◌-◌, ◌*◌, ◌/◌, Bool, true, false, not, ◌==◌, nat_le, if◌then◌else◌, min, List, [], ◌∷◌, Some, slice_get, slice_set, count_by}
+use Rattle.std.specs.Prelude.{◌≡◌, refl, ℕ, ◌+◌, ◌-◌, ◌*◌, ◌/◌, Bool, true, false, not, ◌==◌, nat_le, if◌then◌else◌, min, List, [], ◌∷◌, Some, slice_get}
+use Rattle.std.specs.Prelude.{slice_set, count_by}
 use Rattle.std.specs.Coded.{Coded, code_by, coded×, coded_list, coded_ℕ, coded_bool}
 use Rattle.dp_region.specs.Ownership.{Home, home_code}
 
@@ -16,7 +17,8 @@ pub record IndexView : Type 0 where
 -- it is stored as the tuple of its fields
 abbrev pub index_code : Coded IndexView
 index_code =
-    code_by (ℕ × (ℕ × (List Bool × (List ℕ × (Home × (ℕ × ℕ)))))) (coded× coded_ℕ (coded× coded_ℕ (coded× (coded_list coded_bool) (coded× (coded_list coded_ℕ) (coded× home_code (coded× coded_ℕ coded_ℕ))))))
+    code_by (ℕ × (ℕ × (List Bool × (List ℕ × (Home × (ℕ × ℕ)))))) (coded× coded_ℕ
+    (coded× coded_ℕ (coded× (coded_list coded_bool) (coded× (coded_list coded_ℕ) (coded× home_code (coded× coded_ℕ coded_ℕ))))))
     (λ v. (v.cache, (v.cached, (v.out, (v.name, (v.home, (v.place, v.len)))))))
     (λ p. record { cache = p.0; cached = p.1.0; out = p.1.1.0; name = p.1.1.1.0; home = p.1.1.1.1.0; place = p.1.1.1.1.1.0; len = p.1.1.1.1.1.1 }) (λ _. refl)
 

@@ -1,6 +1,7 @@
 //! The indexes of a pool's objects: a queue of those that are in, and a cache in front of it.
 
-ghost use Rattle.std.specs.Prelude.{◌≡◌, ℕ, ◌+◌, ◌-◌, ◌*◌, ◌/◌, ◌<◌, ◌≤◌, ◌++◌, ◌∷◌, [], length, take, drop, min, not, true, false, IsNone, IfSome, MatchOption, Some, slice_get, slice_set, count_by, replicate, ◌==◌};
+ghost use Rattle.std.specs.Prelude.{◌≡◌, ℕ, ◌+◌, ◌-◌, ◌*◌, ◌/◌, ◌<◌, ◌≤◌, ◌++◌, ◌∷◌, [], length, take, drop, min, not, true, false, IsNone, IfSome};
+ghost use Rattle.std.specs.Prelude.{MatchOption, Some, slice_get, slice_set, count_by, replicate, ◌==◌};
 ghost use Rattle.std.specs.List.{list_any};
 ghost use Rattle.dp_pool.specs.Once.{upto};
 ghost use Rattle.dp_pool.specs.Pools.{is_out_in};
@@ -30,9 +31,18 @@ impl Model for Indexes {
 
     ghost coded = { index_code };
 
-    ghost view = { λ v. record { cache = v.cache; cached = length v.cached.items; out = absent v.count (v.cached.items ++ v.queue.entries); name = v.queue.name; home = v.queue.home; place = v.queue.place; len = v.queue.len } };
+    ghost view = { λ v. record {
+      cache = v.cache;
+      cached = length v.cached.items;
+      out = absent v.count (v.cached.items ++ v.queue.entries);
+      name = v.queue.name;
+      home = v.queue.home;
+      place = v.queue.place;
+      len = v.queue.len;
+    } };
 
-    ghost invariant = { λ v. AreOnce v.count (v.cached.items ++ v.queue.entries) × (v.count < v.queue.count) × (v.cache ≤ 512) × (length v.cached.items ≤ 767) × (v.cache ≡ 0 → length v.cached.items ≡ 0) × (v.count ≤ 65535) };
+    ghost invariant = { λ v. AreOnce v.count (v.cached.items ++ v.queue.entries) × (v.count < v.queue.count) × (v.cache ≤ 512) × (length v.cached.items ≤ 767)
+        × (v.cache ≡ 0 → length v.cached.items ≡ 0) × (v.count ≤ 65535) };
 }
 
 // Moves the first indexes of the queue to the end of the cache.
@@ -95,7 +105,15 @@ impl Indexes {
         requires empty { queue.entries ≡ [] }
         requires room { count < queue.count }
         requires limits { (count ≤ 65535) × (cache ≤ 512) }
-        ensures { result ≡ record { cache = cache; cached = 0; out = replicate count false; name = queue.name; home = queue.home; place = queue.place; len = queue.len } }
+        ensures { result ≡ record {
+          cache = cache;
+          cached = 0;
+          out = replicate count false;
+          name = queue.name;
+          home = queue.home;
+          place = queue.place;
+          len = queue.len;
+        } }
     {
         let mut queue = queue;
         fill(&mut queue, count);
@@ -183,7 +201,8 @@ impl Indexes {
     // Hands out an index where the cache holds none, which is filled first if it is for some.
     fn get_refilled(&mut self) -> Option<u32>
         requires { self.old.cached ≡ 0 }
-        ensures { MatchOption result ((in_count self.old.out ≡ 0) × (self.new ≡ self.old)) (λ i. (slice_get self.old.out i ≡ Some false) × (self.new ≡ record self.old { out = taken i self.old.out; cached = cached_after_get self.old.cache self.old.cached (in_count self.old.out) })) }
+        ensures { MatchOption result ((in_count self.old.out ≡ 0) × (self.new ≡ self.old)) (λ i. (slice_get self.old.out i ≡ Some false)
+            × (self.new ≡ record self.old { out = taken i self.old.out; cached = cached_after_get self.old.cache self.old.cached (in_count self.old.out) })) }
     {
         if self.available() == 0 {
             return None;
@@ -207,7 +226,8 @@ impl Indexes {
     /// Hands out an index that is in; `None` where none is.
     #[inline(always)]
     pub(crate) fn get(&mut self) -> Option<u32>
-        ensures { MatchOption result ((in_count self.old.out ≡ 0) × (self.new ≡ self.old)) (λ i. (slice_get self.old.out i ≡ Some false) × (self.new ≡ record self.old { out = taken i self.old.out; cached = cached_after_get self.old.cache self.old.cached (in_count self.old.out) })) }
+        ensures { MatchOption result ((in_count self.old.out ≡ 0) × (self.new ≡ self.old)) (λ i. (slice_get self.old.out i ≡ Some false)
+            × (self.new ≡ record self.old { out = taken i self.old.out; cached = cached_after_get self.old.cache self.old.cached (in_count self.old.out) })) }
     {
         if self.has_cached() {
             return Some(self.next_cached());

@@ -1,6 +1,7 @@
 //! Pools that are made, and taken apart.
 
-ghost use Rattle.std.specs.Prelude.{◌≡◌, ◌+◌, ◌*◌, ◌<◌, ◌≤◌, ◌++◌, true, false, codes, length, replicate, IfOk, IfErr, IfSome, IfNone, OnErr, MatchResult, count_by, not, max};
+ghost use Rattle.std.specs.Prelude.{◌≡◌, ◌+◌, ◌*◌, ◌<◌, ◌≤◌, ◌++◌, true, false, codes, length, replicate, IfOk, IfErr, IfSome, IfNone, OnErr, MatchResult};
+ghost use Rattle.std.specs.Prelude.{count_by, not, max};
 ghost use Rattle.std.specs.Prelude.{◌⊎◌};
 ghost use Rattle.std.specs.Int.{IsNextPowerOfTwo};
 ghost use Rattle.dp_heap.specs.Elements.{rounded, merged, IsOut, count_of, is_busy};
@@ -30,7 +31,9 @@ fn with_suffix(name: &str, suffix: &str) -> Option<ArrayString<32>>
 
 // Why there is no pool of these numbers, whatever its zones.
 pub(crate) fn refused_numbers(count: u32, size: u32, cache: u32) -> Option<PoolError>
-    ensures some { IfSome result (λ e. (e ≡ PoolError.BadCount × ¬ IsPoolCount count) ⊎ ((e ≡ PoolError.BadSize × IsPoolCount count × ¬ IsObjectSize size) ⊎ (e ≡ PoolError.BadCache × IsPoolCount count × IsObjectSize size × ¬ IsCacheSize count cache))) }
+    ensures some { IfSome result (λ e. (e ≡ PoolError.BadCount × ¬ IsPoolCount count)
+        ⊎ ((e ≡ PoolError.BadSize × IsPoolCount count × ¬ IsObjectSize size)
+        ⊎ (e ≡ PoolError.BadCache × IsPoolCount count × IsObjectSize size × ¬ IsCacheSize count cache))) }
     ensures none { IfNone result (IsPoolCount count × IsObjectSize size × IsCacheSize count cache) }
 {
     if count == 0 || count > 65_535 {
@@ -77,7 +80,8 @@ pub(crate) fn reserve(
     ensures home { heap.new.home ≡ heap.old.home }
     ensures refused { IfErr result (λ e. IsZoneRefused e (name.now ++ suffix.now) len 0 zones.old heap.old.elements) }
     ensures kept { OnErr result ((zones.new ≡ zones.old) × (heap.new ≡ heap.old)) }
-    ensures counted { MatchResult result (λ _. count_of is_busy heap.new.elements ≡ count_of is_busy heap.old.elements + 1) (λ _. count_of is_busy heap.new.elements ≡ count_of is_busy heap.old.elements) }
+    ensures counted { MatchResult result (λ _. count_of is_busy heap.new.elements ≡ count_of is_busy heap.old.elements + 1)
+        (λ _. count_of is_busy heap.new.elements ≡ count_of is_busy heap.old.elements) }
 {
     match with_suffix(name, suffix) {
         Some(text) => zones.reserve(heap, text.as_str(), len, 0),

@@ -1,12 +1,14 @@
 //! A mempool.
 
 ghost use Rattle.std.specs.Borrow.{Lends, Array, sem, u8 as byte};
-ghost use Rattle.std.specs.Prelude.{◌≡◌, ℕ, ◌+◌, ◌*◌, ◌<◌, ◌≤◌, List, true, false, not, Some, length, replicate, slice_get, slice_index, count_by, nat_le, MatchOption, IfOk, IfErr, OnErr, MatchResult};
+ghost use Rattle.std.specs.Prelude.{◌≡◌, ℕ, ◌+◌, ◌*◌, ◌<◌, ◌≤◌, List, true, false, not, Some, length, replicate, slice_get, slice_index, count_by, nat_le};
+ghost use Rattle.std.specs.Prelude.{MatchOption, IfOk, IfErr, OnErr, MatchResult};
 ghost use Rattle.dp_heap.specs.Elements.{merged, count_of, is_busy};
 ghost use Rattle.dp_zone.specs.Zones.{without_name};
 ghost use Rattle.dp_pool.specs.Making.{IsPoolCount, IsObjectSize, IsCacheSize, IsPoolRefused, IsMade};
 ghost use Rattle.dp_pool.specs.Queues.{in_count, AreOut};
-ghost use Rattle.dp_pool.specs.Pools.{IsPool, AreGot, object_place, stride_of, object_in, with_object, with_written, with_left, is_out_in, got, put_back, all_back};
+ghost use Rattle.dp_pool.specs.Pools.{IsPool, AreGot, object_place, stride_of, object_in, with_object, with_written, with_left, is_out_in, got, put_back};
+ghost use Rattle.dp_pool.specs.Pools.{all_back};
 ghost use Rattle.dp_pool.specs.contracts.pool.Pool.{the_row};
 
 use crate::error::PoolError;
@@ -86,8 +88,15 @@ impl Pool {
         requires room { numbers.count * stride_of numbers.size ≤ length objects.bytes }
         requires places { (numbers.count < numbers.places) × (numbers.places ≤ 65536) × (4 * numbers.places ≤ length queue.bytes) }
         requires home { queue.home ≡ objects.home }
-        ensures numbers { (result.size ≡ numbers.size) × (result.cache ≡ numbers.cache) × (result.cached ≡ 0) × (length result.objects ≡ numbers.count) × (result.out ≡ replicate numbers.count false) }
-        ensures zones { result.zones ≡ record { home = objects.home; object_name = objects.name; object_place = objects.place; queue_name = queue.name; queue_place = queue.place } }
+        ensures numbers { (result.size ≡ numbers.size) × (result.cache ≡ numbers.cache) × (result.cached ≡ 0) × (length result.objects ≡ numbers.count)
+            × (result.out ≡ replicate numbers.count false) }
+        ensures zones { result.zones ≡ record {
+          home = objects.home;
+          object_name = objects.name;
+          object_place = objects.place;
+          queue_name = queue.name;
+          queue_place = queue.place;
+        } }
     {
         let ring = Ring::over(queue, numbers.places);
         Pool {
@@ -114,7 +123,8 @@ impl Pool {
         ensures home { heap.new.home ≡ heap.old.home }
         ensures refused { IfErr result (λ e. IsPoolRefused e name.now count size cache zones.old heap.old.elements) }
         ensures kept { OnErr result ((zones.new ≡ zones.old) × (heap.new ≡ heap.old)) }
-        ensures counted { MatchResult result (λ _. count_of is_busy heap.new.elements ≡ count_of is_busy heap.old.elements + 2) (λ _. count_of is_busy heap.new.elements ≡ count_of is_busy heap.old.elements) }
+        ensures counted { MatchResult result (λ _. count_of is_busy heap.new.elements ≡ count_of is_busy heap.old.elements + 2)
+            (λ _. count_of is_busy heap.new.elements ≡ count_of is_busy heap.old.elements) }
     {
         if let Some(error) = refused_numbers(count, size, cache) {
             return Err(error);
@@ -202,7 +212,8 @@ impl Pool {
     /// Hands out an object that is in, by its index; `None` where none is.
     #[inline(always)]
     pub fn get(&mut self) -> Option<u32>
-        ensures { MatchOption result ((in_count self.old.out ≡ 0) × (self.new ≡ self.old)) (λ i. (slice_get self.old.out i ≡ Some false) × (self.new ≡ got self.old i)) }
+        ensures { MatchOption result ((in_count self.old.out ≡ 0) × (self.new ≡ self.old)) (λ i. (slice_get self.old.out i ≡ Some false)
+            × (self.new ≡ got self.old i)) }
     {
         self.indexes.get()
     }
@@ -240,7 +251,8 @@ impl Pool {
         ensures got { result ≡ true → AreGot self.old indexes.new self.new }
         ensures out { result ≡ true → AreOut self.new.out indexes.new }
         ensures kept { result ≡ false → (self.new ≡ self.old) × (indexes.new ≡ indexes.old) }
-        ensures same { (self.new.zones ≡ self.old.zones) × (self.new.objects ≡ self.old.objects) × (self.new.size ≡ self.old.size) × (self.new.cache ≡ self.old.cache) }
+        ensures same { (self.new.zones ≡ self.old.zones) × (self.new.objects ≡ self.old.objects) × (self.new.size ≡ self.old.size)
+            × (self.new.cache ≡ self.old.cache) }
         ensures len { length indexes.new ≡ length indexes.old }
     {
         if indexes.len() <= self.cached() as usize {
@@ -268,7 +280,8 @@ impl Pool {
     pub fn put_bulk(&mut self, indexes: &[u32])
         requires { AreOut self.old.out indexes.now }
         ensures back { self.new ≡ all_back self.old indexes.now }
-        ensures same { (self.new.zones ≡ self.old.zones) × (self.new.objects ≡ self.old.objects) × (self.new.size ≡ self.old.size) × (self.new.cache ≡ self.old.cache) }
+        ensures same { (self.new.zones ≡ self.old.zones) × (self.new.objects ≡ self.old.objects) × (self.new.size ≡ self.old.size)
+            × (self.new.cache ≡ self.old.cache) }
     {
         self.indexes.put_all(indexes);
     }

@@ -24,12 +24,15 @@ impl Engine {
     ) -> Result<u32, WriteFault>
         requires exists { port < length self.old.setting.env.ports }
         requires nano { time.nano < 1000000000 }
-        ensures ok { IfOk result (λ sent. Written unit time port self.old.world (λ records. (sent ≡ length records) × Appends (W.contents w.old) (W.contents w.new) (flat_map (record_text unit) records))) }
-        ensures err { IfErr result (λ fault. Written unit time port self.old.world (λ records. WrotePart (W.contents w.old) (W.contents w.new) unit records fault.sent)) }
+        ensures ok { IfOk result (λ sent. Written unit time port self.old.world (λ records. (sent ≡ length records)
+            × Appends (W.contents w.old) (W.contents w.new) (flat_map (record_text unit) records))) }
+        ensures err { IfErr result (λ fault. Written unit time port self.old.world
+            (λ records. WrotePart (W.contents w.old) (W.contents w.new) unit records fault.sent)) }
         ensures broken { IsErr result → IsTrue (W.is_broken w.new) }
         ensures sound { IsOk result → W.is_broken w.old ≡ false → W.is_broken w.new ≡ false }
         ensures empty { self.new ≡ drained port (sent_of result) self.old }
-        ensures counted { Written unit time port self.old.world (λ records. IsCalledFor (W.calls w.old) (W.calls w.new) unit (take (sent_of result + 1) records)) }
+        ensures counted { Written unit time port self.old.world (λ records.
+            IsCalledFor (W.calls w.old) (W.calls w.new) unit (take (sent_of result + 1) records)) }
         ensures failures { MatchResult result (λ _. W.failures w.new ≡ W.failures w.old) (λ _. W.failures w.new ≡ W.failures w.old + 1) }
     {
         let outcome = self.machine.put_all(port, time, unit, w);

@@ -32,13 +32,19 @@ impl Engine {
         requires exists { port < length self.old.setting.env.ports }
         requires limit { self.old.turns < 134217728 }
         requires size { length bytes.now ≤ 262144 }
-        ensures turn { (told : List Bool) × IsTurn self.old.setting self.old.nodes port bytes.now self.old.world (outcome_of result.outcome) result.runs told self.new.world }
-        ensures never_stuck { (b : Beginning) → IsOfTurn self.old.setting self.old.nodes port bytes.now self.old.world b → NeverStuck self.old.setting b.program b.packet b.number b.world }
+        ensures turn { (told : List Bool) × IsTurn self.old.setting self.old.nodes port bytes.now self.old.world (outcome_of result.outcome) result.runs told
+            self.new.world }
+        ensures never_stuck { (b : Beginning) → IsOfTurn self.old.setting self.old.nodes port bytes.now self.old.world b →
+            NeverStuck self.old.setting b.program b.packet b.number b.world }
         ensures took { Took self.old.world self.new.world result.steps result.cuts }
         ensures few { result.steps ≤ result.runs * 263168 }
         // Each port has its transmit list.
         ensures lists { length self.new.world.outboxes ≡ length self.new.setting.env.ports }
-        ensures rest { self.new ≡ record self.old { world = self.new.world; turns = self.old.turns + 1; tallies = counted_at port (outcome_of result.outcome) self.old.tallies } }
+        ensures rest { self.new ≡ record self.old {
+          world = self.new.world;
+          turns = self.old.turns + 1;
+          tallies = counted_at port (outcome_of result.outcome) self.old.tallies;
+        } }
     {
         self.watched_turn(port, bytes, &mut Silent)
     }
@@ -50,13 +56,19 @@ impl Engine {
         requires exists { port < length self.old.setting.env.ports }
         requires limit { self.old.turns < 134217728 }
         requires size { length bytes.now ≤ 262144 }
-        ensures turn { (told : List Bool) × IsTurn self.old.setting self.old.nodes port bytes.now self.old.world (outcome_of result.outcome) result.runs told self.new.world }
-        ensures never_stuck { (b : Beginning) → IsOfTurn self.old.setting self.old.nodes port bytes.now self.old.world b → NeverStuck self.old.setting b.program b.packet b.number b.world }
+        ensures turn { (told : List Bool) × IsTurn self.old.setting self.old.nodes port bytes.now self.old.world (outcome_of result.outcome) result.runs told
+            self.new.world }
+        ensures never_stuck { (b : Beginning) → IsOfTurn self.old.setting self.old.nodes port bytes.now self.old.world b →
+            NeverStuck self.old.setting b.program b.packet b.number b.world }
         ensures took { Took self.old.world self.new.world result.steps result.cuts }
         ensures few { result.steps ≤ result.runs * 263168 }
         // Each port has its transmit list.
         ensures lists { length self.new.world.outboxes ≡ length self.new.setting.env.ports }
-        ensures rest { self.new ≡ record self.old { world = self.new.world; turns = self.old.turns + 1; tallies = counted_at port (outcome_of result.outcome) self.old.tallies } }
+        ensures rest { self.new ≡ record self.old {
+          world = self.new.world;
+          turns = self.old.turns + 1;
+          tallies = counted_at port (outcome_of result.outcome) self.old.tallies;
+        } }
     {
         // It tells that the nodes are checked.
         let _env = self.plan.env();

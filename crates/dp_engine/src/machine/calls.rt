@@ -2,7 +2,8 @@
 ghost use Rattle.std.specs.Prelude.{◌≡◌, ◌≢◌, ℕ, ◌+◌, ◌^◌, ◌<◌, ◌≤◌, true, false, not, List, [], ◌++◌, length, slice_get, Some, option_map, is_some};
 ghost use Rattle.dp_model.specs.Arithmetic.{bytes_in};
 ghost use Rattle.dp_model.specs.Buffers.{Number, Buffers, ChangesOnly};
-ghost use Rattle.dp_model.specs.Packets.{Packet, AreFresh, allocated, cloned, headroom, tailroom, last_len, first_len, IsHeadSole, IsTailSole, at_front, at_end, more_before, more_behind, less_behind, zeroed_before, zeroed_behind, loaded, stored};
+ghost use Rattle.dp_model.specs.Packets.{Packet, AreFresh, allocated, cloned, headroom, tailroom, last_len, first_len, IsHeadSole, IsTailSole, at_front};
+ghost use Rattle.dp_model.specs.Packets.{at_end, more_before, more_behind, less_behind, zeroed_before, zeroed_behind, loaded, stored};
 ghost use Rattle.dp_model.specs.Machine.{Holds, IsEmpty, live, is_denied, with_call, with_packet, without_packet, with_buffers};
 ghost use Rattle.dp_engine.specs.Handles.{moved};
 ghost use Rattle.dp_engine.specs.Steps.{setting_of};
@@ -67,7 +68,8 @@ impl Machine {
     // That many zero bytes in front.
     pub(crate) fn prepend(&mut self, p: PacketRegister, n: u16)
         requires { (k : Packet) × Holds self.old.state p k × (n ≤ headroom k) × IsHeadSole (live self.old.state) k }
-        ensures { (k : Packet) → Holds self.old.state p k → self.new ≡ moved (with_packet p (at_front (more_before n) k) (with_buffers (zeroed_before n k self.old.state.world.buffers) self.old.state)) self.old }
+        ensures { (k : Packet) → Holds self.old.state p k → self.new ≡ moved
+            (with_packet p (at_front (more_before n) k) (with_buffers (zeroed_before n k self.old.state.world.buffers) self.old.state)) self.old }
     {
         let packet = handle_in(&self.registers, p);
         self.mbufs.prepend(&packet, n);
@@ -76,7 +78,8 @@ impl Machine {
     // That many zero bytes behind.
     pub(crate) fn append(&mut self, p: PacketRegister, n: u16)
         requires { (k : Packet) × Holds self.old.state p k × (n ≤ tailroom self.old.pools k) × IsTailSole (live self.old.state) k }
-        ensures { (k : Packet) → Holds self.old.state p k → self.new ≡ moved (with_packet p (at_end (more_behind n) k) (with_buffers (zeroed_behind n k self.old.state.world.buffers) self.old.state)) self.old }
+        ensures { (k : Packet) → Holds self.old.state p k → self.new ≡ moved
+            (with_packet p (at_end (more_behind n) k) (with_buffers (zeroed_behind n k self.old.state.world.buffers) self.old.state)) self.old }
     {
         let packet = handle_in(&self.registers, p);
         self.mbufs.append(&packet, n);
@@ -94,7 +97,8 @@ impl Machine {
     // Writes the low bytes of a number at a place of the first segment.
     pub(crate) fn store(&mut self, p: PacketRegister, place: u64, width: Width, n: u64)
         requires { (k : Packet) × Holds self.old.state p k × (place + bytes_in width ≤ first_len k) × IsHeadSole (live self.old.state) k }
-        ensures { (k : Packet) → Holds self.old.state p k → self.new ≡ moved (with_buffers (stored place (bytes_in width) n k self.old.state.world.buffers) self.old.state) self.old }
+        ensures { (k : Packet) → Holds self.old.state p k → self.new ≡ moved
+            (with_buffers (stored place (bytes_in width) n k self.old.state.world.buffers) self.old.state) self.old }
     {
         let packet = handle_in(&self.registers, p);
         self.mbufs.store(&packet, place, width, n);
@@ -103,7 +107,8 @@ impl Machine {
     // The second packet behind the first. Its register is empty then.
     pub(crate) fn chain(&mut self, front: PacketRegister, back: PacketRegister)
         requires { (k : Packet) × (t : Packet) × Holds self.old.state front k × Holds self.old.state back t × (front ≢ back) × (length k + length t ≤ 64) }
-        ensures { (k : Packet) (t : Packet) → Holds self.old.state front k → Holds self.old.state back t → self.new ≡ moved (without_packet back (with_packet front (k ++ t) self.old.state)) self.old }
+        ensures { (k : Packet) (t : Packet) → Holds self.old.state front k → Holds self.old.state back t →
+            self.new ≡ moved (without_packet back (with_packet front (k ++ t) self.old.state)) self.old }
     {
         let head = handle_in(&self.registers, front);
         let tail = handle_in(&self.registers, back);
@@ -125,7 +130,8 @@ impl Machine {
         requires few { self.old.state.world.calls + 1 < 2 ^ 64 }
         ensures denied { not result ≡ is_denied (setting_of env.now [] pattern.now) self.old.state pool 1 }
         ensures refused { result ≡ false → self.new ≡ moved (with_call self.old.state) self.old }
-        ensures given { result ≡ true → (ns : List Number) × (buffers : Buffers) × AreFresh env.now.pools (live self.old.state) pool 1 ns × ChangesOnly ns self.old.state.world.buffers buffers
+        ensures given { result ≡ true → (ns : List Number) × (buffers : Buffers) × AreFresh env.now.pools (live self.old.state) pool 1 ns
+            × ChangesOnly ns self.old.state.world.buffers buffers
             × (self.new ≡ moved (with_call (with_packet into (allocated env.now.pools ns) (with_buffers buffers self.old.state))) self.old) }
     {
         let _env = env;
@@ -156,9 +162,11 @@ impl Machine {
         requires exists { pool < length env.now.pools }
         requires pools { self.old.pools ≡ env.now.pools }
         requires few { self.old.state.world.calls + 1 < 2 ^ 64 }
-        ensures denied { (k : Packet) → Holds self.old.state from k → not result ≡ is_denied (setting_of env.now [] pattern.now) self.old.state pool (length k) }
+        ensures denied { (k : Packet) → Holds self.old.state from k → not result
+            ≡ is_denied (setting_of env.now [] pattern.now) self.old.state pool (length k) }
         ensures refused { result ≡ false → self.new ≡ moved (with_call self.old.state) self.old }
-        ensures given { result ≡ true → (k : Packet) → Holds self.old.state from k → (ns : List Number) × AreFresh env.now.pools (live self.old.state) pool (length k) ns
+        ensures given { result ≡ true → (k : Packet) → Holds self.old.state from k →
+            (ns : List Number) × AreFresh env.now.pools (live self.old.state) pool (length k) ns
             × (self.new ≡ moved (with_call (with_packet into (cloned ns k) self.old.state)) self.old) }
     {
         let _env = env;

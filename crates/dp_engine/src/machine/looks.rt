@@ -37,7 +37,8 @@ impl Machine {
     // The bytes of a segment.
     pub(crate) fn segment_bytes(&self, p: PacketRegister, index: u32) -> &[u8]
         requires { (k : Packet) × Holds self.now.state p k × (index < length k) }
-        ensures { (k : Packet) (s : Segment) → Holds self.now.state p k → slice_get k index ≡ Some s → result.now ≡ segment_bytes self.now.state.world.buffers s }
+        ensures { (k : Packet) (s : Segment) → Holds self.now.state p k → slice_get k index ≡ Some s →
+            result.now ≡ segment_bytes self.now.state.world.buffers s }
     {
         let packet = handle_in(&self.registers, p);
         self.mbufs.segment_bytes(&packet, index)

@@ -11,5 +11,6 @@ loop-port-preserved g c =
     let old = g.W.Write.contents c.loop-port.to in
     let new = g.W.Write.contents c.writeln.new.self in
     let written = subst (λ (n : ℕ). Appends old new (of_total c.loop-port.port-counter n)) c.records_done-records.ensures c.in_ok-writeln.ensures.bytes in
-    appends_line _ _ _ total_line c.args.ports.now c.loop-port.port-counter (record { received = 0; nobuf = 0; oversize = 0; sent = 0; state = Open }) c.loop-port-test.true
+    appends_line _ _ _ total_line c.args.ports.now c.loop-port.port-counter (record { received = 0; nobuf = 0; oversize = 0; sent = 0; state = Open })
+    c.loop-port-test.true
     c.loop-port.invariant written

@@ -5,4 +5,5 @@ use Rattle.dp_cli.proofs.report.print_pools.Goals as goal
 
 pub loop-k-preserved : goal.loop-k-preserved
 loop-k-preserved g c =
-    appends_line _ _ _ pool_line c.args.pools.now c.loop-k.k-counter (record { free = 0; count = 0 }) c.loop-k-test.true c.loop-k.invariant c.in_ok-writeln.ensures.bytes
+    appends_line _ _ _ pool_line c.args.pools.now c.loop-k.k-counter (record { free = 0; count = 0 }) c.loop-k-test.true c.loop-k.invariant
+    c.in_ok-writeln.ensures.bytes

@@ -8,7 +8,8 @@ returns-clause-told g c = record {
   answer = c.run.result;
   answers = c.run.ensures.answers;
   free = c.run.ensures.free;
-  untouched = if_err c.run.result _ _ (λ fault same early. (ap (map g.R.Feed.remaining) (same early).0, ap (map g.W.Sink.contents) (same early).1)) c.run.ensures.untouched;
+  untouched = if_err c.run.result _ _ (λ fault same early. (ap (map g.R.Feed.remaining) (same early).0, ap (map g.W.Sink.contents) (same early).1))
+      c.run.ensures.untouched;
   told = c.tell_run.ensures.status;
   printed = c.tell_run.ensures.printed;
 }

@@ -75,52 +75,62 @@ edit-requires-in-Chain-clause-has g c =
 
 pub returns-in-Load-clause-acts : goal.returns-in-Load-clause-acts
 returns-in-Load-clause-acts g c =
-    acts_to (setting_of c.args.env.now c.args.tables.now c.args.pattern.now) c.args.label c.args.m.now c.count_step.new.self c.args.instr.now (label_after c.args.label c.read.result)
+    acts_to (setting_of c.args.env.now c.args.tables.now c.args.pattern.now) c.args.label c.args.m.now c.count_step.new.self c.args.instr.now
+    (label_after c.args.label c.read.result)
     c.read.new.m.state c.count_step.ensures c.requires.pools c.requires.has c.read.ensures.acts
 
 pub returns-in-Store-clause-acts : goal.returns-in-Store-clause-acts
 returns-in-Store-clause-acts g c =
-    acts_to (setting_of c.args.env.now c.args.tables.now c.args.pattern.now) c.args.label c.args.m.now c.count_step.new.self c.args.instr.now (label_after c.args.label c.write.result)
+    acts_to (setting_of c.args.env.now c.args.tables.now c.args.pattern.now) c.args.label c.args.m.now c.count_step.new.self c.args.instr.now
+    (label_after c.args.label c.write.result)
     c.write.new.m.state c.count_step.ensures c.requires.pools c.requires.has c.write.ensures.acts
 
 pub returns-in-Free-clause-acts : goal.returns-in-Free-clause-acts
 returns-in-Free-clause-acts g c =
-    acts_to (setting_of c.args.env.now c.args.tables.now c.args.pattern.now) c.args.label c.args.m.now c.count_step.new.self c.args.instr.now (label_after c.args.label c.edit.result)
+    acts_to (setting_of c.args.env.now c.args.tables.now c.args.pattern.now) c.args.label c.args.m.now c.count_step.new.self c.args.instr.now
+    (label_after c.args.label c.edit.result)
     c.edit.new.m.state c.count_step.ensures c.requires.pools c.requires.has c.edit.ensures.acts
 
 pub returns-in-LoadX-clause-acts : goal.returns-in-LoadX-clause-acts
 returns-in-LoadX-clause-acts g c =
-    acts_to (setting_of c.args.env.now c.args.tables.now c.args.pattern.now) c.args.label c.args.m.now c.count_step.new.self c.args.instr.now (label_after c.args.label c.read-in-LoadX.result)
+    acts_to (setting_of c.args.env.now c.args.tables.now c.args.pattern.now) c.args.label c.args.m.now c.count_step.new.self c.args.instr.now
+    (label_after c.args.label c.read-in-LoadX.result)
     c.read-in-LoadX.new.m.state c.count_step.ensures c.requires.pools c.requires.has c.read-in-LoadX.ensures.acts
 
 pub returns-in-StoreX-clause-acts : goal.returns-in-StoreX-clause-acts
 returns-in-StoreX-clause-acts g c =
-    acts_to (setting_of c.args.env.now c.args.tables.now c.args.pattern.now) c.args.label c.args.m.now c.count_step.new.self c.args.instr.now (label_after c.args.label c.write-in-StoreX.result)
+    acts_to (setting_of c.args.env.now c.args.tables.now c.args.pattern.now) c.args.label c.args.m.now c.count_step.new.self c.args.instr.now
+    (label_after c.args.label c.write-in-StoreX.result)
     c.write-in-StoreX.new.m.state c.count_step.ensures c.requires.pools c.requires.has c.write-in-StoreX.ensures.acts
 
 pub returns-in-Prepend-clause-acts : goal.returns-in-Prepend-clause-acts
 returns-in-Prepend-clause-acts g c =
-    acts_to (setting_of c.args.env.now c.args.tables.now c.args.pattern.now) c.args.label c.args.m.now c.count_step.new.self c.args.instr.now (label_after c.args.label c.edit-in-Prepend.result)
+    acts_to (setting_of c.args.env.now c.args.tables.now c.args.pattern.now) c.args.label c.args.m.now c.count_step.new.self c.args.instr.now
+    (label_after c.args.label c.edit-in-Prepend.result)
     c.edit-in-Prepend.new.m.state c.count_step.ensures c.requires.pools c.requires.has c.edit-in-Prepend.ensures.acts
 
 pub returns-in-Adj-clause-acts : goal.returns-in-Adj-clause-acts
 returns-in-Adj-clause-acts g c =
-    acts_to (setting_of c.args.env.now c.args.tables.now c.args.pattern.now) c.args.label c.args.m.now c.count_step.new.self c.args.instr.now (label_after c.args.label c.edit-in-Adj.result)
+    acts_to (setting_of c.args.env.now c.args.tables.now c.args.pattern.now) c.args.label c.args.m.now c.count_step.new.self c.args.instr.now
+    (label_after c.args.label c.edit-in-Adj.result)
     c.edit-in-Adj.new.m.state c.count_step.ensures c.requires.pools c.requires.has c.edit-in-Adj.ensures.acts
 
 pub returns-in-Append-clause-acts : goal.returns-in-Append-clause-acts
 returns-in-Append-clause-acts g c =
-    acts_to (setting_of c.args.env.now c.args.tables.now c.args.pattern.now) c.args.label c.args.m.now c.count_step.new.self c.args.instr.now (label_after c.args.label c.edit-in-Append.result)
+    acts_to (setting_of c.args.env.now c.args.tables.now c.args.pattern.now) c.args.label c.args.m.now c.count_step.new.self c.args.instr.now
+    (label_after c.args.label c.edit-in-Append.result)
     c.edit-in-Append.new.m.state c.count_step.ensures c.requires.pools c.requires.has c.edit-in-Append.ensures.acts
 
 pub returns-in-Trim-clause-acts : goal.returns-in-Trim-clause-acts
 returns-in-Trim-clause-acts g c =
-    acts_to (setting_of c.args.env.now c.args.tables.now c.args.pattern.now) c.args.label c.args.m.now c.count_step.new.self c.args.instr.now (label_after c.args.label c.edit-in-Trim.result)
+    acts_to (setting_of c.args.env.now c.args.tables.now c.args.pattern.now) c.args.label c.args.m.now c.count_step.new.self c.args.instr.now
+    (label_after c.args.label c.edit-in-Trim.result)
     c.edit-in-Trim.new.m.state c.count_step.ensures c.requires.pools c.requires.has c.edit-in-Trim.ensures.acts
 
 pub returns-in-Chain-clause-acts : goal.returns-in-Chain-clause-acts
 returns-in-Chain-clause-acts g c =
-    acts_to (setting_of c.args.env.now c.args.tables.now c.args.pattern.now) c.args.label c.args.m.now c.count_step.new.self c.args.instr.now (label_after c.args.label c.edit-in-Chain.result)
+    acts_to (setting_of c.args.env.now c.args.tables.now c.args.pattern.now) c.args.label c.args.m.now c.count_step.new.self c.args.instr.now
+    (label_after c.args.label c.edit-in-Chain.result)
     c.edit-in-Chain.new.m.state c.count_step.ensures c.requires.pools c.requires.has c.edit-in-Chain.ensures.acts
 
 pub overflow_cast-to : goal.overflow_cast-to

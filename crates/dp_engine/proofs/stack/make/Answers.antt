@@ -15,7 +15,8 @@ unreachable-requires c =
     pool_never c.in-Err.field-0 (pool_name c.args.k) s (s.room + 128) c.args.zones.now c.args.heap.now.elements c.requires.spec refl
     (object_next c.args.k names c.requires.number c.requires.names c.requires.few) (queue_next c.args.k names c.requires.number c.requires.names c.requires.few)
     c.requires.objects c.requires.queue
-    (subst (λ (n : List ℕ). IsPoolRefused c.in-Err.field-0 n s.count (s.room + 128) s.cache c.args.zones.now c.args.heap.now.elements) c.pool_name.ensures c.in-Err.ensures.refused)
+    (subst (λ (n : List ℕ). IsPoolRefused c.in-Err.field-0 n s.count (s.room + 128) s.cache c.args.zones.now c.args.heap.now.elements) c.pool_name.ensures
+    c.in-Err.ensures.refused)
 
 pub returns-clause-taken : goal.returns-clause-taken
 returns-clause-taken c =
@@ -23,4 +24,5 @@ returns-clause-taken c =
 
 pub returns-clause-size : goal.returns-clause-size
 returns-clause-size c =
-    two_size (rounded (objects_len c.args.spec)) (rounded (queue_len c.args.spec)) _ _ (made_two _ c.args.spec (c.args.spec.room + 128) _ _ _ _ _ _ c.requires.spec refl c.in-Ok.ensures.made)
+    two_size (rounded (objects_len c.args.spec)) (rounded (queue_len c.args.spec)) _ _
+    (made_two _ c.args.spec (c.args.spec.room + 128) _ _ _ _ _ _ c.requires.spec refl c.in-Ok.ensures.made)

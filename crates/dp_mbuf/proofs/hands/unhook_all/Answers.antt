@@ -7,8 +7,10 @@ loop-pool-init c = unhooked_none (λ m. m.pool < 0) _ c.requires (λ m p. omega 
 
 pub loop-pool-preserved : goal.loop-pool-preserved
 loop-pool-preserved c =
-    unhooked_both (λ m. m.pool < c.loop-pool.pool) (λ m. m.pool ≡ c.loop-pool.pool) (λ m. m.pool < c.loop-pool.pool + 1) _ _ _ c.loop-pool.invariant c.unhook_pool.ensures (λ m h. next_pool c.loop-pool.pool m h)
+    unhooked_both (λ m. m.pool < c.loop-pool.pool) (λ m. m.pool ≡ c.loop-pool.pool)
+    (λ m. m.pool < c.loop-pool.pool + 1) _ _ _ c.loop-pool.invariant c.unhook_pool.ensures (λ m h. next_pool c.loop-pool.pool m h)
 
 pub returns : goal.returns
 returns c =
-    unhooked_rest (λ m. m.pool < c.loop-pool.pool) (λ m. Unit {0}) _ _ c.loop-pool.invariant (λ m _. each_pool c.loop-pool.pool _ m c.loop-pool.invariant.are (omega (arith, c.loop-pool-test.false)))
+    unhooked_rest (λ m. m.pool < c.loop-pool.pool) (λ m. Unit {0}) _ _ c.loop-pool.invariant
+    (λ m _. each_pool c.loop-pool.pool _ m c.loop-pool.invariant.are (omega (arith, c.loop-pool-test.false)))

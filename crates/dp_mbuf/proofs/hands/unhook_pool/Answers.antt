@@ -12,10 +12,16 @@ unhook-requires c =
 
 pub loop-index-preserved : goal.loop-index-preserved
 loop-index-preserved c =
-    unhooked_more (λ m. (m.pool ≡ c.args.pool) × (m.index < c.loop-index.index)) (λ m. (m.pool ≡ c.args.pool) × (m.index < c.loop-index.index + 1)) _ _ _ _ _ c.loop-index.invariant c.unhook.ensures.now refl
+    unhooked_more (λ m. (m.pool ≡ c.args.pool) × (m.index < c.loop-index.index)) (λ m. (m.pool ≡ c.args.pool)
+    × (m.index < c.loop-index.index + 1)) _ _ _ _ _ c.loop-index.invariant c.unhook.ensures.now refl
     (λ m h. next_index c.args.pool c.loop-index.index _ m c.new.ensures h)
 
 pub returns : goal.returns
 returns c =
     unhooked_rest (λ m. (m.pool ≡ c.args.pool) × (m.index < c.loop-index.index)) (λ m. m.pool ≡ c.args.pool) _ _ c.loop-index.invariant
-    (λ m e. each_object c.args.pool c.loop-index.index _ m (omega (arith, count_kept _ _ c.args.pool c.loop-index.invariant.specs, c.count-count.ensures, c.loop-index-test.false)) e)
+    (λ m e. each_object c.args.pool c.loop-index.index _ m (omega (
+      arith,
+      count_kept _ _ c.args.pool c.loop-index.invariant.specs,
+      c.count-count.ensures,
+      c.loop-index-test.false,
+    )) e)

@@ -7,4 +7,5 @@ use Rattle.dp_mbuf.proofs.header.write_words.Goals as goal
 pub returns : goal.returns
 returns c =
     c.write_word-2.ensures
-    ∙ (ap (λ o. overwritten o (c.args.at + 2) (then_word c.args.y [])) c.write_word.ensures ∙ words_written c.args.bytes.now c.args.at c.args.x c.args.y c.requires)
+    ∙ (ap (λ o. overwritten o (c.args.at + 2) (then_word c.args.y [])) c.write_word.ensures
+    ∙ words_written c.args.bytes.now c.args.at c.args.x c.args.y c.requires)

@@ -12,7 +12,8 @@ header-place-requires c =
 
 pub loop-i-preserved : goal.loop-i-preserved
 loop-i-preserved c = λ p l b.
-    rw c.header-place.ensures (walk_next (header_at c.args.objects.now) c.loop-i.place c.loop-i.i p (omega (arith, b, c.loop-i-test.true)) (c.loop-i.invariant p l b))
+    rw c.header-place.ensures (walk_next (header_at c.args.objects.now) c.loop-i.place c.loop-i.i p (omega (arith, b, c.loop-i-test.true))
+    (c.loop-i.invariant p l b))
 
 pub returns : goal.returns
 returns c = λ p l b.

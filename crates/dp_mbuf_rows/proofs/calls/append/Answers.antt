@@ -10,8 +10,15 @@ append-requires g c =
     let count = c.segments-count.ensures k has in
     let room = c.tailroom-room.ensures k has in
     let one : c.refs-sharers.result ≡ 1 = search rules in
-    let last : length k ≡ suc (c.segments-count.result - 1) = omega (arith, count) in
-    (k, has, (omega (arith, room), tail_sole (segments_of c.args.m.now.store) k (c.segments-count.result - 1) c.refs-sharers.result last (c.refs-sharers.ensures k has) one))
+    let last : length k ≡ suc (c.segments-count.result - 1) = omega (arith, count) in (
+      k,
+      has,
+      (
+        omega (arith, room),
+        tail_sole (segments_of c.args.m.now.store) k (c.segments-count.result - 1) c.refs-sharers.result last
+            (c.refs-sharers.ensures k has) one,
+      ),
+    )
 
 pub returns-clause-over : goal.returns-clause-over
 returns-clause-over g c =

@@ -2,4 +2,5 @@ use Rattle.dp_mbuf_rows.proofs.RowLemmas.{over_kept, clone_kept}
 use Rattle.dp_mbuf_rows.proofs.calls.copy.Goals as goal
 
 pub returns-clause-over : goal.returns-clause-over
-returns-clause-over g c = over_kept c.args.m.now.store c.clone_of.new.self.store (clone_kept c.args.m.now.store c.clone_of.new.self.store c.args.p.now c.args.pool _ c.alive.ensures c.clone_of.ensures.packets) c.requires.over
+returns-clause-over g c = over_kept c.args.m.now.store c.clone_of.new.self.store
+    (clone_kept c.args.m.now.store c.clone_of.new.self.store c.args.p.now c.args.pool _ c.alive.ensures c.clone_of.ensures.packets) c.requires.over

@@ -2,4 +2,5 @@ use Rattle.dp_mbuf_rows.proofs.RowLemmas.{over_kept, free_kept}
 use Rattle.dp_mbuf_rows.proofs.calls.free.Goals as goal
 
 pub returns-clause-over : goal.returns-clause-over
-returns-clause-over g c = over_kept c.args.m.now.store c.free.new.self.store (free_kept c.args.m.now.store c.free.new.self.store c.args.p c.free.ensures.packets) c.requires
+returns-clause-over g c = over_kept c.args.m.now.store c.free.new.self.store
+    (free_kept c.args.m.now.store c.free.new.self.store c.args.p c.free.ensures.packets) c.requires

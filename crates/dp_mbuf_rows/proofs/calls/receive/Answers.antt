@@ -2,4 +2,5 @@ use Rattle.dp_mbuf_rows.proofs.RowLemmas.{over_kept, receive_kept}
 use Rattle.dp_mbuf_rows.proofs.calls.receive.Goals as goal
 
 pub returns-clause-over : goal.returns-clause-over
-returns-clause-over g c = over_kept c.args.m.now.store c.receive.new.self.store (receive_kept c.args.m.now.store c.receive.new.self.store c.args.pool c.args.bytes.now _ c.receive.ensures.packets) c.requires.over
+returns-clause-over g c = over_kept c.args.m.now.store c.receive.new.self.store
+    (receive_kept c.args.m.now.store c.receive.new.self.store c.args.pool c.args.bytes.now _ c.receive.ensures.packets) c.requires.over

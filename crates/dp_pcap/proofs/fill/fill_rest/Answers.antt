@@ -8,7 +8,8 @@ loop-at-preserved g c =
     let pulled = c.in_ok-n.ensures in
     record {
       within = omega (arith, pulled.bound);
-      bytes = rw (take_more-put_mid c.loop-at.at (length c.loop-at.buf - c.loop-at.at) c.in_ok-n.n c.loop-at.buf c.pull.new.buf c.loop-at.invariant.within pulled.bound)
+      bytes = rw (take_more-put_mid c.loop-at.at (length c.loop-at.buf - c.loop-at.at) c.in_ok-n.n c.loop-at.buf c.pull.new.buf c.loop-at.invariant.within
+          pulled.bound)
           (Consumes-trans _ _ _ _ _ c.loop-at.invariant.bytes pulled.bytes.0);
       sound = λ h. search rules;
       untouched = λ e. absurd (omega arith);

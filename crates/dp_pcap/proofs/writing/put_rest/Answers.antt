@@ -16,5 +16,6 @@ loop-at-preserved g c =
       stays = λ h. search rules;
       counted = omega (arith, pushed.counted, pushed.some (search rules), c.loop-at.invariant.counted);
       failures = omega arith;
-      offered = more_offered _ _ _ c.args.piece.now _ c.loop-at.at _ c.loop-at.invariant.offered pushed.offered (between_to_end c.args.piece.now c.loop-at.at (length c.args.piece.now) (omega arith)) (omega (arith, pushed.some (search rules)));
+      offered = more_offered _ _ _ c.args.piece.now _ c.loop-at.at _ c.loop-at.invariant.offered pushed.offered
+          (between_to_end c.args.piece.now c.loop-at.at (length c.args.piece.now) (omega arith)) (omega (arith, pushed.some (search rules)));
     }

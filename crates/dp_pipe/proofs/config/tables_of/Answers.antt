@@ -6,8 +6,10 @@ use Rattle.dp_pipe.proofs.config.tables_of.Goals as goal
 pub returns-in_err-filled-clause-err : goal.returns-in_err-filled-clause-err
 returns-in_err-filled-clause-err c =
     let p = err_from_is_err_and c.from_residual.result c.from_residual.ensures.1 in
-    rw (p.1, p.2) (table_fault c.args.tables.now c.loop-place.filled_tables.items c.loop-place.place c.index-tables-place.result c.in_err-filled.field-0.0 c.loop-place-test.true (sym c.index-tables-place.is) c.loop-place.invariant c.in_err-filled.ensures.err)
+    rw (p.1, p.2) (table_fault c.args.tables.now c.loop-place.filled_tables.items c.loop-place.place c.index-tables-place.result c.in_err-filled.field-0.0
+    c.loop-place-test.true (sym c.index-tables-place.is) c.loop-place.invariant c.in_err-filled.ensures.err)
 
 pub loop-place-preserved : goal.loop-place-preserved
 loop-place-preserved c =
-    rw c.in_ok-push.ensures.items (table_more c.args.tables.now c.loop-place.filled_tables.items c.loop-place.place c.index-tables-place.result c.in_ok-filled.field-0 c.loop-place-test.true (sym c.index-tables-place.is) c.loop-place.invariant c.in_ok-filled.ensures.ok)
+    rw c.in_ok-push.ensures.items (table_more c.args.tables.now c.loop-place.filled_tables.items c.loop-place.place c.index-tables-place.result
+    c.in_ok-filled.field-0 c.loop-place-test.true (sym c.index-tables-place.is) c.loop-place.invariant c.in_ok-filled.ensures.ok)

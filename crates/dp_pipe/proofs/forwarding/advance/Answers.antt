@@ -12,7 +12,8 @@ returns-in-Ok-clause-step g c = record {
   read = c.next_turn.ensures.turn;
   in_range = c.next_turn.ensures.in_range;
   moves = c.next_turn.ensures.source;
-  follows = follows_drained _ _ _ _ _ _ _ _ _ _ (c.in-Ok-Record.is ∙ ap Ok c.in-Ok-Record.field-0-is) c.requires.state (drained_ok c.drain_all.result _ c.in-Ok.is c.drain_all.ensures.ok);
+  follows = follows_drained _ _ _ _ _ _ _ _ _ _ (c.in-Ok-Record.is ∙ ap Ok c.in-Ok-Record.field-0-is) c.requires.state
+      (drained_ok c.drain_all.result _ c.in-Ok.is c.drain_all.ensures.ok);
 }
 
 pub returns-in-Err-drain_all-clause-step : goal.returns-in-Err-drain_all-clause-step
@@ -22,7 +23,8 @@ returns-in-Err-drain_all-clause-step g c = record {
   read = c.next_turn.ensures.turn;
   in_range = c.next_turn.ensures.in_range;
   moves = c.next_turn.ensures.source;
-  follows = follows_stopped _ _ _ _ _ _ _ _ _ _ c.in-Err-drain_all.failed (c.in-Ok-Record.is ∙ ap Ok c.in-Ok-Record.field-0-is) c.requires.state (stopped_err c.drain_all.result _ _ c.in-Err-drain_all.is c.drain_all.ensures.err);
+  follows = follows_stopped _ _ _ _ _ _ _ _ _ _ c.in-Err-drain_all.failed (c.in-Ok-Record.is
+      ∙ ap Ok c.in-Ok-Record.field-0-is) c.requires.state (stopped_err c.drain_all.result _ _ c.in-Err-drain_all.is c.drain_all.ensures.err);
 }
 
 pub returns-in-Ok-End-clause-step : goal.returns-in-Ok-End-clause-step

@@ -14,7 +14,10 @@ returns-then-is_held-clause-turn g c =
     elim m.branch [
       | in-Some w ↦
           let held = found _ _ _ _ m.len w.in-Some.time w.in-Some.len w.source-is (ap g.R.Feed.at_hand w.r-is) w.len-is w.in-Some.ensures.some in
-          read_from c.args.port c.args.engine.now c.turn-turn.new.self _ _ _ _ _ _ (Ok (Record m.len.0 m.len.1)) w.source-is (ap g.R.Feed.remaining w.r-is) (lent c.args.port c.args.engine.now c.turn-turn.new.self m.source _ (g.R.Feed.remaining m.r) _ (g.R.Feed.at_hand m.r) c.bytes_of.result.now m.len.0 m.len.1 held (c.pass_record.ensures.continues m.len.0 held) (c.bytes_of.ensures.held (ap (λ (x : Time × ℕ × Bool). x.2) w.len-is)).0 (record {
+          read_from c.args.port c.args.engine.now c.turn-turn.new.self _ _ _ _ _ _ (Ok (Record m.len.0 m.len.1)) w.source-is (ap g.R.Feed.remaining w.r-is)
+          (lent c.args.port c.args.engine.now c.turn-turn.new.self m.source _ (g.R.Feed.remaining m.r) _ (g.R.Feed.at_hand m.r) c.bytes_of.result.now
+          m.len.0 m.len.1 held (c.pass_record.ensures.continues m.len.0 held) (c.bytes_of.ensures.held (ap (λ (x : Time × ℕ × Bool). x.2) w.len-is)).0
+          (record {
             outcome = outcome_of c.turn-turn.result.outcome;
             runs = c.turn-turn.result.runs;
             told = told;

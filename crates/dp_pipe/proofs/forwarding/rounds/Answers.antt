@@ -59,13 +59,16 @@ loop-k-preserved g c =
       buf = buf ∙ inv.buf;
       goes = λ e0 olds held read start.
           let (now, along) = inv.goes e0 olds held read start in
-          round_ok c.args.unit e0 c.loop-k.engine c.round.new.engine olds _ held _ c.round.new.inputs c.loop-k.k c.round.result c.in_ok-round.was (c.round.ensures.goes e0 olds held now c.loop-k.k along);
+          round_ok c.args.unit e0 c.loop-k.engine c.round.new.engine olds _ held _ c.round.new.inputs c.loop-k.k c.round.result c.in_ok-round.was
+          (c.round.ensures.goes e0 olds held now c.loop-k.k along);
       readers = all_then g.R.Feed.is_broken g.R.Feed.failures (λ q. false) c.args.ins.now c.loop-k.ins c.round.new.ins inv.ins inv.readers
-          (subst (λ x. AllFared g.R.Feed.is_broken g.R.Feed.failures (failed_reader x) c.loop-k.ins c.round.new.ins) c.in_ok-round.was c.round.ensures.fared_readers);
+          (subst (λ x. AllFared g.R.Feed.is_broken g.R.Feed.failures (failed_reader x) c.loop-k.ins c.round.new.ins) c.in_ok-round.was
+          c.round.ensures.fared_readers);
       writers = λ sound.
           let before = still_sound g.W.Sink.is_broken g.W.Sink.failures c.args.outs.now c.loop-k.outs inv.outs (inv.writers sound) sound in
           all_then g.W.Sink.is_broken g.W.Sink.failures (λ q. false) c.args.outs.now c.loop-k.outs c.round.new.outs inv.outs (inv.writers sound)
-          (subst (λ x. AllFared g.W.Sink.is_broken g.W.Sink.failures (failed_writer x) c.loop-k.outs c.round.new.outs) c.in_ok-round.was (c.round.ensures.fared_writers before));
+          (subst (λ x. AllFared g.W.Sink.is_broken g.W.Sink.failures (failed_writer x) c.loop-k.outs c.round.new.outs) c.in_ok-round.was
+          (c.round.ensures.fared_writers before));
     }
 
 pub returns-then-not-is_any_open-clause-fared_readers : goal.returns-then-not-is_any_open-clause-fared_readers
@@ -79,15 +82,18 @@ returns-in_err-round-clause-fared_readers g c =
     let inv = c.loop-k.invariant in
     let gone : c.from_residual.result ≡ Err c.in_err-round.field-0.0 = search rules in
     all_then g.R.Feed.is_broken g.R.Feed.failures (failed_reader c.from_residual.result) c.args.ins.now c.loop-k.ins c.round.new.ins inv.ins inv.readers
-    (subst (λ x. AllFared g.R.Feed.is_broken g.R.Feed.failures (failed_reader x) c.loop-k.ins c.round.new.ins) (c.in_err-round.was ∙ sym gone) c.round.ensures.fared_readers)
+    (subst (λ x. AllFared g.R.Feed.is_broken g.R.Feed.failures (failed_reader x) c.loop-k.ins c.round.new.ins) (c.in_err-round.was
+    ∙ sym gone) c.round.ensures.fared_readers)
 
 pub returns-in_err-round-clause-fared_writers : goal.returns-in_err-round-clause-fared_writers
 returns-in_err-round-clause-fared_writers g c sound =
     let inv = c.loop-k.invariant in
     let gone : c.from_residual.result ≡ Err c.in_err-round.field-0.0 = search rules in
     let before = still_sound g.W.Sink.is_broken g.W.Sink.failures c.args.outs.now c.loop-k.outs inv.outs (inv.writers sound) sound in
-    all_then g.W.Sink.is_broken g.W.Sink.failures (failed_writer c.from_residual.result) c.args.outs.now c.loop-k.outs c.round.new.outs inv.outs (inv.writers sound)
-    (subst (λ x. AllFared g.W.Sink.is_broken g.W.Sink.failures (failed_writer x) c.loop-k.outs c.round.new.outs) (c.in_err-round.was ∙ sym gone) (c.round.ensures.fared_writers before))
+    all_then g.W.Sink.is_broken g.W.Sink.failures (failed_writer c.from_residual.result) c.args.outs.now c.loop-k.outs c.round.new.outs inv.outs
+    (inv.writers sound)
+    (subst (λ x. AllFared g.W.Sink.is_broken g.W.Sink.failures (failed_writer x) c.loop-k.outs c.round.new.outs) (c.in_err-round.was
+    ∙ sym gone) (c.round.ensures.fared_writers before))
 
 pub returns-clause-fared_readers : goal.returns-clause-fared_readers
 returns-clause-fared_readers g c = c.loop-k.invariant.readers
@@ -99,7 +105,8 @@ pub returns-in_err-round-clause-goes : goal.returns-in_err-round-clause-goes
 returns-in_err-round-clause-goes g c e0 olds held read start =
     let (now, along) = c.loop-k.invariant.goes e0 olds held read start in
     let gone : c.from_residual.result ≡ Err c.in_err-round.field-0.0 = search rules in
-    rw gone (round_err c.args.unit e0 c.loop-k.engine c.round.new.engine olds _ held _ c.round.new.inputs c.loop-k.k c.round.result c.in_err-round.field-0.0 c.in_err-round.was (c.round.ensures.goes e0 olds held now c.loop-k.k along))
+    rw gone (round_err c.args.unit e0 c.loop-k.engine c.round.new.engine olds _ held _ c.round.new.inputs c.loop-k.k c.round.result c.in_err-round.field-0.0
+    c.in_err-round.was (c.round.ensures.goes e0 olds held now c.loop-k.k along))
 
 pub returns-clause-goes : goal.returns-clause-goes
 returns-clause-goes g c e0 olds held read start =

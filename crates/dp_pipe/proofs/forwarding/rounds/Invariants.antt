@@ -10,7 +10,8 @@ invariant-loop-k g l = record {
   ins : length l.ins ≡ length l.fn.ins;
   outs : length l.outs ≡ length l.fn.outs;
   buf : length l.buf ≡ length l.fn.buf;
-  goes : (e0 : EngineState) (olds held : List (Option (List ℕ))) (read : List Input) → Along l.unit e0 l.fn.engine olds (map g.R.Feed.remaining l.fn.ins) held (map g.W.Sink.contents l.fn.outs) l.fn.inputs read 0 0
+  goes : (e0 : EngineState) (olds held : List (Option (List ℕ))) (read : List Input) →
+      Along l.unit e0 l.fn.engine olds (map g.R.Feed.remaining l.fn.ins) held (map g.W.Sink.contents l.fn.outs) l.fn.inputs read 0 0
       → (now : List Input) × Along l.unit e0 l.engine olds (map g.R.Feed.remaining l.ins) held (map g.W.Sink.contents l.outs) l.inputs now l.k 0;
   readers : AllFared g.R.Feed.is_broken g.R.Feed.failures (λ q. false) l.fn.ins l.ins;
   writers : AllSound g.W.Sink.is_broken l.fn.outs → AllFared g.W.Sink.is_broken g.W.Sink.failures (λ q. false) l.fn.outs l.outs;

@@ -6,4 +6,5 @@ use Rattle.dp_pipe.proofs.keys.is_tables.Goals as goal
 
 pub returns-then-is_array : goal.returns-then-is_array
 returns-then-is_array c =
-    all_elements is_table (view c.args.value.now) c.elements_of.result.now c.are_tables.result (sym c.is_array.ensures ∙ c.if-is_array.true) c.elements_of.ensures c.are_tables.ensures
+    all_elements is_table (view c.args.value.now) c.elements_of.result.now c.are_tables.result (sym c.is_array.ensures
+    ∙ c.if-is_array.true) c.elements_of.ensures c.are_tables.ensures

@@ -6,4 +6,5 @@ use Rattle.dp_pipe.proofs.keys.is_texts.Goals as goal
 
 pub returns-then-is_array : goal.returns-then-is_array
 returns-then-is_array c =
-    all_elements is_text (view c.args.value.now) c.elements_of.result.now c.are_texts.result (sym c.is_array.ensures ∙ c.if-is_array.true) c.elements_of.ensures c.are_texts.ensures
+    all_elements is_text (view c.args.value.now) c.elements_of.result.now c.are_texts.result (sym c.is_array.ensures
+    ∙ c.if-is_array.true) c.elements_of.ensures c.are_texts.ensures

@@ -10,13 +10,15 @@ use Rattle.dp_pipe.proofs.loading.load.Goals as goal
 
 pub load_nodes-requires-clause-few_ports : goal.load_nodes-requires-clause-few_ports
 load_nodes-requires-clause-few_ports g c =
-    let same : length c.in_ok-config.config.ports.items ≡ length c.in_ok-config.config.env.ports = ports_of c.in_ok-config.ensures.ok.setup c.in_ok-config.config c.in_ok-config.ensures.ok.config in
+    let same : length c.in_ok-config.config.ports.items ≡ length c.in_ok-config.config.env.ports =
+    ports_of c.in_ok-config.ensures.ok.setup c.in_ok-config.config c.in_ok-config.ensures.ok.config in
     let most : length c.in_ok-config.config.env.ports ≤ 8 = (few c.in_ok-config.config.env c.within_limits.ensures).0 in
     rw c.deref.ensures.value (omega (arith, same, most))
 
 pub load_nodes-requires-clause-few_rings : goal.load_nodes-requires-clause-few_rings
 load_nodes-requires-clause-few_rings g c =
-    let same : length c.in_ok-config.config.rings.items ≡ length c.in_ok-config.config.env.rings = rings_of c.in_ok-config.ensures.ok.setup c.in_ok-config.config c.in_ok-config.ensures.ok.config in
+    let same : length c.in_ok-config.config.rings.items ≡ length c.in_ok-config.config.env.rings =
+    rings_of c.in_ok-config.ensures.ok.setup c.in_ok-config.config c.in_ok-config.ensures.ok.config in
     let most : length c.in_ok-config.config.env.rings ≤ 8 = (few c.in_ok-config.config.env c.within_limits.ensures).1 in
     rw c.deref-2.ensures.value (omega (arith, same, most))
 
@@ -24,7 +26,8 @@ pub returns-in_err-nodes-clause-fails : goal.returns-in_err-nodes-clause-fails
 returns-in_err-nodes-clause-fails g c =
     let fails = rw (c.deref.ensures.value, c.deref-2.ensures.value) at c.in_err-nodes.ensures.fails in
     let p = err_from_is_err_and c.from_residual-in_err-nodes.result c.from_residual-in_err-nodes.ensures.1 in
-    rw (p.1, p.2) (bad_node (g.F.Files.known c.args.files.now) c.args.how c.args.text.now c.in_ok-config.config c.in_err-nodes.field-0.0 c.in_ok-config.ensures.ok fails)
+    rw (p.1, p.2) (bad_node (g.F.Files.known c.args.files.now) c.args.how c.args.text.now c.in_ok-config.config c.in_err-nodes.field-0.0
+    c.in_ok-config.ensures.ok fails)
 
 pub new-requires-clause-nodes : goal.new-requires-clause-nodes
 new-requires-clause-nodes g c =

@@ -7,5 +7,6 @@ use Rattle.dp_pipe.proofs.nodes.load_nodes.Given as goal
 abbrev pub invariant-loop-place : goal.invariant-loop-place
 invariant-loop-place g l = record {
   stays : g.F.Files.known l.files ≡ g.F.Files.known l.fn.files;
-  loaded : AreLoaded (g.F.Files.known l.fn.files) l.env (take l.place (nodes_of l.how (map (λ port. node_names port.files) l.ports) (map node_names l.rings))) l.nodes.items;
+  loaded : AreLoaded (g.F.Files.known l.fn.files) l.env (take l.place (nodes_of l.how (map (λ port. node_names port.files) l.ports) (map node_names l.rings)))
+      l.nodes.items;
 }

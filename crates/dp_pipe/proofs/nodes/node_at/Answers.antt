@@ -16,4 +16,5 @@ pub returns-else-place-ports : goal.returns-else-place-ports
 returns-else-place-ports c =
     let split : c.args.place ≡ length c.args.ports.now + (c.args.place - length c.args.ports.now) = omega arith in
     let below : c.args.place - length c.args.ports.now < length c.args.rings.now = omega (arith, c.requires.place) in
-    λ how. ring_at how c.args.ports.now c.args.rings.now c.args.place (c.args.place - length c.args.ports.now) c.index-rings-ring.result split below c.index-rings-ring.is
+    λ how. ring_at how c.args.ports.now c.args.rings.now c.args.place (c.args.place - length c.args.ports.now) c.index-rings-ring.result split below
+    c.index-rings-ring.is

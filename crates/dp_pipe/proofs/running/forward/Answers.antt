@@ -13,7 +13,8 @@ use Rattle.dp_pipe.proofs.running.forward.Goals as goal
 pub returns-in_err-read_headers-clause-forward : goal.returns-in_err-read_headers-clause-forward
 returns-in_err-read_headers-clause-forward g c =
     let gone : c.from_residual.result ≡ Err c.in_err-read_headers.field-0.0 = search rules in
-    rw gone (inl (fail_read c.args.engine.now (map g.R.Feed.remaining c.args.ins.now) (map g.R.Feed.remaining c.read_headers.new.ins) (map g.W.Sink.contents c.args.outs.now) c.read_headers.new.inputs.items
+    rw gone (inl (fail_read c.args.engine.now (map g.R.Feed.remaining c.args.ins.now) (map g.R.Feed.remaining c.read_headers.new.ins)
+    (map g.W.Sink.contents c.args.outs.now) c.read_headers.new.inputs.items
     c.in_err-read_headers.field-0.0 c.in_err-read_headers.ensures.begun c.in_err-read_headers.ensures.err))
 
 pub returns-in_err-read_headers-clause-many : goal.returns-in_err-read_headers-clause-many
@@ -25,8 +26,11 @@ returns-in_err-put_headers-clause-forward g c =
     let here : c.as_slice.result.now ≡ c.read_headers.new.inputs.items = search rules in
     let stand = c.in_ok-read_headers.ensures.ok in
     let cause = rw (c.unit_for-unit.ensures, here) at c.in_err-put_headers.ensures.err in
-    rw gone (inl (fail_write c.args.engine.now (map g.R.Feed.remaining c.args.ins.now) (map g.R.Feed.remaining c.read_headers.new.ins) (map g.W.Sink.contents c.args.outs.now) (map g.W.Sink.contents c.put_headers.new.outs)
-    c.read_headers.new.inputs.items c.in_err-put_headers.field-0.0 (c.in_ok-read_headers.ensures.all ∙ c.requires.readers) (are_read (map g.R.Feed.remaining c.args.ins.now) (map g.R.Feed.remaining c.read_headers.new.ins) c.read_headers.new.inputs.items (all_begun c.read_headers.new.inputs.items) stand)
+    rw gone (inl (fail_write c.args.engine.now (map g.R.Feed.remaining c.args.ins.now) (map g.R.Feed.remaining c.read_headers.new.ins)
+    (map g.W.Sink.contents c.args.outs.now) (map g.W.Sink.contents c.put_headers.new.outs)
+    c.read_headers.new.inputs.items c.in_err-put_headers.field-0.0 (c.in_ok-read_headers.ensures.all
+    ∙ c.requires.readers) (are_read (map g.R.Feed.remaining c.args.ins.now) (map g.R.Feed.remaining c.read_headers.new.ins)
+    c.read_headers.new.inputs.items (all_begun c.read_headers.new.inputs.items) stand)
     c.read_headers.ensures.begun cause))
 
 pub rounds-requires-clause-along : goal.rounds-requires-clause-along
@@ -34,14 +38,17 @@ rounds-requires-clause-along g c =
     let here : c.as_mut_slice.result.now ≡ c.read_headers.new.inputs.items = search rules in
     let unread : c.as_slice.result.now ≡ c.read_headers.new.inputs.items = search rules in
     let mids = map g.W.Sink.contents c.put_headers.new.outs in
-    let many : length mids ≡ length c.args.engine.now.setting.env.ports = length-map c.put_headers.new.outs g.W.Sink.contents ∙ c.put_headers.ensures.many ∙ c.requires.writers in
+    let many : length mids ≡ length c.args.engine.now.setting.env.ports = length-map c.put_headers.new.outs g.W.Sink.contents ∙ c.put_headers.ensures.many
+    ∙ c.requires.writers in
     rw here (
       c.args.engine.now,
       map g.R.Feed.remaining c.args.ins.now,
       mids,
       all_begun c.read_headers.new.inputs.items,
-      along_none c.unit_for-unit.result c.args.engine.now (map g.R.Feed.remaining c.args.ins.now) (map g.R.Feed.remaining c.read_headers.new.ins) mids c.read_headers.new.inputs.items c.requires.first many
-          (c.in_ok-read_headers.ensures.all ∙ c.requires.readers) (rw unread at c.unit_for-unit.ensures) c.in_ok-read_headers.ensures.ok c.read_headers.ensures.begun,
+      along_none c.unit_for-unit.result c.args.engine.now (map g.R.Feed.remaining c.args.ins.now) (map g.R.Feed.remaining c.read_headers.new.ins) mids
+          c.read_headers.new.inputs.items c.requires.first many
+          (c.in_ok-read_headers.ensures.all ∙ c.requires.readers) (rw unread at c.unit_for-unit.ensures) c.in_ok-read_headers.ensures.ok
+          c.read_headers.ensures.begun,
     )
 
 pub returns-clause-forward : goal.returns-clause-forward
@@ -49,25 +56,38 @@ returns-clause-forward g c =
     let here : c.as_mut_slice.result.now ≡ c.read_headers.new.inputs.items = search rules in
     let unread : c.as_slice.result.now ≡ c.read_headers.new.inputs.items = search rules in
     let mids = map g.W.Sink.contents c.put_headers.new.outs in
-    let many : length mids ≡ length c.args.engine.now.setting.env.ports = length-map c.put_headers.new.outs g.W.Sink.contents ∙ c.put_headers.ensures.many ∙ c.requires.writers in
+    let many : length mids ≡ length c.args.engine.now.setting.env.ports = length-map c.put_headers.new.outs g.W.Sink.contents ∙ c.put_headers.ensures.many
+    ∙ c.requires.writers in
     let unit_is = rw unread at c.unit_for-unit.ensures in
-    let along = along_none c.unit_for-unit.result c.args.engine.now (map g.R.Feed.remaining c.args.ins.now) (map g.R.Feed.remaining c.read_headers.new.ins) mids c.read_headers.new.inputs.items c.requires.first many
+    let along = along_none c.unit_for-unit.result c.args.engine.now (map g.R.Feed.remaining c.args.ins.now) (map g.R.Feed.remaining c.read_headers.new.ins)
+    mids c.read_headers.new.inputs.items c.requires.first many
     (c.in_ok-read_headers.ensures.all ∙ c.requires.readers) unit_is c.in_ok-read_headers.ensures.ok c.read_headers.ensures.begun in
-    let goes = c.rounds.ensures.goes c.args.engine.now (map g.R.Feed.remaining c.args.ins.now) mids (all_begun c.read_headers.new.inputs.items) (rw here along) in
+    let goes = c.rounds.ensures.goes c.args.engine.now (map g.R.Feed.remaining c.args.ins.now) mids (all_begun c.read_headers.new.inputs.items)
+    (rw here along) in
     let len : c.read_headers.new.inputs.len ≡ length c.rounds.new.inputs = omega (arith, c.rounds.ensures.many, c.as_mut_slice.ensures.len) in
     let same = back c.read_headers.new.inputs.len c.rounds.new.inputs (drop (length c.rounds.new.inputs) c.read_headers.new.inputs.items) len in
-    rw same (inr (record { unit = c.unit_for-unit.result; mids = mids; mids_many = many ∙ sym c.requires.writers ∙ sym (length-map c.args.outs.now g.W.Sink.contents); headers = c.in_ok-put_headers.ensures.ok; rounds = goes }))
+    rw same (inr (record {
+      unit = c.unit_for-unit.result;
+      mids = mids;
+      mids_many = many ∙ sym c.requires.writers
+          ∙ sym (length-map c.args.outs.now g.W.Sink.contents);
+      headers = c.in_ok-put_headers.ensures.ok;
+      rounds = goes;
+    }))
 
 pub returns-clause-setting : goal.returns-clause-setting
 returns-clause-setting g c =
     let here : c.as_mut_slice.result.now ≡ c.read_headers.new.inputs.items = search rules in
     let unread : c.as_slice.result.now ≡ c.read_headers.new.inputs.items = search rules in
     let mids = map g.W.Sink.contents c.put_headers.new.outs in
-    let many : length mids ≡ length c.args.engine.now.setting.env.ports = length-map c.put_headers.new.outs g.W.Sink.contents ∙ c.put_headers.ensures.many ∙ c.requires.writers in
+    let many : length mids ≡ length c.args.engine.now.setting.env.ports = length-map c.put_headers.new.outs g.W.Sink.contents ∙ c.put_headers.ensures.many
+    ∙ c.requires.writers in
     let unit_is = rw unread at c.unit_for-unit.ensures in
-    let along = along_none c.unit_for-unit.result c.args.engine.now (map g.R.Feed.remaining c.args.ins.now) (map g.R.Feed.remaining c.read_headers.new.ins) mids c.read_headers.new.inputs.items c.requires.first many
+    let along = along_none c.unit_for-unit.result c.args.engine.now (map g.R.Feed.remaining c.args.ins.now) (map g.R.Feed.remaining c.read_headers.new.ins)
+    mids c.read_headers.new.inputs.items c.requires.first many
     (c.in_ok-read_headers.ensures.all ∙ c.requires.readers) unit_is c.in_ok-read_headers.ensures.ok c.read_headers.ensures.begun in
-    let goes = c.rounds.ensures.goes c.args.engine.now (map g.R.Feed.remaining c.args.ins.now) mids (all_begun c.read_headers.new.inputs.items) (rw here along) in
+    let goes = c.rounds.ensures.goes c.args.engine.now (map g.R.Feed.remaining c.args.ins.now) mids (all_begun c.read_headers.new.inputs.items)
+    (rw here along) in
     (stays_rounds c.unit_for-unit.result c.args.engine.now c.rounds.new.engine _ _ _ _ c.rounds.new.inputs c.rounds.result goes).setting
 
 pub returns-clause-counted : goal.returns-clause-counted
@@ -75,17 +95,21 @@ returns-clause-counted g c =
     let here : c.as_mut_slice.result.now ≡ c.read_headers.new.inputs.items = search rules in
     let unread : c.as_slice.result.now ≡ c.read_headers.new.inputs.items = search rules in
     let mids = map g.W.Sink.contents c.put_headers.new.outs in
-    let many : length mids ≡ length c.args.engine.now.setting.env.ports = length-map c.put_headers.new.outs g.W.Sink.contents ∙ c.put_headers.ensures.many ∙ c.requires.writers in
+    let many : length mids ≡ length c.args.engine.now.setting.env.ports = length-map c.put_headers.new.outs g.W.Sink.contents ∙ c.put_headers.ensures.many
+    ∙ c.requires.writers in
     let unit_is = rw unread at c.unit_for-unit.ensures in
-    let along = along_none c.unit_for-unit.result c.args.engine.now (map g.R.Feed.remaining c.args.ins.now) (map g.R.Feed.remaining c.read_headers.new.ins) mids c.read_headers.new.inputs.items c.requires.first many
+    let along = along_none c.unit_for-unit.result c.args.engine.now (map g.R.Feed.remaining c.args.ins.now) (map g.R.Feed.remaining c.read_headers.new.ins)
+    mids c.read_headers.new.inputs.items c.requires.first many
     (c.in_ok-read_headers.ensures.all ∙ c.requires.readers) unit_is c.in_ok-read_headers.ensures.ok c.read_headers.ensures.begun in
-    let goes = c.rounds.ensures.goes c.args.engine.now (map g.R.Feed.remaining c.args.ins.now) mids (all_begun c.read_headers.new.inputs.items) (rw here along) in
+    let goes = c.rounds.ensures.goes c.args.engine.now (map g.R.Feed.remaining c.args.ins.now) mids (all_begun c.read_headers.new.inputs.items)
+    (rw here along) in
     (stays_rounds c.unit_for-unit.result c.args.engine.now c.rounds.new.engine _ _ _ _ c.rounds.new.inputs c.rounds.result goes).each ∙ c.requires.counted
 
 pub returns-in_err-read_headers-clause-fared_readers : goal.returns-in_err-read_headers-clause-fared_readers
 returns-in_err-read_headers-clause-fared_readers g c =
     let gone : c.from_residual.result ≡ Err c.in_err-read_headers.field-0.0 = search rules in
-    subst (λ x. AllFared g.R.Feed.is_broken g.R.Feed.failures (failed_reader x) c.args.ins.now c.read_headers.new.ins) (c.in_err-read_headers.was ∙ sym gone) c.read_headers.ensures.fared
+    subst (λ x. AllFared g.R.Feed.is_broken g.R.Feed.failures (failed_reader x) c.args.ins.now c.read_headers.new.ins) (c.in_err-read_headers.was
+    ∙ sym gone) c.read_headers.ensures.fared
 
 pub returns-in_err-read_headers-clause-fared_writers : goal.returns-in_err-read_headers-clause-fared_writers
 returns-in_err-read_headers-clause-fared_writers g c =
@@ -95,14 +119,16 @@ returns-in_err-read_headers-clause-fared_writers g c =
 pub returns-in_err-put_headers-clause-fared_readers : goal.returns-in_err-put_headers-clause-fared_readers
 returns-in_err-put_headers-clause-fared_readers g c =
     let gone : c.from_residual-in_err-put_headers.result ≡ Err c.in_err-put_headers.field-0.0 = search rules in
-    let read = subst (λ x. AllFared g.R.Feed.is_broken g.R.Feed.failures (failed_reader x) c.args.ins.now c.read_headers.new.ins) c.in_ok-read_headers.was c.read_headers.ensures.fared in
+    let read = subst (λ x. AllFared g.R.Feed.is_broken g.R.Feed.failures (failed_reader x) c.args.ins.now c.read_headers.new.ins) c.in_ok-read_headers.was
+    c.read_headers.ensures.fared in
     rw gone (all_then g.R.Feed.is_broken g.R.Feed.failures _ c.args.ins.now c.read_headers.new.ins c.read_headers.new.ins c.read_headers.ensures.many read
     (all_same g.R.Feed.is_broken g.R.Feed.failures _ c.read_headers.new.ins (no_reader _ _ _ c.in_err-put_headers.field-0.0 c.in_err-put_headers.ensures.err)))
 
 pub returns-in_err-put_headers-clause-fared_writers : goal.returns-in_err-put_headers-clause-fared_writers
 returns-in_err-put_headers-clause-fared_writers g c =
     let gone : c.from_residual-in_err-put_headers.result ≡ Err c.in_err-put_headers.field-0.0 = search rules in
-    subst (λ x. AllFared g.W.Sink.is_broken g.W.Sink.failures (failed_writer x) c.args.outs.now c.put_headers.new.outs) (c.in_err-put_headers.was ∙ sym gone) c.put_headers.ensures.fared
+    subst (λ x. AllFared g.W.Sink.is_broken g.W.Sink.failures (failed_writer x) c.args.outs.now c.put_headers.new.outs) (c.in_err-put_headers.was
+    ∙ sym gone) c.put_headers.ensures.fared
 
 pub returns-clause-sound : goal.returns-clause-sound
 returns-clause-sound g c ok =
@@ -111,16 +137,21 @@ returns-clause-sound g c ok =
     let read = c.read_headers.ensures.sound (rw c.in_ok-read_headers.was refl) in
     let written = c.put_headers.ensures.sound (rw c.in_ok-put_headers.was refl) in (
       sound_readers g.R.Feed.is_broken g.R.Feed.failures c.rounds.result c.read_headers.new.ins c.rounds.new.ins readers c.rounds.ensures.fared_readers read ok,
-      sound_writers g.W.Sink.is_broken g.W.Sink.failures c.rounds.result c.put_headers.new.outs c.rounds.new.outs writers (c.rounds.ensures.fared_writers written) written ok,
+      sound_writers g.W.Sink.is_broken g.W.Sink.failures c.rounds.result c.put_headers.new.outs c.rounds.new.outs writers
+          (c.rounds.ensures.fared_writers written) written ok,
     )
 
 pub returns-clause-fared_readers : goal.returns-clause-fared_readers
 returns-clause-fared_readers g c =
-    let read = subst (λ x. AllFared g.R.Feed.is_broken g.R.Feed.failures (failed_reader x) c.args.ins.now c.read_headers.new.ins) c.in_ok-read_headers.was c.read_headers.ensures.fared in
-    all_then g.R.Feed.is_broken g.R.Feed.failures (failed_reader c.rounds.result) c.args.ins.now c.read_headers.new.ins c.rounds.new.ins c.read_headers.ensures.many read c.rounds.ensures.fared_readers
+    let read = subst (λ x. AllFared g.R.Feed.is_broken g.R.Feed.failures (failed_reader x) c.args.ins.now c.read_headers.new.ins) c.in_ok-read_headers.was
+    c.read_headers.ensures.fared in
+    all_then g.R.Feed.is_broken g.R.Feed.failures (failed_reader c.rounds.result) c.args.ins.now c.read_headers.new.ins c.rounds.new.ins
+    c.read_headers.ensures.many read c.rounds.ensures.fared_readers
 
 pub returns-clause-fared_writers : goal.returns-clause-fared_writers
 returns-clause-fared_writers g c =
-    let written = subst (λ x. AllFared g.W.Sink.is_broken g.W.Sink.failures (failed_writer x) c.args.outs.now c.put_headers.new.outs) c.in_ok-put_headers.was c.put_headers.ensures.fared in
-    all_then g.W.Sink.is_broken g.W.Sink.failures (failed_writer c.rounds.result) c.args.outs.now c.put_headers.new.outs c.rounds.new.outs c.put_headers.ensures.many written
+    let written = subst (λ x. AllFared g.W.Sink.is_broken g.W.Sink.failures (failed_writer x) c.args.outs.now c.put_headers.new.outs) c.in_ok-put_headers.was
+    c.put_headers.ensures.fared in
+    all_then g.W.Sink.is_broken g.W.Sink.failures (failed_writer c.rounds.result) c.args.outs.now c.put_headers.new.outs c.rounds.new.outs
+    c.put_headers.ensures.many written
     (c.rounds.ensures.fared_writers (c.put_headers.ensures.sound (rw c.in_ok-put_headers.was refl)))

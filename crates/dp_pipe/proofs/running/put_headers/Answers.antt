@@ -12,29 +12,42 @@ use Rattle.dp_pipe.proofs.running.put_headers.Goals as goal
 pub loop-port-preserved : goal.loop-port-preserved
 loop-port-preserved g c =
     let within : c.loop-port.port < length c.loop-port.outs = omega (arith, c.loop-port-test.true, c.loop-port.invariant.many) in
-    changed_more _ c.loop-port.port c.args.outs.now c.loop-port.outs (slice_index_or c.loop-port.outs c.loop-port.port c.index-outs-port.result) c.put_header.new.w c.loop-port.invariant
-    (there_is c.loop-port.outs c.loop-port.port c.index-outs-port.result within) (search rules, fared_well g.W.Sink.is_broken g.W.Sink.failures (slice_index_or c.loop-port.outs c.loop-port.port c.index-outs-port.result) c.put_header.new.w (search rules) (search rules) (search rules), search rules)
+    changed_more _ c.loop-port.port c.args.outs.now c.loop-port.outs (slice_index_or c.loop-port.outs c.loop-port.port c.index-outs-port.result)
+    c.put_header.new.w c.loop-port.invariant
+    (there_is c.loop-port.outs c.loop-port.port c.index-outs-port.result within) (
+      search rules,
+      fared_well g.W.Sink.is_broken g.W.Sink.failures (slice_index_or c.loop-port.outs c.loop-port.port c.index-outs-port.result) c.put_header.new.w
+          (search rules) (search rules) (search rules),
+      search rules,
+    )
 
 pub returns-clause-ok : goal.returns-clause-ok
 returns-clause-ok g c = λ q old new e e'. in_told g.W.Sink.contents (λ a a'. Appends a a' (header_text c.args.unit)) c.args.outs.now c.loop-port.outs q
-    (λ w w' here there. (all_changed _ c.loop-port.port c.args.outs.now c.loop-port.outs c.loop-port.invariant (omega (arith, c.loop-port-test.false, c.loop-port.auto.port-end)) q w w' here there).0) old new e e'
+    (λ w w' here there. (all_changed _ c.loop-port.port c.args.outs.now c.loop-port.outs c.loop-port.invariant
+    (omega (arith, c.loop-port-test.false, c.loop-port.auto.port-end)) q w w' here there).0) old new e e'
 
 pub returns-clause-sound : goal.returns-clause-sound
-returns-clause-sound g c = λ ok. new_all _ _ c.loop-port.port c.args.outs.now c.loop-port.outs c.loop-port.invariant (omega (arith, c.loop-port-test.false, c.loop-port.auto.port-end)) (λ w w' changed. changed.2)
+returns-clause-sound g c = λ ok. new_all _ _ c.loop-port.port c.args.outs.now c.loop-port.outs c.loop-port.invariant
+    (omega (arith, c.loop-port-test.false, c.loop-port.auto.port-end)) (λ w w' changed. changed.2)
 
 pub returns-clause-fared : goal.returns-clause-fared
-returns-clause-fared g c = all_well g.W.Sink.is_broken g.W.Sink.failures _ c.loop-port.port c.args.outs.now c.loop-port.outs c.loop-port.invariant (λ w w' changed. changed.1)
+returns-clause-fared g c = all_well g.W.Sink.is_broken g.W.Sink.failures _ c.loop-port.port c.args.outs.now c.loop-port.outs c.loop-port.invariant
+    (λ w w' changed. changed.1)
 
 pub returns-then-is_err-clause-err : goal.returns-then-is_err-clause-err
 returns-then-is_err-clause-err g c =
     let within : c.loop-port.port < length c.loop-port.outs = omega (arith, c.loop-port-test.true, c.loop-port.invariant.many) in
-    headers_stopped g.W.Sink.contents _ c.args.unit c.loop-port.port c.args.outs.now c.loop-port.outs (slice_index_or c.loop-port.outs c.loop-port.port c.index-outs-port.result) c.put_header.new.w
+    headers_stopped g.W.Sink.contents _ c.args.unit c.loop-port.port c.args.outs.now c.loop-port.outs
+    (slice_index_or c.loop-port.outs c.loop-port.port c.index-outs-port.result) c.put_header.new.w
     c.loop-port.invariant (λ x x' changed. changed.0) (there_is c.loop-port.outs c.loop-port.port c.index-outs-port.result within) (search rules)
 
 pub returns-then-is_err-clause-fared : goal.returns-then-is_err-clause-fared
 returns-then-is_err-clause-fared g c =
     let within : c.loop-port.port < length c.loop-port.outs = omega (arith, c.loop-port-test.true, c.loop-port.invariant.many) in
     let w = slice_index_or c.loop-port.outs c.loop-port.port c.index-outs-port.result in
-    one_then g.W.Sink.is_broken g.W.Sink.failures (failed_writer {A = ⊤} (Err (Out c.loop-port.port))) c.loop-port.port c.args.outs.now c.loop-port.outs w c.put_header.new.w c.loop-port.invariant.many
-    (all_well g.W.Sink.is_broken g.W.Sink.failures _ c.loop-port.port c.args.outs.now c.loop-port.outs c.loop-port.invariant (λ x x' changed. changed.1)) (there_is c.loop-port.outs c.loop-port.port c.index-outs-port.result within)
-    (failed_here g.W.Sink.is_broken g.W.Sink.failures c.loop-port.port w c.put_header.new.w (search rules) (search rules)) (λ q other. ne_eqb q c.loop-port.port other)
+    one_then g.W.Sink.is_broken g.W.Sink.failures (failed_writer {A = ⊤} (Err (Out c.loop-port.port))) c.loop-port.port c.args.outs.now c.loop-port.outs w
+    c.put_header.new.w c.loop-port.invariant.many
+    (all_well g.W.Sink.is_broken g.W.Sink.failures _ c.loop-port.port c.args.outs.now c.loop-port.outs c.loop-port.invariant (λ x x' changed. changed.1))
+    (there_is c.loop-port.outs c.loop-port.port c.index-outs-port.result within)
+    (failed_here g.W.Sink.is_broken g.W.Sink.failures c.loop-port.port w c.put_header.new.w (search rules) (search rules))
+    (λ q other. ne_eqb q c.loop-port.port other)

@@ -6,4 +6,5 @@ use Rattle.dp_pipe.proofs.Heading.{Changed}
 use Rattle.dp_pipe.proofs.running.put_headers.Given as goal
 
 abbrev pub invariant-loop-port : goal.invariant-loop-port
-invariant-loop-port g l = Changed (λ w w'. Appends (g.W.Sink.contents w) (g.W.Sink.contents w') (header_text l.unit) × Fared g.W.Sink.is_broken g.W.Sink.failures false w w' × (g.W.Sink.is_broken w' ≡ false)) l.port l.fn.outs l.outs
+invariant-loop-port g l = Changed (λ w w'. Appends (g.W.Sink.contents w) (g.W.Sink.contents w') (header_text l.unit)
+    × Fared g.W.Sink.is_broken g.W.Sink.failures false w w' × (g.W.Sink.is_broken w' ≡ false)) l.port l.fn.outs l.outs

@@ -11,18 +11,22 @@ loop-port-preserved g c =
     let within : c.loop-port.port < length c.loop-port.ins = omega (arith, c.loop-port-test.true, c.loop-port.invariant.read.changed.many) in
     record {
       read = subst (ReadFirst g.R.Feed.remaining g.R.Feed.failures g.R.Feed.is_broken (c.loop-port.port + 1) c.args.ins.now _) (sym c.keep.ensures.items)
-          (read_more g.R.Feed.remaining g.R.Feed.failures g.R.Feed.is_broken c.loop-port.port c.args.ins.now c.loop-port.ins c.loop-port.inputs.items (slice_index_or c.loop-port.ins c.loop-port.port c.index-ins-port.result)
+          (read_more g.R.Feed.remaining g.R.Feed.failures g.R.Feed.is_broken c.loop-port.port c.args.ins.now c.loop-port.ins c.loop-port.inputs.items
+          (slice_index_or c.loop-port.ins c.loop-port.port c.index-ins-port.result)
           c.read_header.new.r _ c.loop-port.invariant.read (there_is c.loop-port.ins c.loop-port.port c.index-ins-port.result within)
-          (fared_well g.R.Feed.is_broken g.R.Feed.failures (slice_index_or c.loop-port.ins c.loop-port.port c.index-ins-port.result) c.read_header.new.r (search rules) (search rules) (search rules)) (search rules) (search rules) (search rules));
+          (fared_well g.R.Feed.is_broken g.R.Feed.failures (slice_index_or c.loop-port.ins c.loop-port.port c.index-ins-port.result) c.read_header.new.r
+          (search rules) (search rules) (search rules)) (search rules) (search rules) (search rules));
       len = omega (arith, c.keep.ensures.len, c.loop-port.invariant.len);
       room = omega (arith, c.keep.ensures.capacity, c.loop-port.invariant.room);
     }
 
 pub returns-clause-ok : goal.returns-clause-ok
-returns-clause-ok g c = all_stand g.R.Feed.remaining g.R.Feed.failures g.R.Feed.is_broken c.loop-port.port c.args.ins.now c.loop-port.ins c.loop-port.inputs.items c.loop-port.invariant.read
+returns-clause-ok g c = all_stand g.R.Feed.remaining g.R.Feed.failures g.R.Feed.is_broken c.loop-port.port c.args.ins.now c.loop-port.ins
+    c.loop-port.inputs.items c.loop-port.invariant.read
 
 pub returns-clause-sound : goal.returns-clause-sound
-returns-clause-sound g c = λ ok. new_all _ _ c.loop-port.port c.args.ins.now c.loop-port.ins c.loop-port.invariant.read.changed (omega (arith, c.loop-port-test.false, c.loop-port.auto.port-end)) (λ r r' changed. changed.1)
+returns-clause-sound g c = λ ok. new_all _ _ c.loop-port.port c.args.ins.now c.loop-port.ins c.loop-port.invariant.read.changed
+    (omega (arith, c.loop-port-test.false, c.loop-port.auto.port-end)) (λ r r' changed. changed.1)
 
 pub returns-in-Err-clause-err : goal.returns-in-Err-clause-err
 returns-in-Err-clause-err g c =
@@ -38,13 +42,17 @@ pub returns-in-Err-clause-most : goal.returns-in-Err-clause-most
 returns-in-Err-clause-most g c = omega (arith, c.loop-port.invariant.read.many, c.loop-port-test.true, c.loop-port.invariant.read.changed.many)
 
 pub returns-clause-fared : goal.returns-clause-fared
-returns-clause-fared g c = all_well g.R.Feed.is_broken g.R.Feed.failures _ c.loop-port.port c.args.ins.now c.loop-port.ins c.loop-port.invariant.read.changed (λ r r' changed. changed.0)
+returns-clause-fared g c = all_well g.R.Feed.is_broken g.R.Feed.failures _ c.loop-port.port c.args.ins.now c.loop-port.ins c.loop-port.invariant.read.changed
+    (λ r r' changed. changed.0)
 
 pub returns-in-Err-clause-fared : goal.returns-in-Err-clause-fared
 returns-in-Err-clause-fared g c =
     let within : c.loop-port.port < length c.loop-port.ins = omega (arith, c.loop-port-test.true, c.loop-port.invariant.read.changed.many) in
     let r = slice_index_or c.loop-port.ins c.loop-port.port c.index-ins-port.result in
-    one_then g.R.Feed.is_broken g.R.Feed.failures (failed_reader {A = ⊤} (Err (In c.loop-port.port c.in-Err.error))) c.loop-port.port c.args.ins.now c.loop-port.ins r c.read_header.new.r c.loop-port.invariant.read.changed.many
-    (all_well g.R.Feed.is_broken g.R.Feed.failures _ c.loop-port.port c.args.ins.now c.loop-port.ins c.loop-port.invariant.read.changed (λ x x' changed. changed.0)) (there_is c.loop-port.ins c.loop-port.port c.index-ins-port.result within)
-    (refused g.R.Feed.is_broken g.R.Feed.failures c.read_header.result c.in-Err.error c.loop-port.port r c.read_header.new.r c.in-Err.is c.read_header.ensures.failed c.read_header.ensures.stays c.read_header.ensures.failures)
+    one_then g.R.Feed.is_broken g.R.Feed.failures (failed_reader {A = ⊤} (Err (In c.loop-port.port c.in-Err.error))) c.loop-port.port c.args.ins.now
+    c.loop-port.ins r c.read_header.new.r c.loop-port.invariant.read.changed.many
+    (all_well g.R.Feed.is_broken g.R.Feed.failures _ c.loop-port.port c.args.ins.now c.loop-port.ins c.loop-port.invariant.read.changed
+    (λ x x' changed. changed.0)) (there_is c.loop-port.ins c.loop-port.port c.index-ins-port.result within)
+    (refused g.R.Feed.is_broken g.R.Feed.failures c.read_header.result c.in-Err.error c.loop-port.port r c.read_header.new.r c.in-Err.is
+    c.read_header.ensures.failed c.read_header.ensures.stays c.read_header.ensures.failures)
     (λ q other. not_other c.in-Err.error c.loop-port.port q other)

@@ -6,7 +6,8 @@ use Rattle.dp_pipe.proofs.Halting.{had_room, unless_before}
 use Rattle.dp_pipe.proofs.tracing.trace.Goals as goal
 
 pub open-requires-clause-nodes : goal.open-requires-clause-nodes
-open-requires-clause-nodes g c = rw (c.into_parts-env.ensures.env, c.into_parts-env.ensures.nodes) (are_nodes c.args.pipeline.env c.args.pipeline.nodes c.into_parts-env.ensures.plan.nodes)
+open-requires-clause-nodes g c = rw (c.into_parts-env.ensures.env, c.into_parts-env.ensures.nodes)
+    (are_nodes c.args.pipeline.env c.args.pipeline.nodes c.into_parts-env.ensures.plan.nodes)
 
 pub trace_records-outcome-requires-clause-none : goal.trace_records-outcome-requires-clause-none
 trace_records-outcome-requires-clause-none g c = (c.in-Ok.ensures.items, c.in-Ok.ensures.len)

@@ -7,7 +7,8 @@ use Rattle.dp_pool.proofs.making.queue_count.Goals as goal
 small : (p k : ℕ) → p ≡ 2 ^ k → p ≤ 131071 → p ≤ 65536
 small p k is few = elim (cases_Bool (leb k 16)) [
   | inl low ↦ let le = pow_mono (leb-true k 16 low) in subst (λ n. n ≤ 65536) (sym is) le
-  | inr high ↦ absurd (let above = leb-false k 16 high in let most : 131072 ≤ 2 ^ k = pow_mono (let from : 17 ≤ k = omega (arith, above) in from) in omega (arith, most, is, few))
+  | inr high ↦ absurd (let above = leb-false k 16 high in let most : 131072 ≤ 2 ^ k = pow_mono (let from : 17 ≤ k = omega (arith, above) in from) in
+      omega (arith, most, is, few))
 ]
 
 pub returns-clause-bound : goal.returns-clause-bound

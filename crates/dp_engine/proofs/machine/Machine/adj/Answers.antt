@@ -14,7 +14,8 @@ pub invariant_of-self : goal.invariant_of-self
 invariant_of-self c =
     let (k, holds, le) = c.requires in
     let there = held _ _ _ _ _ _ _ _ c.args.p c.handle_in-packet.result k c.self.view_is c.self.invariant c.handle_in-packet.ensures holds in
-    rw (c.adj.ensures.packets k there.has) (stand_changed _ c.self.inside.registers (lists_of c.self.inside.rings c.self.inside.outboxes) c.handle_in-packet.result k _ there.has c.self.invariant)
+    rw (c.adj.ensures.packets k there.has) (stand_changed _ c.self.inside.registers (lists_of c.self.inside.rings c.self.inside.outboxes)
+    c.handle_in-packet.result k _ there.has c.self.invariant)
 
 pub handle_in-packet-requires : goal.handle_in-packet-requires
 handle_in-packet-requires c =

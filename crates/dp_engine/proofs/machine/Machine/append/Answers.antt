@@ -13,16 +13,24 @@ handle_in-packet-requires c =
 pub append-requires : goal.append-requires
 append-requires c =
     let (k, holds, le, sole) = c.requires in
-    let there = held _ _ _ _ _ _ _ _ c.args.p c.handle_in-packet.result k c.self.view_is c.self.invariant c.handle_in-packet.ensures holds in
-    (k, there.has, (subst (λ pools. c.args.n ≤ tailroom pools k) (sym (pools_of _ _ _ _ _ _ _ _ c.self.view_is)) le, tail_sole _ _ k (counts _ _ _ _ _ _ _ _ c.self.view_is c.self.invariant) sole))
+    let there = held _ _ _ _ _ _ _ _ c.args.p c.handle_in-packet.result k c.self.view_is c.self.invariant c.handle_in-packet.ensures holds in (
+      k,
+      there.has,
+      (
+        subst (λ pools. c.args.n ≤ tailroom pools k) (sym (pools_of _ _ _ _ _ _ _ _ c.self.view_is)) le,
+        tail_sole _ _ k (counts _ _ _ _ _ _ _ _ c.self.view_is c.self.invariant) sole,
+      ),
+    )
 
 pub invariant_of-self : goal.invariant_of-self
 invariant_of-self c =
     let (k, holds, le, sole) = c.requires in
     let there = held _ _ _ _ _ _ _ _ c.args.p c.handle_in-packet.result k c.self.view_is c.self.invariant c.handle_in-packet.ensures holds in
-    stand_becomes _ _ _ _ c.args.p c.handle_in-packet.result k (at_end (more_behind c.args.n)) (zeroed_behind c.args.n) c.self.invariant there c.append.ensures.packets
+    stand_becomes _ _ _ _ c.args.p c.handle_in-packet.result k (at_end (more_behind c.args.n)) (zeroed_behind c.args.n) c.self.invariant there
+    c.append.ensures.packets
 
 pub returns : goal.returns
 returns c k holds =
     let there = held _ _ _ _ _ _ _ _ c.args.p c.handle_in-packet.result k c.self.view_is c.self.invariant c.handle_in-packet.ensures holds in
-    rw (c.append.ensures.zones) (becomes _ _ _ _ _ _ _ _ _ c.args.p c.handle_in-packet.result k (at_end (more_behind c.args.n)) (zeroed_behind c.args.n) c.self.view_is there c.append.ensures.packets)
+    rw (c.append.ensures.zones) (becomes _ _ _ _ _ _ _ _ _ c.args.p c.handle_in-packet.result k (at_end (more_behind c.args.n)) (zeroed_behind c.args.n)
+    c.self.view_is there c.append.ensures.packets)

@@ -30,11 +30,13 @@ invariant_of-self c =
     let (k, t, holds, holds', ne, few) = c.requires in
     let front = held _ _ _ _ _ _ _ _ c.args.front c.handle_in-head.result k c.self.view_is c.self.invariant c.handle_in-head.ensures holds in
     let back = held _ _ _ _ _ _ _ _ c.args.back c.handle_in-tail.result t c.self.view_is c.self.invariant c.handle_in-tail.ensures holds' in
-    rw (c.number.ensures.same, c.empty.ensures) ((chained _ _ _ _ _ _ _ _ _ c.args.front c.args.back _ _ k t c.self.view_is c.self.invariant ne front back c.chain.ensures.packets).stand)
+    rw (c.number.ensures.same, c.empty.ensures) ((chained _ _ _ _ _ _ _ _ _ c.args.front c.args.back _ _ k t c.self.view_is c.self.invariant ne front back
+    c.chain.ensures.packets).stand)
 
 pub returns : goal.returns
 returns c k t holds holds' =
     let (_, _, _, _, ne, few) = c.requires in
     let front = held _ _ _ _ _ _ _ _ c.args.front c.handle_in-head.result k c.self.view_is c.self.invariant c.handle_in-head.ensures holds in
     let back = held _ _ _ _ _ _ _ _ c.args.back c.handle_in-tail.result t c.self.view_is c.self.invariant c.handle_in-tail.ensures holds' in
-    rw (c.number.ensures.same, c.empty.ensures, c.chain.ensures.zones) ((chained _ _ _ _ _ _ _ _ _ c.args.front c.args.back _ _ k t c.self.view_is c.self.invariant ne front back c.chain.ensures.packets).state)
+    rw (c.number.ensures.same, c.empty.ensures, c.chain.ensures.zones)
+    ((chained _ _ _ _ _ _ _ _ _ c.args.front c.args.back _ _ k t c.self.view_is c.self.invariant ne front back c.chain.ensures.packets).state)

@@ -21,7 +21,10 @@ pub invariant_of-self-in-Some : goal.invariant_of-self-in-Some
 invariant_of-self-in-Some c =
     let (k, holds) = c.requires.holds in
     let there = held _ _ _ _ _ _ _ _ c.args.from c.handle_in-source.result k c.self.view_is c.self.invariant c.handle_in-source.ensures holds in
-    let given = taken (setting_of c.args.env.now [] c.args.pattern.now) _ _ _ c.self.inside.registers c.self.inside.numbers (lists_of c.self.inside.rings c.self.inside.outboxes) c.self.inside.calls (ran c.self.inside.steps.count c.self.inside.cuts c.self.inside.jumps) c.args.self.now c.args.into c.args.pool (length k) c.in-Some.packet (λ ns. cloned ns k) (λ ns old new. new ≡ old) c.self.view_is c.self.invariant c.requires.empty c.requires.pools (c.in-Some.ensures.packets k there.has) in
+    let given = taken (setting_of c.args.env.now [] c.args.pattern.now) _ _ _ c.self.inside.registers c.self.inside.numbers
+    (lists_of c.self.inside.rings c.self.inside.outboxes) c.self.inside.calls (ran c.self.inside.steps.count c.self.inside.cuts c.self.inside.jumps)
+    c.args.self.now c.args.into c.args.pool (length k) c.in-Some.packet (λ ns. cloned ns k) (λ ns old new. new
+    ≡ old) c.self.view_is c.self.invariant c.requires.empty c.requires.pools (c.in-Some.ensures.packets k there.has) in
     rw (c.of.ensures, c.number.ensures, c.number-in-Some.ensures.same) given.stand
 
 pub invariant_of-self-in-None : goal.invariant_of-self-in-None
@@ -33,19 +36,32 @@ invariant_of-self-in-None c =
 pub returns-in-Some-clause-denied : goal.returns-in-Some-clause-denied
 returns-in-Some-clause-denied c k holds =
     let there = held _ _ _ _ _ _ _ _ c.args.from c.handle_in-source.result k c.self.view_is c.self.invariant c.handle_in-source.ensures holds in
-    let given = taken (setting_of c.args.env.now [] c.args.pattern.now) _ _ _ c.self.inside.registers c.self.inside.numbers (lists_of c.self.inside.rings c.self.inside.outboxes) c.self.inside.calls (ran c.self.inside.steps.count c.self.inside.cuts c.self.inside.jumps) c.args.self.now c.args.into c.args.pool (length k) c.in-Some.packet (λ ns. cloned ns k) (λ ns old new. new ≡ old) c.self.view_is c.self.invariant c.requires.empty c.requires.pools (c.in-Some.ensures.packets k there.has) in
+    let given = taken (setting_of c.args.env.now [] c.args.pattern.now) _ _ _ c.self.inside.registers c.self.inside.numbers
+    (lists_of c.self.inside.rings c.self.inside.outboxes) c.self.inside.calls (ran c.self.inside.steps.count c.self.inside.cuts c.self.inside.jumps)
+    c.args.self.now c.args.into c.args.pool (length k) c.in-Some.packet (λ ns. cloned ns k) (λ ns old new. new
+    ≡ old) c.self.view_is c.self.invariant c.requires.empty c.requires.pools (c.in-Some.ensures.packets k there.has) in
     sym (given.allowed (sym c.if-is_listed.ensures))
 
 pub returns-in-Some-clause-given : goal.returns-in-Some-clause-given
 returns-in-Some-clause-given c _ k holds =
     let there = held _ _ _ _ _ _ _ _ c.args.from c.handle_in-source.result k c.self.view_is c.self.invariant c.handle_in-source.ensures holds in
-    let given = taken (setting_of c.args.env.now [] c.args.pattern.now) _ _ _ c.self.inside.registers c.self.inside.numbers (lists_of c.self.inside.rings c.self.inside.outboxes) c.self.inside.calls (ran c.self.inside.steps.count c.self.inside.cuts c.self.inside.jumps) c.args.self.now c.args.into c.args.pool (length k) c.in-Some.packet (λ ns. cloned ns k) (λ ns old new. new ≡ old) c.self.view_is c.self.invariant c.requires.empty c.requires.pools (c.in-Some.ensures.packets k there.has) in
-    rw (c.of.ensures, c.number.ensures, c.number-in-Some.ensures.same, c.clone_of.ensures.zones) (given.ns, given.fresh, keeps_bytes _ _ _ _ _ given.changes given.state)
+    let given = taken (setting_of c.args.env.now [] c.args.pattern.now) _ _ _ c.self.inside.registers c.self.inside.numbers
+    (lists_of c.self.inside.rings c.self.inside.outboxes) c.self.inside.calls (ran c.self.inside.steps.count c.self.inside.cuts c.self.inside.jumps)
+    c.args.self.now c.args.into c.args.pool (length k) c.in-Some.packet (λ ns. cloned ns k) (λ ns old new. new
+    ≡ old) c.self.view_is c.self.invariant c.requires.empty c.requires.pools (c.in-Some.ensures.packets k there.has) in
+    rw (c.of.ensures, c.number.ensures, c.number-in-Some.ensures.same, c.clone_of.ensures.zones) (
+      given.ns,
+      given.fresh,
+      keeps_bytes _ _ _ _ _ given.changes given.state,
+    )
 
 pub returns-in-None-clause-denied : goal.returns-in-None-clause-denied
 returns-in-None-clause-denied c k holds =
     let there = held _ _ _ _ _ _ _ _ c.args.from c.handle_in-source.result k c.self.view_is c.self.invariant c.handle_in-source.ensures holds in
-    sym (too_few (setting_of c.args.env.now [] c.args.pattern.now) _ _ _ c.self.inside.registers c.self.inside.numbers (lists_of c.self.inside.rings c.self.inside.outboxes) c.self.inside.calls (ran c.self.inside.steps.count c.self.inside.cuts c.self.inside.jumps) c.args.self.now c.args.pool (length k) (λ ns. cloned ns k) (λ ns old new. new ≡ old) c.self.view_is c.self.invariant c.requires.pools (sym c.if-is_listed.ensures) (c.in-None.ensures.packets k there.has))
+    sym (too_few (setting_of c.args.env.now [] c.args.pattern.now) _ _ _ c.self.inside.registers c.self.inside.numbers
+    (lists_of c.self.inside.rings c.self.inside.outboxes) c.self.inside.calls (ran c.self.inside.steps.count c.self.inside.cuts c.self.inside.jumps)
+    c.args.self.now c.args.pool (length k) (λ ns. cloned ns k) (λ ns old new. new
+    ≡ old) c.self.view_is c.self.invariant c.requires.pools (sym c.if-is_listed.ensures) (c.in-None.ensures.packets k there.has))
 
 pub returns-in-None-clause-refused : goal.returns-in-None-clause-refused
 returns-in-None-clause-refused c _ =

@@ -9,7 +9,8 @@ pub free-requires : goal.free-requires
 free-requires c =
     let lists = lists_of c.self.inside.rings c.self.inside.outboxes in
     let at =
-    first_in c.self.inside.outboxes c.args.port c.in-Some.packet (outbox_there _ _ _ _ _ _ _ _ _ c.self.view_is c.args.port c.requires.there) c.in-Some.ensures.first in
+    first_in c.self.inside.outboxes c.args.port c.in-Some.packet (outbox_there _ _ _ _ _ _ _ _ _ c.self.view_is c.args.port c.requires.there)
+    c.in-Some.ensures.first in
     let (k, has) = sent_held _ c.self.inside.registers lists c.args.port c.in-Some.packet _ at c.self.invariant in
     rw (c.of.ensures) (k, has, tt)
 
@@ -17,7 +18,8 @@ pub invariant_of-self : goal.invariant_of-self
 invariant_of-self c =
     let lists = lists_of c.self.inside.rings c.self.inside.outboxes in
     let at =
-    first_in c.self.inside.outboxes c.args.port c.in-Some.packet (outbox_there _ _ _ _ _ _ _ _ _ c.self.view_is c.args.port c.requires.there) c.in-Some.ensures.first in
+    first_in c.self.inside.outboxes c.args.port c.in-Some.packet (outbox_there _ _ _ _ _ _ _ _ _ c.self.view_is c.args.port c.requires.there)
+    c.in-Some.ensures.first in
     let (k, has) = sent_held _ c.self.inside.registers lists c.args.port c.in-Some.packet _ at c.self.invariant in
     let rest = popped c.self.inside.outboxes c.pop.new.self c.args.port c.pop.ensures.rest in
     let less : Lists = record lists {
@@ -29,14 +31,16 @@ invariant_of-self c =
 pub unreachable-requires : goal.unreachable-requires
 unreachable-requires c =
     let (packets, k, list) = c.requires.some in
-    has_first c.self.inside.mbufs.store.slots c.self.inside.outboxes c.args.port k packets (outbox_there _ _ _ _ _ _ _ _ _ c.self.view_is c.args.port c.requires.there)
+    has_first c.self.inside.mbufs.store.slots c.self.inside.outboxes c.args.port k packets
+    (outbox_there _ _ _ _ _ _ _ _ _ c.self.view_is c.args.port c.requires.there)
     (outbox_packets _ _ _ _ _ _ _ _ _ c.self.view_is c.args.port _ list) c.in-None.ensures.first
 
 pub returns : goal.returns
 returns c packets k list =
     let lists = lists_of c.self.inside.rings c.self.inside.outboxes in
     let at =
-    first_in c.self.inside.outboxes c.args.port c.in-Some.packet (outbox_there _ _ _ _ _ _ _ _ _ c.self.view_is c.args.port c.requires.there) c.in-Some.ensures.first in
+    first_in c.self.inside.outboxes c.args.port c.in-Some.packet (outbox_there _ _ _ _ _ _ _ _ _ c.self.view_is c.args.port c.requires.there)
+    c.in-Some.ensures.first in
     let (k', has) = sent_held _ c.self.inside.registers lists c.args.port c.in-Some.packet _ at c.self.invariant in
     let rest = popped c.self.inside.outboxes c.pop.new.self c.args.port c.pop.ensures.rest in
     rw (c.free.ensures.packets, c.free.ensures.zones, c.of.ensures, rest.frames, rest.lists)

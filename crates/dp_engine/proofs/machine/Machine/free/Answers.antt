@@ -14,7 +14,9 @@ pub invariant_of-self : goal.invariant_of-self
 invariant_of-self c =
     let (k, holds) = c.requires in
     let there = held _ _ _ _ _ _ _ _ c.args.p c.handle_in-packet.result k c.self.view_is c.self.invariant c.handle_in-packet.ensures holds in
-    rw (c.free.ensures.packets, c.number.ensures.same, c.empty.ensures) (stand_freed _ c.self.inside.registers (lists_of c.self.inside.rings c.self.inside.outboxes) c.args.p c.handle_in-packet.result k there.has there.here c.self.invariant)
+    rw (c.free.ensures.packets, c.number.ensures.same, c.empty.ensures)
+    (stand_freed _ c.self.inside.registers (lists_of c.self.inside.rings c.self.inside.outboxes) c.args.p c.handle_in-packet.result k there.has there.here
+    c.self.invariant)
 
 pub handle_in-packet-requires : goal.handle_in-packet-requires
 handle_in-packet-requires c =
@@ -25,4 +27,9 @@ pub returns : goal.returns
 returns c =
     let (k, holds) = c.requires in
     let there = held _ _ _ _ _ _ _ _ c.args.p c.handle_in-packet.result k c.self.view_is c.self.invariant c.handle_in-packet.ensures holds in
-    rw (c.free.ensures.packets, c.free.ensures.zones, c.number.ensures.same, c.empty.ensures) (frees _ _ _ _ _ _ _ _ c.args.p c.handle_in-packet.result k c.self.view_is there)
+    rw (
+      c.free.ensures.packets,
+      c.free.ensures.zones,
+      c.number.ensures.same,
+      c.empty.ensures,
+    ) (frees _ _ _ _ _ _ _ _ c.args.p c.handle_in-packet.result k c.self.view_is there)

@@ -18,9 +18,11 @@ pub invariant_of-self : goal.invariant_of-self
 invariant_of-self c =
     let (k, holds, le, sole) = c.requires in
     let there = held _ _ _ _ _ _ _ _ c.args.p c.handle_in-packet.result k c.self.view_is c.self.invariant c.handle_in-packet.ensures holds in
-    stand_becomes _ _ _ _ c.args.p c.handle_in-packet.result k (at_front (more_before c.args.n)) (zeroed_before c.args.n) c.self.invariant there c.prepend.ensures.packets
+    stand_becomes _ _ _ _ c.args.p c.handle_in-packet.result k (at_front (more_before c.args.n)) (zeroed_before c.args.n) c.self.invariant there
+    c.prepend.ensures.packets
 
 pub returns : goal.returns
 returns c k holds =
     let there = held _ _ _ _ _ _ _ _ c.args.p c.handle_in-packet.result k c.self.view_is c.self.invariant c.handle_in-packet.ensures holds in
-    rw (c.prepend.ensures.zones) (becomes _ _ _ _ _ _ _ _ _ c.args.p c.handle_in-packet.result k (at_front (more_before c.args.n)) (zeroed_before c.args.n) c.self.view_is there c.prepend.ensures.packets)
+    rw (c.prepend.ensures.zones) (becomes _ _ _ _ _ _ _ _ _ c.args.p c.handle_in-packet.result k (at_front (more_before c.args.n)) (zeroed_before c.args.n)
+    c.self.view_is there c.prepend.ensures.packets)

@@ -7,16 +7,28 @@ use Rattle.dp_engine.proofs.machine.Machine.receive.Goals as goal
 
 pub invariant_of-self-in-Some : goal.invariant_of-self-in-Some
 invariant_of-self-in-Some c =
-    rw (c.one_packet-self-inside.ensures, c.number.ensures) ((given (setting_of c.args.env.now [] c.args.pattern.now) _ _ _ c.self.inside.registers c.self.inside.numbers (lists_of c.self.inside.rings c.self.inside.outboxes) c.self.inside.calls (ran c.self.inside.steps.count c.self.inside.cuts c.self.inside.jumps) c.args.self.now c.args.pool c.args.port c.in-Some.packet c.args.bytes.now c.self.view_is c.self.invariant c.requires.idle c.requires.pools c.in-Some.ensures.packets).stand)
+    rw (c.one_packet-self-inside.ensures, c.number.ensures) ((given (setting_of c.args.env.now [] c.args.pattern.now) _ _ _ c.self.inside.registers
+    c.self.inside.numbers (lists_of c.self.inside.rings c.self.inside.outboxes) c.self.inside.calls
+    (ran c.self.inside.steps.count c.self.inside.cuts c.self.inside.jumps) c.args.self.now c.args.pool c.args.port c.in-Some.packet c.args.bytes.now
+    c.self.view_is c.self.invariant c.requires.idle c.requires.pools c.in-Some.ensures.packets).stand)
 
 pub returns-in-Some-clause-denied : goal.returns-in-Some-clause-denied
 returns-in-Some-clause-denied c =
-    sym ((given (setting_of c.args.env.now [] c.args.pattern.now) _ _ _ c.self.inside.registers c.self.inside.numbers (lists_of c.self.inside.rings c.self.inside.outboxes) c.self.inside.calls (ran c.self.inside.steps.count c.self.inside.cuts c.self.inside.jumps) c.args.self.now c.args.pool c.args.port c.in-Some.packet c.args.bytes.now c.self.view_is c.self.invariant c.requires.idle c.requires.pools c.in-Some.ensures.packets).allowed (sym c.if-is_listed.ensures))
+    sym ((given (setting_of c.args.env.now [] c.args.pattern.now) _ _ _ c.self.inside.registers c.self.inside.numbers
+    (lists_of c.self.inside.rings c.self.inside.outboxes) c.self.inside.calls (ran c.self.inside.steps.count c.self.inside.cuts c.self.inside.jumps)
+    c.args.self.now c.args.pool c.args.port c.in-Some.packet c.args.bytes.now c.self.view_is c.self.invariant c.requires.idle c.requires.pools
+    c.in-Some.ensures.packets).allowed (sym c.if-is_listed.ensures))
 
 pub returns-in-Some-clause-received : goal.returns-in-Some-clause-received
 returns-in-Some-clause-received c _ =
-    rw (c.one_packet-self-inside.ensures, c.number.ensures) ((given (setting_of c.args.env.now [] c.args.pattern.now) _ _ _ c.self.inside.registers c.self.inside.numbers (lists_of c.self.inside.rings c.self.inside.outboxes) c.self.inside.calls (ran c.self.inside.steps.count c.self.inside.cuts c.self.inside.jumps) c.args.self.now c.args.pool c.args.port c.in-Some.packet c.args.bytes.now c.self.view_is c.self.invariant c.requires.idle c.requires.pools c.in-Some.ensures.packets).state)
+    rw (c.one_packet-self-inside.ensures, c.number.ensures) ((given (setting_of c.args.env.now [] c.args.pattern.now) _ _ _ c.self.inside.registers
+    c.self.inside.numbers (lists_of c.self.inside.rings c.self.inside.outboxes) c.self.inside.calls
+    (ran c.self.inside.steps.count c.self.inside.cuts c.self.inside.jumps) c.args.self.now c.args.pool c.args.port c.in-Some.packet c.args.bytes.now
+    c.self.view_is c.self.invariant c.requires.idle c.requires.pools c.in-Some.ensures.packets).state)
 
 pub returns-in-None-clause-denied : goal.returns-in-None-clause-denied
 returns-in-None-clause-denied c =
-    sym (refused (setting_of c.args.env.now [] c.args.pattern.now) _ _ _ c.self.inside.registers c.self.inside.numbers (lists_of c.self.inside.rings c.self.inside.outboxes) c.self.inside.calls (ran c.self.inside.steps.count c.self.inside.cuts c.self.inside.jumps) c.args.self.now c.args.pool c.args.bytes.now c.self.view_is c.self.invariant c.requires.idle c.requires.pools (sym c.if-is_listed.ensures) c.in-None.ensures.packets)
+    sym (refused (setting_of c.args.env.now [] c.args.pattern.now) _ _ _ c.self.inside.registers c.self.inside.numbers
+    (lists_of c.self.inside.rings c.self.inside.outboxes) c.self.inside.calls (ran c.self.inside.steps.count c.self.inside.cuts c.self.inside.jumps)
+    c.args.self.now c.args.pool c.args.bytes.now c.self.view_is c.self.invariant c.requires.idle c.requires.pools (sym c.if-is_listed.ensures)
+    c.in-None.ensures.packets)

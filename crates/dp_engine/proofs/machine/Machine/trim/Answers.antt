@@ -23,4 +23,5 @@ invariant_of-self c =
 pub returns : goal.returns
 returns c k holds =
     let there = held _ _ _ _ _ _ _ _ c.args.p c.handle_in-packet.result k c.self.view_is c.self.invariant c.handle_in-packet.ensures holds in
-    rw (c.trim.ensures.zones) (becomes _ _ _ _ _ _ _ _ _ c.args.p c.handle_in-packet.result k (at_end (less_behind c.args.n)) unwritten c.self.view_is there c.trim.ensures.packets)
+    rw (c.trim.ensures.zones) (becomes _ _ _ _ _ _ _ _ _ c.args.p c.handle_in-packet.result k (at_end (less_behind c.args.n)) unwritten c.self.view_is there
+    c.trim.ensures.packets)

@@ -12,5 +12,6 @@ first_from-first-requires-clause-count c =
 pub invariant_of-result : goal.invariant_of-result
 invariant_of-result c =
     let long : length c.args.rings ≡ 8 = search rules in
-    let count = c.unwrap_or-count.ensures ∙ (ap (λ o. unwrap_or o 8) c.first_empty.ensures ∙ counted c.args.rings (rings_in c.args.rings) refl (long, c.requires)) in
+    let count = c.unwrap_or-count.ensures ∙ (ap (λ o. unwrap_or o 8) c.first_empty.ensures
+    ∙ counted c.args.rings (rings_in c.args.rings) refl (long, c.requires)) in
     ((long, c.requires), count, c.first_from-first.ensures)

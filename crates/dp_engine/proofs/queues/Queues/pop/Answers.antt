@@ -17,13 +17,15 @@ pop_in-entry-requires c = has_ring _ _ c.self.view_is c.self.invariant.0 c.args.
 
 pub first_from-self-inside-requires-clause-count : goal.first_from-self-inside-requires-clause-count
 first_from-self-inside-requires-clause-count c =
-    (renewed _ _ c.self.view_is c.self.invariant.0 c.args.k _ c.pop_in-entry.new.slot (λ r. without_first r 1) c.self.inside.count _ c.requires c.pop_in-entry.ensures.rest
+    (renewed _ _ c.self.view_is c.self.invariant.0 c.args.k _ c.pop_in-entry.new.slot
+    (λ r. without_first r 1) c.self.inside.count _ c.requires c.pop_in-entry.ensures.rest
     c.self.invariant.1 refl).1
 
 pub first_from-self-inside-requires-clause-from : goal.first_from-self-inside-requires-clause-from
 first_from-self-inside-requires-clause-from c =
     let first : c.self.inside.first ≡ first_place c.args.self.now = c.self.invariant.2 ∙ ap first_place c.self.view_is in
-    let now = changed _ _ c.self.view_is c.self.invariant.0 c.args.k _ c.pop_in-entry.new.slot (λ r. without_first r 1) c.requires c.pop_in-entry.ensures.rest in
+    let now = changed _ _ c.self.view_is c.self.invariant.0 c.args.k _ c.pop_in-entry.new.slot
+    (λ r. without_first r 1) c.requires c.pop_in-entry.ensures.rest in
     subst (λ rings. c.args.k ≤ first_place rings) (sym now.1)
     (not_before c.args.self.now c.args.k (without_first (ring_at c.args.self.now c.args.k) 1) (omega (arith, first, c.if-k-self.true)) c.requires)
 

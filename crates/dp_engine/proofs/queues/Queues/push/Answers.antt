@@ -21,23 +21,28 @@ invariant_of-self c =
     let taken = c.push_in-is_taken.ensures.taken ∙ ap (λ r. nat_lt 0 (room_in r)) (ring_is _ _ c.self.view_is c.self.invariant.0 c.args.k _ c.requires) in
     let first : c.self.inside.first ≡ first_place c.args.self.now = c.self.invariant.2 ∙ ap first_place c.self.view_is in
     let put = put_is c.args.self.now c.args.k c.args.entry c.push_in-is_taken.result c.requires taken in
-    renewed _ _ c.self.view_is c.self.invariant.0 c.args.k _ c.push_in-is_taken.new.slot (λ (r : RingView). if nat_lt 0 (room_in r) then with_more r (c.args.entry ∷ []) else r)
-    c.self.inside.count c.args.k c.requires c.push_in-is_taken.ensures.ring c.self.invariant.1 (put.earlier c.if-is_taken.true (omega (arith, first, c.if-k-self.true)))
+    renewed _ _ c.self.view_is c.self.invariant.0 c.args.k _ c.push_in-is_taken.new.slot
+    (λ (r : RingView). if nat_lt 0 (room_in r) then with_more r (c.args.entry ∷ []) else r)
+    c.self.inside.count c.args.k c.requires c.push_in-is_taken.ensures.ring c.self.invariant.1
+    (put.earlier c.if-is_taken.true (omega (arith, first, c.if-k-self.true)))
 
 pub invariant_of-self-else-k-self : goal.invariant_of-self-else-k-self
 invariant_of-self-else-k-self c =
     let taken = c.push_in-is_taken.ensures.taken ∙ ap (λ r. nat_lt 0 (room_in r)) (ring_is _ _ c.self.view_is c.self.invariant.0 c.args.k _ c.requires) in
     let first : c.self.inside.first ≡ first_place c.args.self.now = c.self.invariant.2 ∙ ap first_place c.self.view_is in
     let put = put_is c.args.self.now c.args.k c.args.entry c.push_in-is_taken.result c.requires taken in
-    renewed _ _ c.self.view_is c.self.invariant.0 c.args.k _ c.push_in-is_taken.new.slot (λ (r : RingView). if nat_lt 0 (room_in r) then with_more r (c.args.entry ∷ []) else r)
-    c.self.inside.count c.self.inside.first c.requires c.push_in-is_taken.ensures.ring c.self.invariant.1 (first ∙ put.later c.if-is_taken.true (omega (arith, first, c.if-k-self.false)))
+    renewed _ _ c.self.view_is c.self.invariant.0 c.args.k _ c.push_in-is_taken.new.slot
+    (λ (r : RingView). if nat_lt 0 (room_in r) then with_more r (c.args.entry ∷ []) else r)
+    c.self.inside.count c.self.inside.first c.requires c.push_in-is_taken.ensures.ring c.self.invariant.1 (first
+    ∙ put.later c.if-is_taken.true (omega (arith, first, c.if-k-self.false)))
 
 pub invariant_of-self-else-is_taken : goal.invariant_of-self-else-is_taken
 invariant_of-self-else-is_taken c =
     let taken = c.push_in-is_taken.ensures.taken ∙ ap (λ r. nat_lt 0 (room_in r)) (ring_is _ _ c.self.view_is c.self.invariant.0 c.args.k _ c.requires) in
     let first : c.self.inside.first ≡ first_place c.args.self.now = c.self.invariant.2 ∙ ap first_place c.self.view_is in
     let put = put_is c.args.self.now c.args.k c.args.entry c.push_in-is_taken.result c.requires taken in
-    renewed _ _ c.self.view_is c.self.invariant.0 c.args.k _ c.push_in-is_taken.new.slot (λ (r : RingView). if nat_lt 0 (room_in r) then with_more r (c.args.entry ∷ []) else r)
+    renewed _ _ c.self.view_is c.self.invariant.0 c.args.k _ c.push_in-is_taken.new.slot
+    (λ (r : RingView). if nat_lt 0 (room_in r) then with_more r (c.args.entry ∷ []) else r)
     c.self.inside.count c.self.inside.first c.requires c.push_in-is_taken.ensures.ring c.self.invariant.1 (first ∙ put.full c.if-is_taken.false)
 
 pub returns-then-k-self-clause-taken : goal.returns-then-k-self-clause-taken
@@ -47,8 +52,10 @@ returns-then-k-self-clause-taken c =
 
 pub returns-then-k-self-clause-rings : goal.returns-then-k-self-clause-rings
 returns-then-k-self-clause-rings c =
-    (changed _ _ c.self.view_is c.self.invariant.0 c.args.k _ c.push_in-is_taken.new.slot (λ r. if nat_lt 0 (room_in r) then with_more r (c.args.entry ∷ []) else r) c.requires c.push_in-is_taken.ensures.ring).1
-    ∙ set_where (nat_lt 0 (room_in (ring_at c.args.self.now c.args.k))) c.args.self.now c.args.k (with_more (ring_at c.args.self.now c.args.k) (c.args.entry ∷ []))
+    (changed _ _ c.self.view_is c.self.invariant.0 c.args.k _ c.push_in-is_taken.new.slot
+    (λ r. if nat_lt 0 (room_in r) then with_more r (c.args.entry ∷ []) else r) c.requires c.push_in-is_taken.ensures.ring).1
+    ∙ set_where (nat_lt 0 (room_in (ring_at c.args.self.now c.args.k))) c.args.self.now c.args.k
+    (with_more (ring_at c.args.self.now c.args.k) (c.args.entry ∷ []))
 
 pub returns-else-is_taken-clause-taken : goal.returns-else-is_taken-clause-taken
 returns-else-is_taken-clause-taken c =
@@ -58,8 +65,10 @@ returns-else-is_taken-clause-taken c =
 pub returns-else-is_taken-clause-rings : goal.returns-else-is_taken-clause-rings
 returns-else-is_taken-clause-rings c =
     let now =
-    (changed _ _ c.self.view_is c.self.invariant.0 c.args.k _ c.push_in-is_taken.new.slot (λ r. if nat_lt 0 (room_in r) then with_more r (c.args.entry ∷ []) else r) c.requires c.push_in-is_taken.ensures.ring).1
-    ∙ set_where (nat_lt 0 (room_in (ring_at c.args.self.now c.args.k))) c.args.self.now c.args.k (with_more (ring_at c.args.self.now c.args.k) (c.args.entry ∷ [])) in
+    (changed _ _ c.self.view_is c.self.invariant.0 c.args.k _ c.push_in-is_taken.new.slot
+    (λ r. if nat_lt 0 (room_in r) then with_more r (c.args.entry ∷ []) else r) c.requires c.push_in-is_taken.ensures.ring).1
+    ∙ set_where (nat_lt 0 (room_in (ring_at c.args.self.now c.args.k))) c.args.self.now c.args.k
+    (with_more (ring_at c.args.self.now c.args.k) (c.args.entry ∷ [])) in
     elim c.else-is_taken.branch [
       | else-is_taken-via-then-is_taken+else-k-self w ↦ w.self-is ∙ now
       | else-is_taken-via-else-is_taken w ↦ w.self-is ∙ now

@@ -12,7 +12,8 @@ use Rattle.dp_engine.proofs.stack.Stack.finish.Goals as goal
 pub make-pool-requires-clause-names : goal.make-pool-requires-clause-names
 make-pool-requires-clause-names c =
     subst (λ (t : List Reserved). AllBefore (first_pool + 10 * c.args.k) (names_of t)) (sym c.give_back.ensures.table)
-    (without_before (first_pool + 10 * c.args.k) c.self.inside.spare.name c.self.inside.zones (subst (AllBefore (first_pool + 10 * c.args.k)) (sym (ap (λ (v : StackView). v.names) c.self.view_is)) c.requires.names))
+    (without_before (first_pool + 10 * c.args.k) c.self.inside.spare.name c.self.inside.zones
+    (subst (AllBefore (first_pool + 10 * c.args.k)) (sym (ap (λ (v : StackView). v.names) c.self.view_is)) c.requires.names))
 
 pub make-pool-requires-clause-few : goal.make-pool-requires-clause-few
 make-pool-requires-clause-few c =
@@ -25,20 +26,24 @@ make-pool-requires-clause-few c =
 pub make-pool-requires-clause-objects : goal.make-pool-requires-clause-objects
 make-pool-requires-clause-objects c = λ none.
     let view = ap (λ (v : StackView). length v.names) c.self.view_is in let some = c.requires.some in
-    let back = released c.self.inside.heap c.self.inside.zones c.self.inside.spare c.args.self.left c.give_back.new.heap.elements c.self.invariant (ap (λ (v : StackView). v.left) c.self.view_is) (omega (arith, view, some))
+    let back = released c.self.inside.heap c.self.inside.zones c.self.inside.spare c.args.self.left c.give_back.new.heap.elements c.self.invariant
+    (ap (λ (v : StackView). v.left) c.self.view_is) (omega (arith, view, some))
     (ap (λ (h : HeapView). h.elements) c.give_back.ensures.heap) in
     last_objects c.args.self.left (objects_len c.args.spec) c.give_back.new.heap.elements back.0 back.2 c.requires.room none
 
 pub make-pool-requires-clause-queue : goal.make-pool-requires-clause-queue
 make-pool-requires-clause-queue c = λ place mid taken none.
     let view = ap (λ (v : StackView). length v.names) c.self.view_is in let some = c.requires.some in
-    let back = released c.self.inside.heap c.self.inside.zones c.self.inside.spare c.args.self.left c.give_back.new.heap.elements c.self.invariant (ap (λ (v : StackView). v.left) c.self.view_is) (omega (arith, view, some))
+    let back = released c.self.inside.heap c.self.inside.zones c.self.inside.spare c.args.self.left c.give_back.new.heap.elements c.self.invariant
+    (ap (λ (v : StackView). v.left) c.self.view_is) (omega (arith, view, some))
     (ap (λ (h : HeapView). h.elements) c.give_back.ensures.heap) in
-    last_queue c.self.inside.spare.place (length c.self.inside.spare.bytes) place c.args.spec c.give_back.new.heap.elements mid c.requires.spec c.self.invariant.high c.self.invariant.even
+    last_queue c.self.inside.spare.place (length c.self.inside.spare.bytes) place c.args.spec c.give_back.new.heap.elements mid c.requires.spec
+    c.self.invariant.high c.self.invariant.even
     (ap (λ (v : StackView). v.spare) c.self.view_is ∙ c.requires.spare) back.1 taken none
 
 pub returns-clause-same : goal.returns-clause-same
 returns-clause-same c = (
   c.make-pool.ensures.home ∙ ap (λ (h : HeapView). h.home) c.give_back.ensures.heap ∙ ap (λ (v : StackView). v.home) c.self.view_is,
-  c.make-pool.ensures.size ∙ ap (λ (h : HeapView). size_of h.elements) c.give_back.ensures.heap ∙ merged_size c.self.inside.spare.place c.self.inside.heap.elements ∙ ap (λ (v : StackView). v.size) c.self.view_is,
+  c.make-pool.ensures.size ∙ ap (λ (h : HeapView). size_of h.elements) c.give_back.ensures.heap
+      ∙ merged_size c.self.inside.spare.place c.self.inside.heap.elements ∙ ap (λ (v : StackView). v.size) c.self.view_is,
 )

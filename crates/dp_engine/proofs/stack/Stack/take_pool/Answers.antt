@@ -8,17 +8,22 @@ use Rattle.dp_engine.proofs.stack.Stack.take_pool.Goals as goal
 
 pub make-requires-clause-queue : goal.make-requires-clause-queue
 make-requires-clause-queue c = λ place mid taken none.
-    queue_fits c.self.inside.heap c.self.inside.zones c.self.inside.spare c.args.spec c.args.self.now.left place mid c.self.invariant (ap (λ (v : StackView). v.left) c.self.view_is) c.requires.room taken none
+    queue_fits c.self.inside.heap c.self.inside.zones c.self.inside.spare c.args.spec c.args.self.now.left place mid c.self.invariant
+    (ap (λ (v : StackView). v.left) c.self.view_is) c.requires.room taken none
 
 pub invariant_of-self : goal.invariant_of-self
 invariant_of-self c =
-    (pool_more c.self.inside.heap c.make.new.heap c.self.inside.zones c.make.new.zones c.self.inside.spare c.args.spec c.args.self.now.left c.self.invariant (ap (λ (v : StackView). v.left) c.self.view_is)
-    c.requires.room c.make.ensures.taken c.make.ensures.home c.make.ensures.counted (ap length c.make.ensures.names ∙ two_more c.args.k (names_of c.self.inside.zones))).0
+    (pool_more c.self.inside.heap c.make.new.heap c.self.inside.zones c.make.new.zones c.self.inside.spare c.args.spec c.args.self.now.left c.self.invariant
+    (ap (λ (v : StackView). v.left) c.self.view_is)
+    c.requires.room c.make.ensures.taken c.make.ensures.home c.make.ensures.counted (ap length c.make.ensures.names
+    ∙ two_more c.args.k (names_of c.self.inside.zones))).0
 
 pub returns-clause-left : goal.returns-clause-left
 returns-clause-left c =
-    (pool_more c.self.inside.heap c.make.new.heap c.self.inside.zones c.make.new.zones c.self.inside.spare c.args.spec c.args.self.now.left c.self.invariant (ap (λ (v : StackView). v.left) c.self.view_is)
-    c.requires.room c.make.ensures.taken c.make.ensures.home c.make.ensures.counted (ap length c.make.ensures.names ∙ two_more c.args.k (names_of c.self.inside.zones))).1
+    (pool_more c.self.inside.heap c.make.new.heap c.self.inside.zones c.make.new.zones c.self.inside.spare c.args.spec c.args.self.now.left c.self.invariant
+    (ap (λ (v : StackView). v.left) c.self.view_is)
+    c.requires.room c.make.ensures.taken c.make.ensures.home c.make.ensures.counted (ap length c.make.ensures.names
+    ∙ two_more c.args.k (names_of c.self.inside.zones))).1
 
 pub returns-clause-names : goal.returns-clause-names
 returns-clause-names c =

@@ -7,10 +7,18 @@ pub first_header-head-requires : goal.first_header-head-requires
 first_header-head-requires c = live_object _ _ c.args.packet.now (same_store c.self.view_is) c.self.invariant (c.requires.0, c.requires.1, tt)
 
 pub overflow_add-head : goal.overflow_add-head
-overflow_add-head c = omega (arith, first_fits _ _ c.args.packet.now (same_store c.self.view_is) c.self.invariant _ c.args.n c.first_header-head.ensures c.requires)
+overflow_add-head c = omega (
+  arith,
+  first_fits _ _ c.args.packet.now (same_store c.self.view_is) c.self.invariant _ c.args.n c.first_header-head.ensures
+      c.requires,
+)
 
 pub overflow_sub-head : goal.overflow_sub-head
-overflow_sub-head c = omega (arith, first_fits _ _ c.args.packet.now (same_store c.self.view_is) c.self.invariant _ c.args.n c.first_header-head.ensures c.requires)
+overflow_sub-head c = omega (
+  arith,
+  first_fits _ _ c.args.packet.now (same_store c.self.view_is) c.self.invariant _ c.args.n c.first_header-head.ensures
+      c.requires,
+)
 
 pub set_bounds-requires : goal.set_bounds-requires
 set_bounds-requires c = rw c.place_of.ensures (live_object _ _ c.args.packet.now (same_store c.self.view_is) c.self.invariant (c.requires.0, c.requires.1, tt))

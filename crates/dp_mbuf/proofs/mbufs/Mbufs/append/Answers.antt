@@ -10,17 +10,23 @@ pub first_header-last-requires : goal.first_header-last-requires
 first_header-last-requires c = live_object _ _ c.args.packet.now (same_store c.self.view_is) c.self.invariant (c.requires.0, c.requires.1, tt)
 
 pub header-tail-requires : goal.header-tail-requires
-header-tail-requires c = rw c.first_header-last.ensures (last_object _ _ c.args.packet.now (same_store c.self.view_is) c.self.invariant (c.requires.0, c.requires.1, tt))
+header-tail-requires c = rw c.first_header-last.ensures (last_object _ _ c.args.packet.now (same_store c.self.view_is) c.self.invariant (
+  c.requires.0,
+  c.requires.1,
+  tt,
+))
 
 pub zero-requires-clause-object : goal.zero-requires-clause-object
 zero-requires-clause-object c =
     let tail = rw c.first_header-last.ensures at c.header-tail.ensures in
-    object_after _ _ _ c.set_bounds.ensures.specs (behind_last _ _ c.args.packet.now (same_store c.self.view_is) c.self.invariant _ c.args.n tail (c.requires.0, c.requires.1, c.requires.2.0)).1
+    object_after _ _ _ c.set_bounds.ensures.specs (behind_last _ _ c.args.packet.now (same_store c.self.view_is) c.self.invariant _ c.args.n tail
+    (c.requires.0, c.requires.1, c.requires.2.0)).1
 
 pub zero-requires-clause-fits : goal.zero-requires-clause-fits
 zero-requires-clause-fits c =
     let tail = rw c.first_header-last.ensures at c.header-tail.ensures in
-    let fits = (behind_last _ _ c.args.packet.now (same_store c.self.view_is) c.self.invariant _ c.args.n tail (c.requires.0, c.requires.1, c.requires.2.0)).0 in
+    let fits = (behind_last _ _ c.args.packet.now (same_store c.self.view_is) c.self.invariant _ c.args.n tail (c.requires.0, c.requires.1, c.requires.2.0)).0
+    in
     let same = ap (λ s. room_at s c.header-tail.result.buffer.pool) c.set_bounds.ensures.specs in
     omega (arith, fits, same)
 
@@ -38,11 +44,19 @@ invariant_of-self c =
     let tail = rw c.first_header-last.ensures at c.header-tail.ensures in
     let b = (behind_last _ _ c.args.packet.now (same_store c.self.view_is) c.self.invariant _ c.args.n tail (c.requires.0, c.requires.1, c.requires.2.0)).0 in
     let set = rw c.first_header-last.ensures at c.set_bounds.ensures in
-    (appended_done _ _ c.args.packet.now (same_store c.self.view_is) c.self.invariant _ _ _ c.args.n _ tail (c.requires.0, c.requires.1, tt) b refl set c.zero.ensures).0
+    (appended_done _ _ c.args.packet.now (same_store c.self.view_is) c.self.invariant _ _ _ c.args.n _ tail (
+      c.requires.0,
+      c.requires.1,
+      tt,
+    ) b refl set c.zero.ensures).0
 
 pub returns-clause-packets : goal.returns-clause-packets
 returns-clause-packets c =
     let tail = rw c.first_header-last.ensures at c.header-tail.ensures in
     let b = (behind_last _ _ c.args.packet.now (same_store c.self.view_is) c.self.invariant _ c.args.n tail (c.requires.0, c.requires.1, c.requires.2.0)).0 in
     let set = rw c.first_header-last.ensures at c.set_bounds.ensures in
-    (appended_done _ _ c.args.packet.now (same_store c.self.view_is) c.self.invariant _ _ _ c.args.n _ tail (c.requires.0, c.requires.1, tt) b refl set c.zero.ensures).1
+    (appended_done _ _ c.args.packet.now (same_store c.self.view_is) c.self.invariant _ _ _ c.args.n _ tail (
+      c.requires.0,
+      c.requires.1,
+      tt,
+    ) b refl set c.zero.ensures).1

@@ -12,7 +12,11 @@ unhook-behind-requires c =
 pub unhook-front-requires : goal.unhook-front-requires
 unhook-front-requires c =
     rw c.place_of-first.ensures
-    (object_after _ _ _ c.unhook-behind.ensures.now.specs (live_object _ _ c.args.head.now (same_store c.self.view_is) c.self.invariant (c.requires.few.0, c.requires.few.1, tt)))
+    (object_after _ _ _ c.unhook-behind.ensures.now.specs (live_object _ _ c.args.head.now (same_store c.self.view_is) c.self.invariant (
+      c.requires.few.0,
+      c.requires.few.1,
+      tt,
+    )))
 
 pub relink-requires : goal.relink-requires
 relink-requires c =
@@ -27,12 +31,18 @@ overflow_add-front c =
     let d2 = rw c.place_of-first.ensures at c.unhook-front.ensures.now in
     let was = rw c.place_of-first.ensures at c.unhook-front.ensures.was in
     let behind = rw c.place_of-second.ensures at c.unhook-behind.ensures.was in
-    omega (arith, segs_fit _ _ c.args.head.now c.args.tail (same_store c.self.view_is) c.self.invariant c.requires.two c.requires.few _ _ d1 d2, ap (λ h. h.segs) was, ap (λ h. h.segs) behind)
+    omega (
+      arith,
+      segs_fit _ _ c.args.head.now c.args.tail (same_store c.self.view_is) c.self.invariant c.requires.two c.requires.few _ _ d1 d2,
+      ap (λ h. h.segs) was,
+      ap (λ h. h.segs) behind,
+    )
 
 pub hook-requires : goal.hook-requires
 hook-requires c =
     rw c.place_of-first.ensures
-    (object_after _ _ _ (c.relink.ensures.specs ∙ (c.unhook-front.ensures.now.specs ∙ c.unhook-behind.ensures.now.specs)) (live_object _ _ c.args.head.now (same_store c.self.view_is) c.self.invariant (c.requires.few.0, c.requires.few.1, tt)))
+    (object_after _ _ _ (c.relink.ensures.specs ∙ (c.unhook-front.ensures.now.specs ∙ c.unhook-behind.ensures.now.specs))
+    (live_object _ _ c.args.head.now (same_store c.self.view_is) c.self.invariant (c.requires.few.0, c.requires.few.1, tt)))
 
 pub invariant_of-self : goal.invariant_of-self
 invariant_of-self c =
@@ -42,7 +52,8 @@ invariant_of-self c =
     let behind = rw c.place_of-second.ensures at c.unhook-behind.ensures.was in
     let d3 = rw c.place_of-second.ensures at c.relink.ensures in
     let d4 = rw c.place_of-first.ensures at c.hook.ensures in
-    (chained _ _ c.args.head.now c.args.tail (same_store c.self.view_is) c.self.invariant c.requires.two c.requires.few _ _ _ _ _ _ _ d1 d2 (ap (λ h. h.last) was) d3 (sums _ _ _ _ (ap (λ h. h.segs) was) (ap (λ h. h.segs) behind)) (ap (λ h. h.last) behind) d4).0
+    (chained _ _ c.args.head.now c.args.tail (same_store c.self.view_is) c.self.invariant c.requires.two c.requires.few _ _ _ _ _ _ _ d1 d2
+    (ap (λ h. h.last) was) d3 (sums _ _ _ _ (ap (λ h. h.segs) was) (ap (λ h. h.segs) behind)) (ap (λ h. h.last) behind) d4).0
 
 pub returns-clause-packets : goal.returns-clause-packets
 returns-clause-packets c =
@@ -52,4 +63,5 @@ returns-clause-packets c =
     let behind = rw c.place_of-second.ensures at c.unhook-behind.ensures.was in
     let d3 = rw c.place_of-second.ensures at c.relink.ensures in
     let d4 = rw c.place_of-first.ensures at c.hook.ensures in
-    (chained _ _ c.args.head.now c.args.tail (same_store c.self.view_is) c.self.invariant c.requires.two c.requires.few _ _ _ _ _ _ _ d1 d2 (ap (λ h. h.last) was) d3 (sums _ _ _ _ (ap (λ h. h.segs) was) (ap (λ h. h.segs) behind)) (ap (λ h. h.last) behind) d4).1
+    (chained _ _ c.args.head.now c.args.tail (same_store c.self.view_is) c.self.invariant c.requires.two c.requires.few _ _ _ _ _ _ _ d1 d2
+    (ap (λ h. h.last) was) d3 (sums _ _ _ _ (ap (λ h. h.segs) was) (ap (λ h. h.segs) behind)) (ap (λ h. h.last) behind) d4).1

@@ -24,9 +24,11 @@ clone_segment-first-requires c =
     let segs = ap (λ x. x.segs) c.first_header-source.ensures in
     let test = c.if-available-source.false in
     let free = c.available.ensures in
-    let enough : length c.requires.live.0 ≤ available c.args.self.now.store.pools (segments_of c.args.self.now.store) c.args.pool = omega (arith, test, free, segs, b.segs, b.in_pool) in
+    let enough : length c.requires.live.0 ≤ available c.args.self.now.store.pools (segments_of c.args.self.now.store) c.args.pool =
+    omega (arith, test, free, segs, b.segs, b.in_pool) in
     rw c.place_of.ensures
-    (cloning_can c.args.self.now.store c.args.packet.now c.requires.live.0 c.args.pool c.requires.live.1 b.few _ b.whole b.links b.some b.there (omega (arith, enough, b.some, b.in_pool)))
+    (cloning_can c.args.self.now.store c.args.packet.now c.requires.live.0 c.args.pool c.requires.live.1 b.few _ b.whole b.links b.some b.there
+    (omega (arith, enough, b.some, b.in_pool)))
 
 pub loop-i-init : goal.loop-i-init
 loop-i-init c = record {
@@ -35,7 +37,8 @@ loop-i-init c = record {
       let b = before _ _ c.args.packet.now c.args.pool (same_store c.self.view_is) c.self.invariant c.requires.exists p has in
       let k = rw c.place_of.ensures at c.clone_segment-first.ensures.cloned in
       rw c.first_header-source.ensures
-      (cloning_start c.args.self.now.store c.args.packet.now p c.args.pool has b.few _ _ c.clone_segment-first.result b.whole b.links b.some b.there c.clone_segment-first.ensures.pool b.specs b.buffers b.in_pool k);
+      (cloning_start c.args.self.now.store c.args.packet.now p c.args.pool has b.few _ _ c.clone_segment-first.result b.whole b.links b.some b.there
+      c.clone_segment-first.ensures.pool b.specs b.buffers b.in_pool k);
   zones = cloned_zones _ _ _ _ c.clone_segment-first.ensures.cloned ∙ same_zones c.self.view_is;
 }
 
@@ -45,8 +48,10 @@ clone_segment-place-requires c =
     let segs = ap (λ x. x.segs) c.first_header-source.ensures in
     let test = c.if-available-source.false in
     let free = c.available.ensures in
-    let enough : length c.requires.live.0 ≤ available c.args.self.now.store.pools (segments_of c.args.self.now.store) c.args.pool = omega (arith, test, free, segs, b.segs, b.in_pool) in
-    step_can c.args.self.now.store c.args.packet.now c.requires.live.0 c.args.pool c.requires.live.1 b.few _ _ _ _ _ (c.loop-i.invariant.packets c.requires.live.0 c.requires.live.1) (omega (arith, c.loop-i-test.true, segs, b.segs)) enough
+    let enough : length c.requires.live.0 ≤ available c.args.self.now.store.pools (segments_of c.args.self.now.store) c.args.pool =
+    omega (arith, test, free, segs, b.segs, b.in_pool) in
+    step_can c.args.self.now.store c.args.packet.now c.requires.live.0 c.args.pool c.requires.live.1 b.few _ _ _ _ _
+    (c.loop-i.invariant.packets c.requires.live.0 c.requires.live.1) (omega (arith, c.loop-i-test.true, segs, b.segs)) enough
 
 pub relink-requires : goal.relink-requires
 relink-requires c =
@@ -54,8 +59,11 @@ relink-requires c =
     let segs = ap (λ x. x.segs) c.first_header-source.ensures in
     let test = c.if-available-source.false in
     let free = c.available.ensures in
-    let enough : length c.requires.live.0 ≤ available c.args.self.now.store.pools (segments_of c.args.self.now.store) c.args.pool = omega (arith, test, free, segs, b.segs, b.in_pool) in
-    step_last c.args.self.now.store c.args.packet.now c.requires.live.0 c.args.pool c.requires.live.1 b.few _ _ _ _ _ (c.loop-i.invariant.packets c.requires.live.0 c.requires.live.1) (omega (arith, c.loop-i-test.true, segs, b.segs)) _ _ c.clone_segment-place.ensures.cloned
+    let enough : length c.requires.live.0 ≤ available c.args.self.now.store.pools (segments_of c.args.self.now.store) c.args.pool =
+    omega (arith, test, free, segs, b.segs, b.in_pool) in
+    step_last c.args.self.now.store c.args.packet.now c.requires.live.0 c.args.pool c.requires.live.1 b.few _ _ _ _ _
+    (c.loop-i.invariant.packets c.requires.live.0 c.requires.live.1) (omega (arith, c.loop-i-test.true, segs, b.segs)) _ _
+    c.clone_segment-place.ensures.cloned
 
 pub header-from-requires : goal.header-from-requires
 header-from-requires c =
@@ -63,8 +71,11 @@ header-from-requires c =
     let segs = ap (λ x. x.segs) c.first_header-source.ensures in
     let test = c.if-available-source.false in
     let free = c.available.ensures in
-    let enough : length c.requires.live.0 ≤ available c.args.self.now.store.pools (segments_of c.args.self.now.store) c.args.pool = omega (arith, test, free, segs, b.segs, b.in_pool) in
-    (step_done c.args.self.now.store c.args.packet.now c.requires.live.0 c.args.pool c.requires.live.1 b.few _ _ _ _ _ (c.loop-i.invariant.packets c.requires.live.0 c.requires.live.1) (omega (arith, c.loop-i-test.true, segs, b.segs)) _ _ _ c.clone_segment-place.ensures.pool c.clone_segment-place.ensures.cloned c.relink.ensures).0
+    let enough : length c.requires.live.0 ≤ available c.args.self.now.store.pools (segments_of c.args.self.now.store) c.args.pool =
+    omega (arith, test, free, segs, b.segs, b.in_pool) in
+    (step_done c.args.self.now.store c.args.packet.now c.requires.live.0 c.args.pool c.requires.live.1 b.few _ _ _ _ _
+    (c.loop-i.invariant.packets c.requires.live.0 c.requires.live.1) (omega (arith, c.loop-i-test.true, segs, b.segs)) _ _ _
+    c.clone_segment-place.ensures.pool c.clone_segment-place.ensures.cloned c.relink.ensures).0
 
 pub loop-i-preserved : goal.loop-i-preserved
 loop-i-preserved c = record {
@@ -73,7 +84,8 @@ loop-i-preserved c = record {
       let b = before _ _ c.args.packet.now c.args.pool (same_store c.self.view_is) c.self.invariant c.requires.exists p has in
       let segs = ap (λ x. x.segs) c.first_header-source.ensures in
       rw c.header-from.ensures
-      (step_done c.args.self.now.store c.args.packet.now p c.args.pool has b.few _ _ _ _ _ (c.loop-i.invariant.packets p has) (omega (arith, c.loop-i-test.true, segs, b.segs)) _ _ _ c.clone_segment-place.ensures.pool c.clone_segment-place.ensures.cloned c.relink.ensures).1;
+      (step_done c.args.self.now.store c.args.packet.now p c.args.pool has b.few _ _ _ _ _ (c.loop-i.invariant.packets p has)
+      (omega (arith, c.loop-i-test.true, segs, b.segs)) _ _ _ c.clone_segment-place.ensures.pool c.clone_segment-place.ensures.cloned c.relink.ensures).1;
   zones = c.relink.ensures.zones ∙ (cloned_zones _ _ _ _ c.clone_segment-place.ensures.cloned ∙ c.loop-i.invariant.zones);
 }
 
@@ -83,8 +95,10 @@ hook-requires c =
     let segs = ap (λ x. x.segs) c.first_header-source.ensures in
     let test = c.if-available-source.false in
     let free = c.available.ensures in
-    let enough : length c.requires.live.0 ≤ available c.args.self.now.store.pools (segments_of c.args.self.now.store) c.args.pool = omega (arith, test, free, segs, b.segs, b.in_pool) in
-    end_object c.args.self.now.store c.args.packet.now c.requires.live.0 c.args.pool c.requires.live.1 b.few _ _ _ _ _ (c.loop-i.invariant.packets c.requires.live.0 c.requires.live.1) (omega (arith, c.loop-i-test.false, segs, b.segs))
+    let enough : length c.requires.live.0 ≤ available c.args.self.now.store.pools (segments_of c.args.self.now.store) c.args.pool =
+    omega (arith, test, free, segs, b.segs, b.in_pool) in
+    end_object c.args.self.now.store c.args.packet.now c.requires.live.0 c.args.pool c.requires.live.1 b.few _ _ _ _ _
+    (c.loop-i.invariant.packets c.requires.live.0 c.requires.live.1) (omega (arith, c.loop-i-test.false, segs, b.segs))
 
 pub invariant_of-self : goal.invariant_of-self
 invariant_of-self c =
@@ -92,8 +106,11 @@ invariant_of-self c =
     let segs = ap (λ x. x.segs) c.first_header-source.ensures in
     let test = c.if-available-source.false in
     let free = c.available.ensures in
-    let enough : length c.requires.live.0 ≤ available c.args.self.now.store.pools (segments_of c.args.self.now.store) c.args.pool = omega (arith, test, free, segs, b.segs, b.in_pool) in
-    (end_done c.args.self.now.store c.args.packet.now c.requires.live.0 c.args.pool c.requires.live.1 b.few _ _ _ _ _ (c.loop-i.invariant.packets c.requires.live.0 c.requires.live.1) (omega (arith, c.loop-i-test.false, segs, b.segs)) _ _ _ enough (segs ∙ b.segs) c.packet_of.ensures c.hook.ensures).0
+    let enough : length c.requires.live.0 ≤ available c.args.self.now.store.pools (segments_of c.args.self.now.store) c.args.pool =
+    omega (arith, test, free, segs, b.segs, b.in_pool) in
+    (end_done c.args.self.now.store c.args.packet.now c.requires.live.0 c.args.pool c.requires.live.1 b.few _ _ _ _ _
+    (c.loop-i.invariant.packets c.requires.live.0 c.requires.live.1) (omega (arith, c.loop-i-test.false, segs, b.segs)) _ _ _ enough (segs
+    ∙ b.segs) c.packet_of.ensures c.hook.ensures).0
 
 pub returns-clause-packets : goal.returns-clause-packets
 returns-clause-packets c = λ p has.
@@ -101,5 +118,7 @@ returns-clause-packets c = λ p has.
     let segs = ap (λ x. x.segs) c.first_header-source.ensures in
     let test = c.if-available-source.false in
     let free = c.available.ensures in
-    let enough : length p ≤ available c.args.self.now.store.pools (segments_of c.args.self.now.store) c.args.pool = omega (arith, test, free, segs, b.segs, b.in_pool) in
-    (end_done c.args.self.now.store c.args.packet.now p c.args.pool has b.few _ _ _ _ _ (c.loop-i.invariant.packets p has) (omega (arith, c.loop-i-test.false, segs, b.segs)) _ _ _ enough (segs ∙ b.segs) c.packet_of.ensures c.hook.ensures).1
+    let enough : length p ≤ available c.args.self.now.store.pools (segments_of c.args.self.now.store) c.args.pool =
+    omega (arith, test, free, segs, b.segs, b.in_pool) in
+    (end_done c.args.self.now.store c.args.packet.now p c.args.pool has b.few _ _ _ _ _ (c.loop-i.invariant.packets p has)
+    (omega (arith, c.loop-i-test.false, segs, b.segs)) _ _ _ enough (segs ∙ b.segs) c.packet_of.ensures c.hook.ensures).1

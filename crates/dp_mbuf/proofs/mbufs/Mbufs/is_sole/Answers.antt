@@ -18,14 +18,16 @@ pub header-segment-requires : goal.header-segment-requires
 header-segment-requires c =
     let many = many_of _ _ c.args.packet.now (same_store c.self.view_is) c.self.invariant c.requires.0 c.requires.1 in
     let segs = ap (λ h. h.segs) c.first_header-segs.ensures in
-    (part _ _ c.args.packet.now (same_store c.self.view_is) c.self.invariant c.requires.0 _ c.loop-i.i c.requires.1 (omega (arith, c.loop-i-test.true, many, segs)) (c.loop-i.invariant c.requires.0 c.requires.1).0).object
+    (part _ _ c.args.packet.now (same_store c.self.view_is) c.self.invariant c.requires.0 _ c.loop-i.i c.requires.1
+    (omega (arith, c.loop-i-test.true, many, segs)) (c.loop-i.invariant c.requires.0 c.requires.1).0).object
 
 pub header-buffer-requires : goal.header-buffer-requires
 header-buffer-requires c =
     let many = many_of _ _ c.args.packet.now (same_store c.self.view_is) c.self.invariant c.requires.0 c.requires.1 in
     let segs = ap (λ h. h.segs) c.first_header-segs.ensures in
     rw c.header-segment.ensures
-    (part _ _ c.args.packet.now (same_store c.self.view_is) c.self.invariant c.requires.0 _ c.loop-i.i c.requires.1 (omega (arith, c.loop-i-test.true, many, segs)) (c.loop-i.invariant c.requires.0 c.requires.1).0).buffer
+    (part _ _ c.args.packet.now (same_store c.self.view_is) c.self.invariant c.requires.0 _ c.loop-i.i c.requires.1
+    (omega (arith, c.loop-i-test.true, many, segs)) (c.loop-i.invariant c.requires.0 c.requires.1).0).buffer
 
 pub loop-i-preserved : goal.loop-i-preserved
 loop-i-preserved c = λ p has.
@@ -47,7 +49,8 @@ returns-then-buffer-ne1 c = λ p has.
     let now = c.loop-i.invariant p has in
     let buffer = rw c.header-segment.ensures at c.header-buffer.ensures in (
       λ t. absurd (cc),
-      λ sole. absurd (sole_not _ _ c.args.packet.now (same_store c.self.view_is) c.self.invariant p c.loop-i.place c.loop-i.i has b now.0 (λ e. c.if-buffer-ne1.true (ap (λ h. h.refs) buffer ∙ e)) sole),
+      λ sole. absurd (sole_not _ _ c.args.packet.now (same_store c.self.view_is) c.self.invariant p c.loop-i.place c.loop-i.i has b now.0
+          (λ e. c.if-buffer-ne1.true (ap (λ h. h.refs) buffer ∙ e)) sole),
     )
 
 pub returns : goal.returns

@@ -17,7 +17,8 @@ pub header-segment-requires : goal.header-segment-requires
 header-segment-requires c =
     let many = many_of _ _ c.args.packet.now (same_store c.self.view_is) c.self.invariant c.requires.0 c.requires.1 in
     let segs = ap (λ h. h.segs) c.first_header-segs.ensures in
-    (part _ _ c.args.packet.now (same_store c.self.view_is) c.self.invariant c.requires.0 _ c.loop-i.i c.requires.1 (omega (arith, c.loop-i-test.true, many, segs)) (c.loop-i.invariant c.requires.0 c.requires.1).0).object
+    (part _ _ c.args.packet.now (same_store c.self.view_is) c.self.invariant c.requires.0 _ c.loop-i.i c.requires.1
+    (omega (arith, c.loop-i-test.true, many, segs)) (c.loop-i.invariant c.requires.0 c.requires.1).0).object
 
 pub overflow_add-total : goal.overflow_add-total
 overflow_add-total c =
@@ -30,8 +31,10 @@ loop-i-preserved c = λ p has.
     let segs = ap (λ h. h.segs) c.first_header-segs.ensures in
     let b : c.loop-i.i < length p = omega (arith, c.loop-i-test.true, many, segs) in
     let now = c.loop-i.invariant p has in
-    rw c.header-segment.ensures
-    (walk_next (header_at c.self.inside.objects) c.loop-i.place c.loop-i.i p b now.0, length_more _ _ c.args.packet.now (same_store c.self.view_is) c.self.invariant p _ c.loop-i.i c.loop-i.total has b now.0 now.1)
+    rw c.header-segment.ensures (
+      walk_next (header_at c.self.inside.objects) c.loop-i.place c.loop-i.i p b now.0,
+      length_more _ _ c.args.packet.now (same_store c.self.view_is) c.self.invariant p _ c.loop-i.i c.loop-i.total has b now.0 now.1,
+    )
 
 pub returns-clause-value : goal.returns-clause-value
 returns-clause-value c = λ p has.

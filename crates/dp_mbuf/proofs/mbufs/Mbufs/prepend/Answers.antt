@@ -10,22 +10,35 @@ pub first_header-head-requires : goal.first_header-head-requires
 first_header-head-requires c = live_object _ _ c.args.packet.now (same_store c.self.view_is) c.self.invariant (c.requires.0, c.requires.1, tt)
 
 pub overflow_sub-offset : goal.overflow_sub-offset
-overflow_sub-offset c = before_first _ _ c.args.packet.now (same_store c.self.view_is) c.self.invariant _ c.args.n c.first_header-head.ensures (c.requires.0, c.requires.1, c.requires.2.0)
+overflow_sub-offset c = before_first _ _ c.args.packet.now (same_store c.self.view_is) c.self.invariant _ c.args.n c.first_header-head.ensures (
+  c.requires.0,
+  c.requires.1,
+  c.requires.2.0,
+)
 
 pub zero-requires-clause-object : goal.zero-requires-clause-object
 zero-requires-clause-object c =
-    object_after _ _ _ c.set_bounds.ensures.specs (first_part _ _ c.args.packet.now (same_store c.self.view_is) c.self.invariant _ c.requires.0 c.first_header-head.ensures c.requires.1).object
+    object_after _ _ _ c.set_bounds.ensures.specs (first_part _ _ c.args.packet.now (same_store c.self.view_is) c.self.invariant _ c.requires.0
+    c.first_header-head.ensures c.requires.1).object
 
 pub zero-requires-clause-fits : goal.zero-requires-clause-fits
 zero-requires-clause-fits c =
-    let b = before_first _ _ c.args.packet.now (same_store c.self.view_is) c.self.invariant _ c.args.n c.first_header-head.ensures (c.requires.0, c.requires.1, c.requires.2.0) in
+    let b = before_first _ _ c.args.packet.now (same_store c.self.view_is) c.self.invariant _ c.args.n c.first_header-head.ensures (
+      c.requires.0,
+      c.requires.1,
+      c.requires.2.0,
+    ) in
     let f = (first_part _ _ c.args.packet.now (same_store c.self.view_is) c.self.invariant _ c.requires.0 c.first_header-head.ensures c.requires.1).fits in
     let same = ap (λ s. room_at s c.first_header-head.result.buffer.pool) c.set_bounds.ensures.specs in
     omega (arith, b, f, same)
 
 pub overflow_add-head : goal.overflow_add-head
 overflow_add-head c =
-    let b = before_first _ _ c.args.packet.now (same_store c.self.view_is) c.self.invariant _ c.args.n c.first_header-head.ensures (c.requires.0, c.requires.1, c.requires.2.0) in
+    let b = before_first _ _ c.args.packet.now (same_store c.self.view_is) c.self.invariant _ c.args.n c.first_header-head.ensures (
+      c.requires.0,
+      c.requires.1,
+      c.requires.2.0,
+    ) in
     let f = first_part _ _ c.args.packet.now (same_store c.self.view_is) c.self.invariant _ c.requires.0 c.first_header-head.ensures c.requires.1 in
     omega (arith, b, f.fits, f.small)
 
@@ -35,12 +48,28 @@ set_bounds-requires c =
 
 pub invariant_of-self : goal.invariant_of-self
 invariant_of-self c =
-    let b = before_first _ _ c.args.packet.now (same_store c.self.view_is) c.self.invariant _ c.args.n c.first_header-head.ensures (c.requires.0, c.requires.1, c.requires.2.0) in
+    let b = before_first _ _ c.args.packet.now (same_store c.self.view_is) c.self.invariant _ c.args.n c.first_header-head.ensures (
+      c.requires.0,
+      c.requires.1,
+      c.requires.2.0,
+    ) in
     let set = rw c.place_of.ensures at c.set_bounds.ensures in
-    (prepended_done _ _ c.args.packet.now (same_store c.self.view_is) c.self.invariant _ _ _ c.args.n _ c.first_header-head.ensures (c.requires.0, c.requires.1, tt) b refl set c.zero.ensures).0
+    (prepended_done _ _ c.args.packet.now (same_store c.self.view_is) c.self.invariant _ _ _ c.args.n _ c.first_header-head.ensures (
+      c.requires.0,
+      c.requires.1,
+      tt,
+    ) b refl set c.zero.ensures).0
 
 pub returns-clause-packets : goal.returns-clause-packets
 returns-clause-packets c =
-    let b = before_first _ _ c.args.packet.now (same_store c.self.view_is) c.self.invariant _ c.args.n c.first_header-head.ensures (c.requires.0, c.requires.1, c.requires.2.0) in
+    let b = before_first _ _ c.args.packet.now (same_store c.self.view_is) c.self.invariant _ c.args.n c.first_header-head.ensures (
+      c.requires.0,
+      c.requires.1,
+      c.requires.2.0,
+    ) in
     let set = rw c.place_of.ensures at c.set_bounds.ensures in
-    (prepended_done _ _ c.args.packet.now (same_store c.self.view_is) c.self.invariant _ _ _ c.args.n _ c.first_header-head.ensures (c.requires.0, c.requires.1, tt) b refl set c.zero.ensures).1
+    (prepended_done _ _ c.args.packet.now (same_store c.self.view_is) c.self.invariant _ _ _ c.args.n _ c.first_header-head.ensures (
+      c.requires.0,
+      c.requires.1,
+      tt,
+    ) b refl set c.zero.ensures).1

@@ -16,26 +16,31 @@ pub loop-i-init : goal.loop-i-init
 loop-i-init c = record {
   packets =
       let r = ready _ _ c.args.pool (c.room-full.result - 128) _ (same_store c.self.view_is) c.self.invariant c.requires.room c.room-full.ensures refl in
-      receiving_start c.args.self.now.store c.args.pool (c.room-full.result - 128) c.args.bytes.now r.room r.some _ _ _ _ r.whole r.there c.fill_segment-first.ensures.pool r.specs r.buffers r.in_pool c.fill_segment-first.ensures.filled c.behind-rest.ensures;
+      receiving_start c.args.self.now.store c.args.pool (c.room-full.result - 128) c.args.bytes.now r.room r.some _ _ _ _ r.whole r.there
+      c.fill_segment-first.ensures.pool r.specs r.buffers r.in_pool c.fill_segment-first.ensures.filled c.behind-rest.ensures;
   zones = filled_zones _ _ _ _ c.fill_segment-first.ensures.filled ∙ same_zones c.self.view_is;
 }
 
 pub fill_segment-place-requires-clause-some : goal.fill_segment-place-requires-clause-some
 fill_segment-place-requires-clause-some c =
     let r = ready _ _ c.args.pool (c.room-full.result - 128) _ (same_store c.self.view_is) c.self.invariant c.requires.room c.room-full.ensures refl in
-    let enough : c.count_needed-need.result ≤ available c.args.self.now.store.pools (segments_of c.args.self.now.store) c.args.pool = omega (arith, c.if-available-need.false, c.available.ensures, r.in_pool) in
-    (fill_can c.args.self.now.store c.args.pool (c.room-full.result - 128) c.args.bytes.now r.room r.some _ _ _ _ _ c.loop-i.invariant.packets c.count_needed-need.result c.loop-i-test.true enough).1
+    let enough : c.count_needed-need.result ≤ available c.args.self.now.store.pools (segments_of c.args.self.now.store) c.args.pool =
+    omega (arith, c.if-available-need.false, c.available.ensures, r.in_pool) in
+    (fill_can c.args.self.now.store c.args.pool (c.room-full.result - 128) c.args.bytes.now r.room r.some _ _ _ _ _ c.loop-i.invariant.packets
+    c.count_needed-need.result c.loop-i-test.true enough).1
 
 pub relink-requires : goal.relink-requires
 relink-requires c =
     let r = ready _ _ c.args.pool (c.room-full.result - 128) _ (same_store c.self.view_is) c.self.invariant c.requires.room c.room-full.ensures refl in
-    fill_last c.args.self.now.store c.args.pool (c.room-full.result - 128) c.args.bytes.now r.room r.some _ _ _ _ _ c.loop-i.invariant.packets _ _ c.fill_segment-place.ensures.pool c.fill_segment-place.ensures.filled
+    fill_last c.args.self.now.store c.args.pool (c.room-full.result - 128) c.args.bytes.now r.room r.some _ _ _ _ _ c.loop-i.invariant.packets _ _
+    c.fill_segment-place.ensures.pool c.fill_segment-place.ensures.filled
 
 pub loop-i-preserved : goal.loop-i-preserved
 loop-i-preserved c = record {
   packets =
       let r = ready _ _ c.args.pool (c.room-full.result - 128) _ (same_store c.self.view_is) c.self.invariant c.requires.room c.room-full.ensures refl in
-      fill_done c.args.self.now.store c.args.pool (c.room-full.result - 128) c.args.bytes.now r.room r.some _ _ _ _ _ c.loop-i.invariant.packets _ _ _ _ c.fill_segment-place.ensures.pool c.fill_segment-place.ensures.filled c.relink.ensures c.behind-rest-in-loop-i.ensures;
+      fill_done c.args.self.now.store c.args.pool (c.room-full.result - 128) c.args.bytes.now r.room r.some _ _ _ _ _ c.loop-i.invariant.packets _ _ _ _
+      c.fill_segment-place.ensures.pool c.fill_segment-place.ensures.filled c.relink.ensures c.behind-rest-in-loop-i.ensures;
   zones = c.relink.ensures.zones ∙ (filled_zones _ _ _ _ c.fill_segment-place.ensures.filled ∙ c.loop-i.invariant.zones);
 }
 
@@ -44,20 +49,25 @@ hook-requires c =
     let r = ready _ _ c.args.pool (c.room-full.result - 128) _ (same_store c.self.view_is) c.self.invariant c.requires.room c.room-full.ensures refl in
     let need = c.count_needed-need.ensures in
     let same : c.loop-i.i ≡ c.count_needed-need.result = omega (arith, need, c.loop-i-test.false, c.loop-i.auto.i-end) in
-    receive_object c.args.self.now.store c.args.pool (c.room-full.result - 128) c.args.bytes.now _ _ _ _ _ _ _ c.loop-i.invariant.packets r need c.requires.fits same
+    receive_object c.args.self.now.store c.args.pool (c.room-full.result - 128) c.args.bytes.now _ _ _ _ _ _ _ c.loop-i.invariant.packets r need
+    c.requires.fits same
 
 pub invariant_of-self : goal.invariant_of-self
 invariant_of-self c =
     let r = ready _ _ c.args.pool (c.room-full.result - 128) _ (same_store c.self.view_is) c.self.invariant c.requires.room c.room-full.ensures refl in
     let need = c.count_needed-need.ensures in
     let same : c.loop-i.i ≡ c.count_needed-need.result = omega (arith, need, c.loop-i-test.false, c.loop-i.auto.i-end) in
-    let enough : c.count_needed-need.result ≤ available c.args.self.now.store.pools (segments_of c.args.self.now.store) c.args.pool = omega (arith, c.if-available-need.false, c.available.ensures, r.in_pool) in
-    (receive_done c.args.self.now.store c.args.pool (c.room-full.result - 128) c.args.bytes.now _ _ _ _ _ _ _ c.loop-i.invariant.packets r need c.requires.fits same _ _ enough c.packet_of.ensures c.hook.ensures).0
+    let enough : c.count_needed-need.result ≤ available c.args.self.now.store.pools (segments_of c.args.self.now.store) c.args.pool =
+    omega (arith, c.if-available-need.false, c.available.ensures, r.in_pool) in
+    (receive_done c.args.self.now.store c.args.pool (c.room-full.result - 128) c.args.bytes.now _ _ _ _ _ _ _ c.loop-i.invariant.packets r need
+    c.requires.fits same _ _ enough c.packet_of.ensures c.hook.ensures).0
 
 pub returns-clause-packets : goal.returns-clause-packets
 returns-clause-packets c =
     let r = ready _ _ c.args.pool (c.room-full.result - 128) _ (same_store c.self.view_is) c.self.invariant c.requires.room c.room-full.ensures refl in
     let need = c.count_needed-need.ensures in
     let same : c.loop-i.i ≡ c.count_needed-need.result = omega (arith, need, c.loop-i-test.false, c.loop-i.auto.i-end) in
-    let enough : c.count_needed-need.result ≤ available c.args.self.now.store.pools (segments_of c.args.self.now.store) c.args.pool = omega (arith, c.if-available-need.false, c.available.ensures, r.in_pool) in
-    (receive_done c.args.self.now.store c.args.pool (c.room-full.result - 128) c.args.bytes.now _ _ _ _ _ _ _ c.loop-i.invariant.packets r need c.requires.fits same _ _ enough c.packet_of.ensures c.hook.ensures).1
+    let enough : c.count_needed-need.result ≤ available c.args.self.now.store.pools (segments_of c.args.self.now.store) c.args.pool =
+    omega (arith, c.if-available-need.false, c.available.ensures, r.in_pool) in
+    (receive_done c.args.self.now.store c.args.pool (c.room-full.result - 128) c.args.bytes.now _ _ _ _ _ _ _ c.loop-i.invariant.packets r need
+    c.requires.fits same _ _ enough c.packet_of.ensures c.hook.ensures).1

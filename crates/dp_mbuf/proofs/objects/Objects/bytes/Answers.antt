@@ -22,4 +22,11 @@ returns-clause-room c =
     ∙ (ap (λ v. pool_in v c.pool.result) c.self.view_is ∙ ap (λ k. pool_in c.args.self.now k) c.pool.ensures) in
     let size = c.object.ensures.size in
     let same = ap (λ p. p.size) pool in
-    omega (arith, length-drop 128 c.object.result.now, size, same, room_is c.args.self.now c.args.n.pool, ap length (take_all (length c.object.result.now - 128) (drop 128 c.object.result.now) (omega (arith, length-drop 128 c.object.result.now))))
+    omega (
+      arith,
+      length-drop 128 c.object.result.now,
+      size,
+      same,
+      room_is c.args.self.now c.args.n.pool,
+      ap length (take_all (length c.object.result.now - 128) (drop 128 c.object.result.now) (omega (arith, length-drop 128 c.object.result.now))),
+    )

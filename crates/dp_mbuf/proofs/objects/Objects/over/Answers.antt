@@ -7,4 +7,8 @@ pub invariant_of-result : goal.invariant_of-result
 invariant_of-result c = (search rules, places_first c.args.pools c.requires.first c.tell_pools.ensures, c.requires.objects)
 
 pub returns-clause-pools : goal.returns-clause-pools
-returns-clause-pools c = record { few = c.requires.few; rooms = λ k h. first_at c.args.pools k (places_first c.args.pools c.requires.first c.tell_pools.ensures) h }
+returns-clause-pools c = record {
+  few = c.requires.few;
+  rooms = λ k h.
+      first_at c.args.pools k (places_first c.args.pools c.requires.first c.tell_pools.ensures) h;
+}

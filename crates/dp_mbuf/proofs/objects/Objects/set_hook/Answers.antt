@@ -18,8 +18,10 @@ write_hook_in-requires c =
 
 pub invariant_of-self : goal.invariant_of-self
 invariant_of-self c =
-    (hook_done _ _ c.self.view_is c.self.invariant c.args.n _ _ c.args.segs c.args.last _ c.write_hook_in.new.slot c.pool.ensures c.index.ensures c.ranges.segs.fits c.write_hook_in.ensures.small.0 c.write_hook_in.ensures.small.1 c.requires c.write_hook_in.ensures.becomes).0
+    (hook_done _ _ c.self.view_is c.self.invariant c.args.n _ _ c.args.segs c.args.last _ c.write_hook_in.new.slot c.pool.ensures c.index.ensures
+    c.ranges.segs.fits c.write_hook_in.ensures.small.0 c.write_hook_in.ensures.small.1 c.requires c.write_hook_in.ensures.becomes).0
 
 pub returns : goal.returns
 returns c =
-    (hook_done _ _ c.self.view_is c.self.invariant c.args.n _ _ c.args.segs c.args.last _ c.write_hook_in.new.slot c.pool.ensures c.index.ensures c.ranges.segs.fits c.write_hook_in.ensures.small.0 c.write_hook_in.ensures.small.1 c.requires c.write_hook_in.ensures.becomes).1
+    (hook_done _ _ c.self.view_is c.self.invariant c.args.n _ _ c.args.segs c.args.last _ c.write_hook_in.new.slot c.pool.ensures c.index.ensures
+    c.ranges.segs.fits c.write_hook_in.ensures.small.0 c.write_hook_in.ensures.small.1 c.requires c.write_hook_in.ensures.becomes).1

@@ -21,9 +21,11 @@ write_in-requires c =
 pub invariant_of-self : goal.invariant_of-self
 invariant_of-self c =
     let fit = room_fits _ _ c.self.view_is c.self.invariant c.args.n c.args.at (length c.args.bytes.now) c.requires.object c.requires.fits in
-    (room_done _ _ c.self.view_is c.self.invariant c.args.n _ _ c.args.at c.args.bytes.now _ c.write_in.new.slot c.pool.ensures c.index.ensures c.write_in.ensures.small c.requires.object (omega (arith, fit)) c.write_in.ensures.becomes).0
+    (room_done _ _ c.self.view_is c.self.invariant c.args.n _ _ c.args.at c.args.bytes.now _ c.write_in.new.slot c.pool.ensures c.index.ensures
+    c.write_in.ensures.small c.requires.object (omega (arith, fit)) c.write_in.ensures.becomes).0
 
 pub returns : goal.returns
 returns c =
     let fit = room_fits _ _ c.self.view_is c.self.invariant c.args.n c.args.at (length c.args.bytes.now) c.requires.object c.requires.fits in
-    (room_done _ _ c.self.view_is c.self.invariant c.args.n _ _ c.args.at c.args.bytes.now _ c.write_in.new.slot c.pool.ensures c.index.ensures c.write_in.ensures.small c.requires.object (omega (arith, fit)) c.write_in.ensures.becomes).1
+    (room_done _ _ c.self.view_is c.self.invariant c.args.n _ _ c.args.at c.args.bytes.now _ c.write_in.new.slot c.pool.ensures c.index.ensures
+    c.write_in.ensures.small c.requires.object (omega (arith, fit)) c.write_in.ensures.becomes).1

@@ -17,11 +17,13 @@ write_in-requires c =
 
 pub invariant_of-self : goal.invariant_of-self
 invariant_of-self c =
-    (front_done _ _ c.self.view_is c.self.invariant c.args.n _ _ c.args.at c.args.bytes.now _ c.write_in.new.slot c.pool.ensures c.index.ensures c.write_in.ensures.small c.requires.object c.requires.front c.write_in.ensures.becomes).0
+    (front_done _ _ c.self.view_is c.self.invariant c.args.n _ _ c.args.at c.args.bytes.now _ c.write_in.new.slot c.pool.ensures c.index.ensures
+    c.write_in.ensures.small c.requires.object c.requires.front c.write_in.ensures.becomes).0
 
 pub returns-clause-long : goal.returns-clause-long
 returns-clause-long c = object_long _ _ (are _ _ c.self.view_is c.self.invariant) c.requires.object
 
 pub returns-clause-written : goal.returns-clause-written
 returns-clause-written c =
-    (front_done _ _ c.self.view_is c.self.invariant c.args.n _ _ c.args.at c.args.bytes.now _ c.write_in.new.slot c.pool.ensures c.index.ensures c.write_in.ensures.small c.requires.object c.requires.front c.write_in.ensures.becomes).1
+    (front_done _ _ c.self.view_is c.self.invariant c.args.n _ _ c.args.at c.args.bytes.now _ c.write_in.new.slot c.pool.ensures c.index.ensures
+    c.write_in.ensures.small c.requires.object c.requires.front c.write_in.ensures.becomes).1

@@ -23,9 +23,13 @@ write_number_in-requires c =
 pub invariant_of-self : goal.invariant_of-self
 invariant_of-self c =
     let fit = room_fits _ _ c.self.view_is c.self.invariant c.args.n c.args.at (bytes_in c.args.width) c.requires.object c.requires.fits in
-    (room_done _ _ c.self.view_is c.self.invariant c.args.n _ _ c.args.at (big_endian (bytes_in c.args.width) c.args.number) _ c.write_number_in.new.slot c.pool.ensures c.index.ensures (small_spelled (bytes_in c.args.width) c.args.number) c.requires.object (omega (arith, fit, length_spelled (bytes_in c.args.width) c.args.number)) c.write_number_in.ensures).0
+    (room_done _ _ c.self.view_is c.self.invariant c.args.n _ _ c.args.at (big_endian (bytes_in c.args.width) c.args.number) _ c.write_number_in.new.slot
+    c.pool.ensures c.index.ensures (small_spelled (bytes_in c.args.width) c.args.number) c.requires.object
+    (omega (arith, fit, length_spelled (bytes_in c.args.width) c.args.number)) c.write_number_in.ensures).0
 
 pub returns : goal.returns
 returns c =
     let fit = room_fits _ _ c.self.view_is c.self.invariant c.args.n c.args.at (bytes_in c.args.width) c.requires.object c.requires.fits in
-    (room_done _ _ c.self.view_is c.self.invariant c.args.n _ _ c.args.at (big_endian (bytes_in c.args.width) c.args.number) _ c.write_number_in.new.slot c.pool.ensures c.index.ensures (small_spelled (bytes_in c.args.width) c.args.number) c.requires.object (omega (arith, fit, length_spelled (bytes_in c.args.width) c.args.number)) c.write_number_in.ensures).1
+    (room_done _ _ c.self.view_is c.self.invariant c.args.n _ _ c.args.at (big_endian (bytes_in c.args.width) c.args.number) _ c.write_number_in.new.slot
+    c.pool.ensures c.index.ensures (small_spelled (bytes_in c.args.width) c.args.number) c.requires.object
+    (omega (arith, fit, length_spelled (bytes_in c.args.width) c.args.number)) c.write_number_in.ensures).1

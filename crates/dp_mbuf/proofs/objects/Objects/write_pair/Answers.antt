@@ -19,11 +19,15 @@ write_words_in-requires c =
 
 pub invariant_of-self : goal.invariant_of-self
 invariant_of-self c =
-    (front_done _ _ c.self.view_is c.self.invariant c.args.n _ _ c.args.at (then_word c.args.x (then_word c.args.y [])) _ c.write_words_in.new.slot c.pool.ensures c.index.ensures (small_words c.args.x c.args.y c.ranges.x.fits c.ranges.y.fits) c.requires.object c.requires.front c.write_words_in.ensures).0
+    (front_done _ _ c.self.view_is c.self.invariant c.args.n _ _ c.args.at (then_word c.args.x (then_word c.args.y [])) _ c.write_words_in.new.slot
+    c.pool.ensures c.index.ensures (small_words c.args.x c.args.y c.ranges.x.fits c.ranges.y.fits) c.requires.object c.requires.front
+    c.write_words_in.ensures).0
 
 pub returns-clause-long : goal.returns-clause-long
 returns-clause-long c = object_long _ _ (are _ _ c.self.view_is c.self.invariant) c.requires.object
 
 pub returns-clause-written : goal.returns-clause-written
 returns-clause-written c =
-    (front_done _ _ c.self.view_is c.self.invariant c.args.n _ _ c.args.at (then_word c.args.x (then_word c.args.y [])) _ c.write_words_in.new.slot c.pool.ensures c.index.ensures (small_words c.args.x c.args.y c.ranges.x.fits c.ranges.y.fits) c.requires.object c.requires.front c.write_words_in.ensures).1
+    (front_done _ _ c.self.view_is c.self.invariant c.args.n _ _ c.args.at (then_word c.args.x (then_word c.args.y [])) _ c.write_words_in.new.slot
+    c.pool.ensures c.index.ensures (small_words c.args.x c.args.y c.ranges.x.fits c.ranges.y.fits) c.requires.object c.requires.front
+    c.write_words_in.ensures).1

@@ -24,9 +24,11 @@ zero_in-requires c =
 pub invariant_of-self : goal.invariant_of-self
 invariant_of-self c =
     let fit = room_fits _ _ c.self.view_is c.self.invariant c.args.n c.args.at c.args.len c.requires.object c.requires.fits in
-    (room_done _ _ c.self.view_is c.self.invariant c.args.n _ _ c.args.at (replicate c.args.len 0) _ c.zero_in.new.slot c.pool.ensures c.index.ensures (small_zeros c.args.len) c.requires.object (omega (arith, fit, length-replicate {A = ℕ})) c.zero_in.ensures).0
+    (room_done _ _ c.self.view_is c.self.invariant c.args.n _ _ c.args.at (replicate c.args.len 0) _ c.zero_in.new.slot c.pool.ensures c.index.ensures
+    (small_zeros c.args.len) c.requires.object (omega (arith, fit, length-replicate {A = ℕ})) c.zero_in.ensures).0
 
 pub returns : goal.returns
 returns c =
     let fit = room_fits _ _ c.self.view_is c.self.invariant c.args.n c.args.at c.args.len c.requires.object c.requires.fits in
-    (room_done _ _ c.self.view_is c.self.invariant c.args.n _ _ c.args.at (replicate c.args.len 0) _ c.zero_in.new.slot c.pool.ensures c.index.ensures (small_zeros c.args.len) c.requires.object (omega (arith, fit, length-replicate {A = ℕ})) c.zero_in.ensures).1
+    (room_done _ _ c.self.view_is c.self.invariant c.args.n _ _ c.args.at (replicate c.args.len 0) _ c.zero_in.new.slot c.pool.ensures c.index.ensures
+    (small_zeros c.args.len) c.requires.object (omega (arith, fit, length-replicate {A = ℕ})) c.zero_in.ensures).1

@@ -40,6 +40,7 @@ one_more_spec 𝓤 𝓛 𝓜 𝓡 wired =
     enter ! _ _ _ _ _ $ alloc_all ! (λ l. pass_all ! refl ((tt, tt), tt) $
     sets ! (agg ! (no_more !)) refl (tt, tt) $
     returns ! (look_at ! 0 refl) $ free_all ! refl $
-    suffices ! _ (ends_at 𝓛 f.ended stayed c ((κs, qs, bounds, a, (shr_vals a.0, tt)), tt) (vstruct vnil) (record { count = more }) (tt, tt) (tt, tt)) $ says ! refl $
+    suffices ! _ (ends_at 𝓛 f.ended stayed c ((κs, qs, bounds, a, (shr_vals a.0, tt)), tt) (vstruct vnil) (record { count = more }) (tt, tt) (tt, tt)) $ says
+    ! refl $
     use0 𝓛 (‵ (the_row.own_val (record { count = more }) (vstruct vnil ∷ []))) (count_of_nothing 𝓛 more) $
     nothing ! $ nothing ! $ join ! $ move ! (2 ∷ []) $ group ! 3 $ done !))

@@ -46,6 +46,7 @@ and_spec 𝓤 𝓛 𝓜 𝓡 wired =
     enter ! _ _ _ _ _ $ alloc_all ! (λ l. pass_all ! refl ((tt, tt), ((tt, (tt, (record { fits = are.1.0.0.1.0 }, tt))), tt)) $
     sets ! (agg ! (no_more !)) refl (tt, tt) $
     returns ! (look_at ! 0 refl) $ free_all ! refl $
-    suffices ! _ (ends_at 𝓛 f.ended stayed c ((κs, qs, bounds, a, (shr_vals a.0, (shr_slice_vals a.1.0, tt))), tt) (vstruct vnil) (record { pieces = more }) (tt, (tt, tt)) (tt, (tt, tt))) $ says ! refl $
+    suffices ! _ (ends_at 𝓛 f.ended stayed c ((κs, qs, bounds, a, (shr_vals a.0, (shr_slice_vals a.1.0, tt))), tt) (vstruct vnil) (record { pieces = more })
+    (tt, (tt, tt)) (tt, (tt, tt))) $ says ! refl $
     use0 𝓛 (‵ (the_row.own_val (record { pieces = more }) (vstruct vnil ∷ []))) (offers_of_nothing 𝓛 more) $
     nothing ! $ nothing ! $ join ! $ nothing ! $ join ! $ move ! (2 ∷ []) $ group ! 3 $ done !))

@@ -10,6 +10,7 @@ returns-then-self-eq0-clause-behind c = λ few before b.
     let none : c.self.inside.left - c.min-taken.result ≡ 0 = search rules in
     let within : c.min-taken.result ≤ length c.args.bytes.now = search rules in
     let most : c.min-taken.result ≤ c.self.inside.left = search rules in
-    completes c.self.inside.order c.self.inside.pieces c.self.inside.left c.saturating_add-self-inside.result (c.self.inside.left - c.min-taken.result) c.min-taken.result
+    completes c.self.inside.order c.self.inside.pieces c.self.inside.left c.saturating_add-self-inside.result (c.self.inside.left - c.min-taken.result)
+    c.min-taken.result
     (take c.self.inside.came c.self.inside.head) before c.args.bytes.now (omega (arith, c.saturating_add-self-inside.ensures, few, same)) none
     (omega (arith, none, most)) within (omega (arith, left, c.requires.left)) (subst (λ v. IsBehind v before) (sym c.self.view_is) b)

@@ -19,8 +19,10 @@ returns-then-self-eq0-clause-behind c = λ few before b.
     let written : c.copy_from_slice.new.self ≡ take taken c.args.bytes.now = search rules in
     let says : c.body_length.result ≡ captured inside.order head = c.body_length.ensures in
     let there : inside.came ≤ length inside.head = omega (arith, c.self.invariant.0, c.self.invariant.1) in
-    head_ends inside.order inside.pieces inside.left inside.came (inside.came + taken - inside.came) taken c.saturating_add-self-inside.result c.body_length.result (take 0 head)
-    inside.head c.copy_from_slice.new.self c.args.bytes.now before none (omega (arith, c.saturating_add-self-inside.ensures, few, same)) (search rules) refl says full within there long written
+    head_ends inside.order inside.pieces inside.left inside.came (inside.came + taken - inside.came) taken c.saturating_add-self-inside.result
+    c.body_length.result (take 0 head)
+    inside.head c.copy_from_slice.new.self c.args.bytes.now before none (omega (arith, c.saturating_add-self-inside.ensures, few, same))
+    (search rules) refl says full within there long written
     (subst (λ v. IsBehind v before) (sym c.self.view_is) b)
 
 pub returns-else-self-eq0-clause-behind : goal.returns-else-self-eq0-clause-behind

@@ -12,8 +12,17 @@ returns-clause-behind c = λ few before b.
     let size = 16 + c.body_length.result in
     let same : inside.pieces ≡ c.args.self.now.pieces = ap (λ (v : Counted). v.pieces) c.self-2.view_is in
     let none : inside.left ≡ 0 = ap (λ (v : Counted). v.left) c.self-2.view_is ∙ c.requires.none in
-    let heads : length (take inside.came inside.head) ≡ length (take c.self.inside.came c.self.inside.head) = ap (λ (v : Counted). length v.head) (c.self-2.view_is ∙ sym c.self.view_is) in
-    let begins : inside.came ≡ 0 = omega (arith, heads, c.if-self-gt0.false, c.self-2.invariant.0, c.self-2.invariant.1, length-take inside.came inside.head, length-take c.self.inside.came c.self.inside.head) in
+    let heads : length (take inside.came inside.head) ≡ length (take c.self.inside.came c.self.inside.head) =
+    ap (λ (v : Counted). length v.head) (c.self-2.view_is ∙ sym c.self.view_is) in
+    let begins : inside.came ≡ 0 = omega (
+      arith,
+      heads,
+      c.if-self-gt0.false,
+      c.self-2.invariant.0,
+      c.self-2.invariant.1,
+      length-take inside.came inside.head,
+      length-take c.self.inside.came c.self.inside.head,
+    ) in
     let says : size ≡ 16 + captured inside.order (take 16 bytes) = ap (λ n. 16 + n) c.body_length.ensures in
     record_passed inside.order inside.pieces inside.left inside.came c.saturating_add-self-inside.result size inside.head before bytes none begins
     (omega (arith, c.saturating_add-self-inside.ensures, few, same)) c.if-bytes-size.false says (subst (λ v. IsBehind v before) (sym c.self-2.view_is) b)

@@ -9,14 +9,25 @@ use Rattle.dp_pool.proofs.indexes.Indexes.next_cached.Goals as goal
 split : (c : goal.In-Some) → c.self.inside.cached.items ≡ c.pop.new.self.items ++ c.in-Some.index ∷ []
 split c = c.pop.ensures.items ∙ ap (λ o. c.pop.new.self.items ++ option_to_list o) c.in-Some.is
 
-left : (c : goal.In-Some) → Gone c.self.inside.count (c.self.inside.cached.items ++ c.self.inside.queue.entries) (c.pop.new.self.items ++ c.self.inside.queue.entries) c.in-Some.index
-left c = gone_cached c.self.inside.count c.in-Some.index c.self.inside.cached.items c.pop.new.self.items c.self.inside.queue.entries (split c) c.self.invariant.0
+left : (c : goal.In-Some) → Gone c.self.inside.count (c.self.inside.cached.items ++ c.self.inside.queue.entries) (c.pop.new.self.items
+    ++ c.self.inside.queue.entries) c.in-Some.index
+left c = gone_cached c.self.inside.count c.in-Some.index c.self.inside.cached.items c.pop.new.self.items c.self.inside.queue.entries
+    (split c) c.self.invariant.0
 
 one_less : (c : goal.In-Some) → length c.self.inside.cached.items ≡ length c.pop.new.self.items + 1
 one_less c = ap length (split c) ∙ length-append c.pop.new.self.items (c.in-Some.index ∷ [])
 
 pub invariant_of-self : goal.invariant_of-self
-invariant_of-self c = ((left c).once, c.self.invariant.1, c.self.invariant.2, (let less = one_less c in let few = c.self.invariant.3 in omega (arith, less, few)), λ is. let none = c.self.invariant.4 is in let less = one_less c in omega (arith, none, less), c.self.invariant.5)
+invariant_of-self c = (
+  (left c).once,
+  c.self.invariant.1,
+  c.self.invariant.2,
+  (let less = one_less c in
+      let few = c.self.invariant.3 in omega (arith, less, few)),
+  λ is. let none = c.self.invariant.4 is in
+      let less = one_less c in omega (arith, none, less),
+  c.self.invariant.5,
+)
 
 pub returns-clause-was_in : goal.returns-clause-was_in
 returns-clause-was_in c = ap (λ v. slice_get v.out c.in-Some.index) (sym c.self.view_is) ∙ (left c).was_in

@@ -16,8 +16,10 @@ unreachable-requires c =
     let short = ap length empty in
     omega (arith, all, some, none, short)
 
-left : (c : goal.In-Some) → Gone c.self.inside.count (c.self.inside.cached.items ++ c.self.inside.queue.entries) (c.self.inside.cached.items ++ drop 1 c.self.inside.queue.entries) c.in-Some.index
-left c = gone_queued c.self.inside.count c.in-Some.index c.self.inside.cached.items c.self.inside.queue.entries (sym c.dequeue.ensures.first ∙ c.in-Some.is) c.self.invariant.0
+left : (c : goal.In-Some) → Gone c.self.inside.count (c.self.inside.cached.items ++ c.self.inside.queue.entries) (c.self.inside.cached.items
+    ++ drop 1 c.self.inside.queue.entries) c.in-Some.index
+left c = gone_queued c.self.inside.count c.in-Some.index c.self.inside.cached.items c.self.inside.queue.entries (sym c.dequeue.ensures.first
+    ∙ c.in-Some.is) c.self.invariant.0
 
 pub invariant_of-self : goal.invariant_of-self
 invariant_of-self c = (

@@ -9,7 +9,8 @@ pub invariant_of-result : goal.invariant_of-result
 invariant_of-result c =
     let count = ap (λ q. q.count) c.fill.ensures in
     let empty = ap length c.new.ensures in (
-      subst (λ xs. AreOnce c.args.count (xs ++ c.fill.new.queue.entries)) (sym c.new.ensures) (subst (λ q. AreOnce c.args.count q.entries) (sym c.fill.ensures) (once_upto c.args.count)),
+      subst (λ xs. AreOnce c.args.count (xs ++ c.fill.new.queue.entries)) (sym c.new.ensures)
+          (subst (λ q. AreOnce c.args.count q.entries) (sym c.fill.ensures) (once_upto c.args.count)),
       (let room = c.requires.room in omega (arith, count, room)),
       c.requires.limits.1,
       omega (arith, empty),

@@ -10,12 +10,15 @@ use Rattle.dp_pool.proofs.indexes.Indexes.put_all_cached.Goals as goal
 some : (c : goal.After-extend) → 0 < c.self.inside.cache
 some c = subst (λ v. 0 < v.cache) (sym c.self.view_is) c.requires.cache
 
-back : (c : goal.After-extend) → (view_of c.self.inside.cache c.self.inside.count (c.self.inside.cached.items ++ c.args.indexes.now) c.self.inside.queue ≡ all_returned (view_of c.self.inside.cache c.self.inside.count c.self.inside.cached.items c.self.inside.queue) c.args.indexes.now) × AreOnce c.self.inside.count ((c.self.inside.cached.items ++ c.args.indexes.now) ++ c.self.inside.queue.entries)
+back : (c : goal.After-extend) → (view_of c.self.inside.cache c.self.inside.count (c.self.inside.cached.items ++ c.args.indexes.now) c.self.inside.queue
+    ≡ all_returned (view_of c.self.inside.cache c.self.inside.count c.self.inside.cached.items c.self.inside.queue) c.args.indexes.now)
+    × AreOnce c.self.inside.count ((c.self.inside.cached.items ++ c.args.indexes.now) ++ c.self.inside.queue.entries)
 back c =
     let room = c.requires.room in
     let cache = ap (λ v. v.cache) c.self.view_is in
     let cached = ap (λ v. v.cached) c.self.view_is in
-    end_returned c.self.inside.count c.self.inside.cache c.args.indexes.now c.self.inside.cached.items c.self.inside.queue (some c) (omega (arith, room, cache, cached)) (subst (λ v. AreOut v.out c.args.indexes.now) (sym c.self.view_is) c.requires.out) c.self.invariant.0
+    end_returned c.self.inside.count c.self.inside.cache c.args.indexes.now c.self.inside.cached.items c.self.inside.queue (some c)
+    (omega (arith, room, cache, cached)) (subst (λ v. AreOut v.out c.args.indexes.now) (sym c.self.view_is) c.requires.out) c.self.invariant.0
 
 pub extend-requires : goal.extend-requires
 extend-requires c =

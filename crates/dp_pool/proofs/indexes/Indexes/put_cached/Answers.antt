@@ -16,17 +16,20 @@ above v now is some = subst (λ v. 0 < v.cache) (sym is) some
 
 pub move_out-requires-clause-room : goal.move_out-requires-clause-room
 move_out-requires-clause-room c =
-    let few = pushed_few c.self.inside.count c.args.index c.self.inside.cached.items c.self.inside.queue.entries c.push.new.self.items c.push.ensures.items (out_of _ c.args.self.now c.args.index c.self.view_is c.requires.out) c.self.invariant.0 in
+    let few = pushed_few c.self.inside.count c.args.index c.self.inside.cached.items c.self.inside.queue.entries c.push.new.self.items c.push.ensures.items
+    (out_of _ c.args.self.now c.args.index c.self.view_is c.requires.out) c.self.invariant.0 in
     let room = c.self.invariant.1 in
     omega (arith, few, room)
 
-flushed : (c : goal.After-move_out) → Back c.self.inside.count (c.self.inside.cached.items ++ c.self.inside.queue.entries) (c.move_out.new.cached.items ++ c.move_out.new.queue.entries) c.args.index
+flushed : (c : goal.After-move_out) → Back c.self.inside.count (c.self.inside.cached.items ++ c.self.inside.queue.entries) (c.move_out.new.cached.items
+    ++ c.move_out.new.queue.entries) c.args.index
 flushed c =
     let n = c.self.inside.count in
     let old = c.self.inside.cached.items ++ c.self.inside.queue.entries in
     subst (λ xs. Back n old (xs ++ c.move_out.new.queue.entries) c.args.index) (sym c.move_out.ensures.cached)
     (subst (λ q. Back n old (take c.self.inside.cache c.push.new.self.items ++ q.entries) c.args.index) (sym c.move_out.ensures.queue)
-    (flushed_back n c.args.index c.self.inside.cached.items c.self.inside.queue.entries c.push.new.self.items c.push.ensures.items (out_of _ c.args.self.now c.args.index c.self.view_is c.requires.out) c.self.invariant.0 c.self.inside.cache))
+    (flushed_back n c.args.index c.self.inside.cached.items c.self.inside.queue.entries c.push.new.self.items c.push.ensures.items
+    (out_of _ c.args.self.now c.args.index c.self.view_is c.requires.out) c.self.invariant.0 c.self.inside.cache))
 
 -- the cache keeps as many as it is for
 keeps : (c : goal.After-move_out) → length c.move_out.new.cached.items ≡ c.self.inside.cache
@@ -50,7 +53,8 @@ invariant_of-self c =
 pub invariant_of-self-else-len-self : goal.invariant_of-self-else-len-self
 invariant_of-self-else-len-self c =
     let known = out_of _ c.args.self.now c.args.index c.self.view_is c.requires.out in
-    let back = pushed_back c.self.inside.count c.args.index c.self.inside.cached.items c.self.inside.queue.entries c.push.new.self.items c.push.ensures.items known c.self.invariant.0 in
+    let back = pushed_back c.self.inside.count c.args.index c.self.inside.cached.items c.self.inside.queue.entries c.push.new.self.items c.push.ensures.items
+    known c.self.invariant.0 in
     let few = c.self.invariant.2 in
     let room = c.if-len-self.false in
     let long = c.len.ensures.value in
@@ -62,13 +66,15 @@ returns-then-len-self c =
     let old = view_of c.self.inside.cache c.self.inside.count c.self.inside.cached.items c.self.inside.queue in
     let some = above _ c.args.self.now c.self.view_is c.requires.cache in
     let known = out_of _ c.args.self.now c.args.index c.self.view_is c.requires.out in
-    let pushed = pushed_long c.self.inside.count c.args.index c.self.inside.cached.items c.self.inside.queue.entries c.push.new.self.items c.push.ensures.items known c.self.invariant.0 in
+    let pushed = pushed_long c.self.inside.count c.args.index c.self.inside.cached.items c.self.inside.queue.entries c.push.new.self.items
+    c.push.ensures.items known c.self.invariant.0 in
     let full = c.if-len-self.true in
     let long = c.len.ensures.value in
     let cached : length c.move_out.new.cached.items ≡ cached_after_put c.self.inside.cache (length c.self.inside.cached.items) =
     keeps c ∙ sym (put_full c.self.inside.cache (length c.self.inside.cached.items) some (omega (arith, full, long, pushed))) in
     ap (view_of c.self.inside.cache c.self.inside.count c.move_out.new.cached.items) c.move_out.ensures.queue
-    ∙ (ap₂ (with_state old) cached (ap (λ q. absent c.self.inside.count (c.move_out.new.cached.items ++ q.entries)) (sym c.move_out.ensures.queue) ∙ (flushed c).out)
+    ∙ (ap₂ (with_state old) cached (ap (λ q. absent c.self.inside.count (c.move_out.new.cached.items ++ q.entries)) (sym c.move_out.ensures.queue)
+    ∙ (flushed c).out)
     ∙ ap (λ v. put_back c.args.index (cached_after_put v.cache v.cached) v) c.self.view_is)
 
 pub returns-else-len-self : goal.returns-else-len-self
@@ -76,8 +82,10 @@ returns-else-len-self c =
     let old = view_of c.self.inside.cache c.self.inside.count c.self.inside.cached.items c.self.inside.queue in
     let some = above _ c.args.self.now c.self.view_is c.requires.cache in
     let known = out_of _ c.args.self.now c.args.index c.self.view_is c.requires.out in
-    let back = pushed_back c.self.inside.count c.args.index c.self.inside.cached.items c.self.inside.queue.entries c.push.new.self.items c.push.ensures.items known c.self.invariant.0 in
-    let long = pushed_long c.self.inside.count c.args.index c.self.inside.cached.items c.self.inside.queue.entries c.push.new.self.items c.push.ensures.items known c.self.invariant.0 in
+    let back = pushed_back c.self.inside.count c.args.index c.self.inside.cached.items c.self.inside.queue.entries c.push.new.self.items c.push.ensures.items
+    known c.self.invariant.0 in
+    let long = pushed_long c.self.inside.count c.args.index c.self.inside.cached.items c.self.inside.queue.entries c.push.new.self.items c.push.ensures.items
+    known c.self.invariant.0 in
     let room = c.if-len-self.false in
     let is_long = c.len.ensures.value in
     let cached : length c.push.new.self.items ≡ cached_after_put c.self.inside.cache (length c.self.inside.cached.items) =

@@ -8,8 +8,10 @@ use Rattle.dp_pool.proofs.Views.{view_of, with_state, put_back}
 use Rattle.dp_pool.proofs.Steps.{Back, back_queued, few_parts}
 use Rattle.dp_pool.proofs.indexes.Indexes.put_queued.Goals as goal
 
-put : (c : goal.After-enqueue) → Back c.self.inside.count (c.self.inside.cached.items ++ c.self.inside.queue.entries) (c.self.inside.cached.items ++ (c.self.inside.queue.entries ++ c.args.index ∷ [])) c.args.index
-put c = back_queued c.self.inside.count c.args.index c.self.inside.cached.items c.self.inside.queue.entries (ap (λ v. slice_get v.out c.args.index) c.self.view_is ∙ c.requires) c.self.invariant.0
+put : (c : goal.After-enqueue) → Back c.self.inside.count (c.self.inside.cached.items ++ c.self.inside.queue.entries) (c.self.inside.cached.items
+    ++ (c.self.inside.queue.entries ++ c.args.index ∷ [])) c.args.index
+put c = back_queued c.self.inside.count c.args.index c.self.inside.cached.items c.self.inside.queue.entries
+    (ap (λ v. slice_get v.out c.args.index) c.self.view_is ∙ c.requires) c.self.invariant.0
 
 stands : (c : goal.After-enqueue) → c.enqueue.new.self ≡ with_more c.self.inside.queue (c.args.index ∷ [])
 stands c =
@@ -17,7 +19,8 @@ stands c =
     let long = length-append c.self.inside.queue.entries (c.args.index ∷ []) in
     let room = c.self.invariant.1 in
     let some : 0 < room_in c.self.inside.queue = omega (arith, few, long, room) in
-    c.enqueue.ensures.entries ∙ ap (λ t. cond t (with_more c.self.inside.queue (c.args.index ∷ [])) c.self.inside.queue) (lt-ltb 0 (room_in c.self.inside.queue) some)
+    c.enqueue.ensures.entries ∙ ap (λ t. cond t (with_more c.self.inside.queue (c.args.index ∷ [])) c.self.inside.queue)
+    (lt-ltb 0 (room_in c.self.inside.queue) some)
 
 pub invariant_of-self : goal.invariant_of-self
 invariant_of-self c = (
@@ -32,5 +35,6 @@ invariant_of-self c = (
 pub returns : goal.returns
 returns c =
     ap (view_of c.self.inside.cache c.self.inside.count c.self.inside.cached.items) (stands c)
-    ∙ (ap (with_state (view_of c.self.inside.cache c.self.inside.count c.self.inside.cached.items c.self.inside.queue) (length c.self.inside.cached.items)) (put c).out
+    ∙ (ap (with_state (view_of c.self.inside.cache c.self.inside.count c.self.inside.cached.items c.self.inside.queue) (length c.self.inside.cached.items))
+    (put c).out
     ∙ ap (λ v. put_back c.args.index v.cached v) c.self.view_is)

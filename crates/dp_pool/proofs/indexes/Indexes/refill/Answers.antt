@@ -25,10 +25,12 @@ returns c =
     ap length c.move_in.ensures.cached
     ∙ (length-append old (take number queue)
     ∙ (let long = length-take-le number queue (omega (arith, is_min, queued)) in omega (arith, empty, long))) in
-    let cached : length c.move_in.new.cached.items ≡ min c.self.inside.cache (in_count (the_view c.self.inside).out) = moved ∙ (is_min ∙ ap (λ k. min c.self.inside.cache k) (omega (arith, queued, all, empty))) in
+    let cached : length c.move_in.new.cached.items ≡ min c.self.inside.cache (in_count (the_view c.self.inside).out) = moved
+    ∙ (is_min ∙ ap (λ k. min c.self.inside.cache k) (omega (arith, queued, all, empty))) in
     let out : absent n (c.move_in.new.cached.items ++ c.move_in.new.queue.entries) ≡ absent n (old ++ queue) =
     ap₂ (λ xs ys. absent n (xs ++ ys)) c.move_in.ensures.cached (ap (λ q. q.entries) c.move_in.ensures.queue)
     ∙ absent_same n (old ++ queue) ((old ++ take number queue) ++ drop number queue) (λ i. moved_in old queue number i) in
     ap (view_of c.self.inside.cache n c.move_in.new.cached.items) c.move_in.ensures.queue
-    ∙ (ap₂ (with_state (view_of c.self.inside.cache n old c.self.inside.queue)) cached (ap (λ q. absent n (c.move_in.new.cached.items ++ q.entries)) (sym c.move_in.ensures.queue) ∙ out)
+    ∙ (ap₂ (with_state (view_of c.self.inside.cache n old c.self.inside.queue)) cached
+    (ap (λ q. absent n (c.move_in.new.cached.items ++ q.entries)) (sym c.move_in.ensures.queue) ∙ out)
     ∙ ap (λ v. with_state v (min v.cache (in_count v.out)) v.out) c.self.view_is)

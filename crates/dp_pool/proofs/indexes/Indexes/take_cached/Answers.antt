@@ -7,18 +7,30 @@ use Rattle.dp_pool.proofs.Cached.{taken_cached}
 use Rattle.dp_pool.proofs.Views.{view_of}
 use Rattle.dp_pool.proofs.indexes.Indexes.take_cached.Goals as goal
 
-left : (c : goal.After-truncate) → AreHanded (view_of c.self.inside.cache c.self.inside.count c.self.inside.cached.items c.self.inside.queue) c.copy_from_slice.new.self (view_of c.self.inside.cache c.self.inside.count c.truncate.new.self.items c.self.inside.queue) × AreOnce c.self.inside.count (c.truncate.new.self.items ++ c.self.inside.queue.entries)
+left : (c : goal.After-truncate) → AreHanded (view_of c.self.inside.cache c.self.inside.count c.self.inside.cached.items c.self.inside.queue)
+    c.copy_from_slice.new.self (view_of c.self.inside.cache c.self.inside.count c.truncate.new.self.items c.self.inside.queue)
+    × AreOnce c.self.inside.count (c.truncate.new.self.items ++ c.self.inside.queue.entries)
 left c =
     let n = c.len.result - length c.args.indexes.now in
-    let last : c.copy_from_slice.new.self ≡ drop n c.self.inside.cached.items = c.copy_from_slice.ensures.after ∙ (ap (λ xs. take (length xs - n) (drop n xs)) c.as_slice.ensures.value ∙ take_rest c.self.inside.cached.items n) in
-    taken_cached c.self.inside.count c.self.inside.cache n c.self.inside.cached.items c.truncate.new.self.items c.copy_from_slice.new.self c.self.inside.queue c.self.invariant.4 c.self.invariant.0 c.truncate.ensures.items last
+    let last : c.copy_from_slice.new.self ≡ drop n c.self.inside.cached.items = c.copy_from_slice.ensures.after
+    ∙ (ap (λ xs. take (length xs - n) (drop n xs)) c.as_slice.ensures.value ∙ take_rest c.self.inside.cached.items n) in
+    taken_cached c.self.inside.count c.self.inside.cache n c.self.inside.cached.items c.truncate.new.self.items c.copy_from_slice.new.self c.self.inside.queue
+    c.self.invariant.4 c.self.invariant.0 c.truncate.ensures.items last
 
 pub invariant_of-self : goal.invariant_of-self
 invariant_of-self c =
     let fewer = c.truncate.ensures.len in
-    let few = c.self.invariant.3 in
-    ((left c).1, c.self.invariant.1, c.self.invariant.2, omega (arith, fewer, few), λ none. let empty = c.self.invariant.4 none in omega (arith, fewer, empty), c.self.invariant.5)
+    let few = c.self.invariant.3 in (
+      (left c).1,
+      c.self.invariant.1,
+      c.self.invariant.2,
+      omega (arith, fewer, few),
+      λ none. let empty = c.self.invariant.4 none in
+          omega (arith, fewer, empty),
+      c.self.invariant.5,
+    )
 
 pub returns-clause-handed : goal.returns-clause-handed
 returns-clause-handed c =
-    subst (λ v. AreHanded v c.copy_from_slice.new.self (view_of c.self.inside.cache c.self.inside.count c.truncate.new.self.items c.self.inside.queue)) c.self.view_is (left c).0
+    subst (λ v. AreHanded v c.copy_from_slice.new.self (view_of c.self.inside.cache c.self.inside.count c.truncate.new.self.items c.self.inside.queue))
+    c.self.view_is (left c).0

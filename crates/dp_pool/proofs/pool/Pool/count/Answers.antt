@@ -14,4 +14,6 @@ returns-clause-pool c =
       queue_place = c.self.inside.indexes.place;
     } in
     let small = rw c.bytes.ensures at c.are_small.ensures in
-    subst IsPool c.self.view_is (is_pool c.self.inside.size c.self.inside.indexes.cache c.self.inside.indexes.cached c.self.inside.count c.self.inside.objects.bytes c.self.inside.indexes.out zones c.self.invariant.0 c.self.invariant.1 c.self.invariant.2 c.self.invariant.6 small (c.self.invariant.3, c.self.invariant.4) (c.self.invariant.8, c.self.invariant.9))
+    subst IsPool c.self.view_is (is_pool c.self.inside.size c.self.inside.indexes.cache c.self.inside.indexes.cached c.self.inside.count
+    c.self.inside.objects.bytes c.self.inside.indexes.out zones c.self.invariant.0 c.self.invariant.1 c.self.invariant.2 c.self.invariant.6 small
+    (c.self.invariant.3, c.self.invariant.4) (c.self.invariant.8, c.self.invariant.9))

@@ -18,11 +18,14 @@ loop-place-preserved c =
     let one_more : suc i ≡ i + 1 = omega arith in
     let long = c.loop-place.invariant.2 in
     let next : take (i + 1) (slice_set indexes i index) ≡ take i indexes ++ index ∷ [] =
-    ap (λ n. take n (slice_set indexes i index)) (sym one_more) ∙ take-suc-set indexes i index (omega (arith, long, c.loop-place-test.true, c.loop-place.auto.place-index-end)) in
+    ap (λ n. take n (slice_set indexes i index)) (sym one_more) ∙ take-suc-set indexes i index
+    (omega (arith, long, c.loop-place-test.true, c.loop-place.auto.place-index-end)) in
     let fewer = in_count_taken old.out index was_in in
     let counted = ap (λ v. in_count v.out) new in
     let before = c.loop-place.invariant.1 in (
-      subst (λ is. AreGot c.args.self.now is c.get.new.self) (sym next) (subst (λ v. AreGot c.args.self.now (take i indexes ++ index ∷ []) v) (sym new) (are_got_more c.args.self.now old (take i indexes) index c.loop-place.invariant.0 was_in)),
+      subst (λ is. AreGot c.args.self.now is c.get.new.self) (sym next)
+          (subst (λ v. AreGot c.args.self.now (take i indexes ++ index ∷ []) v) (sym new)
+          (are_got_more c.args.self.now old (take i indexes) index c.loop-place.invariant.0 was_in)),
       omega (arith, fewer, counted, before),
       length-set indexes i index ∙ long,
     )

@@ -40,9 +40,12 @@ returns-clause-made c =
       mid = c.reserve.new.zones;
       left = c.reserve.new.heap.elements;
       objects_reserved =
-          subst (λ p. Reserves (object_name c.args.name.now) (object_len c.args.count c.args.size) c.args.zones.now c.args.heap.now.elements p c.reserve.new.zones c.reserve.new.heap.elements) (sym (ap (λ z. z.object_place) made.zones))
-          (subst (λ n. Reserves (object_name c.args.name.now) (c.args.count * n) c.args.zones.now c.args.heap.now.elements c.in-Ok.objects.place c.reserve.new.zones c.reserve.new.heap.elements) c.stride_of.ensures objects.reserves);
+          subst (λ p. Reserves (object_name c.args.name.now) (object_len c.args.count c.args.size) c.args.zones.now c.args.heap.now.elements p
+          c.reserve.new.zones c.reserve.new.heap.elements) (sym (ap (λ z. z.object_place) made.zones))
+          (subst (λ n. Reserves (object_name c.args.name.now) (c.args.count * n) c.args.zones.now c.args.heap.now.elements c.in-Ok.objects.place
+          c.reserve.new.zones c.reserve.new.heap.elements) c.stride_of.ensures objects.reserves);
       queue_reserved =
-          subst (λ p. Reserves (queue_name c.args.name.now) (4 * c.queue_count-places.result) c.reserve.new.zones c.reserve.new.heap.elements p c.reserve-2.new.zones c.reserve-2.new.heap.elements) (sym (ap (λ z. z.queue_place) made.zones))
+          subst (λ p. Reserves (queue_name c.args.name.now) (4 * c.queue_count-places.result) c.reserve.new.zones c.reserve.new.heap.elements p
+          c.reserve-2.new.zones c.reserve-2.new.heap.elements) (sym (ap (λ z. z.queue_place) made.zones))
           queue.reserves;
     }

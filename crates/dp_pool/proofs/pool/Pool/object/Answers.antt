@@ -5,7 +5,8 @@ use Rattle.dp_pool.proofs.Pools.{index_below, object_bytes}
 use Rattle.dp_pool.proofs.pool.Pool.object.Goals as goal
 
 pub place_of-place-requires-clause-there : goal.place_of-place-requires-clause-there
-place_of-place-requires-clause-there c = index_below c.self.inside.objects c.self.inside.indexes c.self.inside.count c.self.inside.size c.args.index c.args.self.now c.self.view_is c.requires
+place_of-place-requires-clause-there c = index_below c.self.inside.objects c.self.inside.indexes c.self.inside.count c.self.inside.size c.args.index
+    c.args.self.now c.self.view_is c.requires
 
 pub returns-clause-value : goal.returns-clause-value
 returns-clause-value c =

@@ -5,7 +5,8 @@ use Rattle.dp_pool.proofs.Pools.{index_below, object_bytes, pool_left, left_alon
 use Rattle.dp_pool.proofs.pool.Pool.object_mut.Goals as goal
 
 pub place_of-place-requires-clause-there : goal.place_of-place-requires-clause-there
-place_of-place-requires-clause-there c = index_below c.self.inside.objects c.self.inside.indexes c.self.inside.count c.self.inside.size c.args.index c.args.self.now c.self.view_is c.requires
+place_of-place-requires-clause-there c = index_below c.self.inside.objects c.self.inside.indexes c.self.inside.count c.self.inside.size c.args.index
+    c.args.self.now c.self.view_is c.requires
 
 pub returns : goal.returns
 returns c =
@@ -19,7 +20,8 @@ returns c =
       (refl, pool_left zone indexes count size c.args.index now c.self.view_is c.requires c.place_of-place.result place room),
       record {
         writes_back = tt;
-        value = c.part_mut.ensures.value ∙ (ap (λ p. bytes_in zone.bytes p size) place ∙ object_bytes zone indexes count size c.args.index now c.self.view_is c.requires);
+        value = c.part_mut.ensures.value ∙ (ap (λ p. bytes_in zone.bytes p size) place
+            ∙ object_bytes zone indexes count size c.args.index now c.self.view_is c.requires);
         size = c.part_mut.ensures.size ∙ ap (λ v. v.size) c.self.view_is;
         whole = left_alone zone indexes count size c.args.index now c.self.view_is c.requires room;
       },

@@ -33,4 +33,5 @@ returns-clause-back c =
     ∙ ap (λ p. all_back p c.args.indexes.now) c.self.view_is)
 
 pub returns-clause-same : goal.returns-clause-same
-returns-clause-same c = back_keeps c.args.indexes.now c.args.self.now (pool_of c.self.inside.objects c.put_all.new.self c.self.inside.count c.self.inside.size) (returns-clause-back c)
+returns-clause-same c = back_keeps c.args.indexes.now c.args.self.now (pool_of c.self.inside.objects c.put_all.new.self c.self.inside.count
+    c.self.inside.size) (returns-clause-back c)

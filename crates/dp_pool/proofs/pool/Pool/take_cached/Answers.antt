@@ -23,4 +23,5 @@ invariant_of-self c =
 pub returns-clause-got : goal.returns-clause-got
 returns-clause-got c =
     subst (λ p. AreGot p c.take_cached.new.indexes (pool_of c.self.inside.objects c.take_cached.new.self c.self.inside.count c.self.inside.size)) c.self.view_is
-    (handed_got c.self.inside.objects c.self.inside.size c.self.inside.count c.take_cached.new.indexes c.self.inside.indexes c.take_cached.new.self c.take_cached.ensures.handed)
+    (handed_got c.self.inside.objects c.self.inside.size c.self.inside.count c.take_cached.new.indexes c.self.inside.indexes c.take_cached.new.self
+    c.take_cached.ensures.handed)
