@@ -39,7 +39,7 @@ pub record IsReady (p : Plan) (pattern : List ℕ) : Type 0 where
   pub laws : AreLaws
 
 -- so its runs are safe
-safe_runs : (p : Plan) (pattern : List ℕ) (arrivals : List (Arrival Time)) (w : World) → IsReady p pattern → IsStart p.env w
+pub safe_runs : (p : Plan) (pattern : List ℕ) (arrivals : List (Arrival Time)) (w : World) → IsReady p pattern → IsStart p.env w
     → KeepsRunsSafe (setting_in p pattern) (programs_in p) arrivals w
 safe_runs p pattern arrivals w ready start = ready.laws.safe (setting_in p pattern) (programs_in p) arrivals w ready.tables ready.pipeline start
 
