@@ -62,7 +62,7 @@ def counted(command: list[str], folder: pathlib.Path, sources: dict[str, bytes],
     for times in (1, 2):
         for name, source in sources.items():
             repeat(source, folder / name, times * RECORDS // len(sources))
-        counts.append(instructions(command))
+        counts.append(instructions(command, str(folder)))
         written = written or [(folder / name).read_bytes() for name in outs]
     if None in counts:
         sys.exit(f"{' '.join(command)} failed, or neither perf nor valgrind can count it")
@@ -111,7 +111,7 @@ def row(name: str, program: str, nodes: str, folder: pathlib.Path) -> dict[str, 
     sources = {port["in"]: (home / port["in"]).read_bytes() for port in ports if "none" not in port["in"]}
     outs = [port["out"] for port in ports]
     files = [*(str(home / it) for it in sources), "--", *(str(home / it) for it in outs)]
-    ways = {"dpv": [program, "run", str(pipeline)], "C": [nodes, name, "-", *files]}
+    ways = {"dpv": [program, "run", pipeline.name], "C": [nodes, name, "-", *files]}
     plain = in_ebpf(name, folder)
     if plain is not None:
         ways |= {"eBPF": [nodes, name, str(plain), *files], "its JIT": [nodes, name, f"jit:{plain}", *files]}

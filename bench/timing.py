@@ -29,15 +29,15 @@ def best_in_turn(commands: list[tuple[list[str], pathlib.Path]], rounds: int) ->
     return [min(taken) for taken in times]
 
 
-def instructions(command: list[str]) -> int | None:
-    """How many machine instructions a run takes, where it succeeds and perf or valgrind can say so."""
+def instructions(command: list[str], folder: str | None = None) -> int | None:
+    """How many machine instructions a run in this folder takes, where it succeeds and perf or valgrind can say so."""
     tools = {
         "perf": (["perf", "stat", "-x,", "-e", "instructions:u"], r"^(\d+),"),
         "valgrind": (["valgrind", "--tool=callgrind", "--callgrind-out-file=/dev/null"], r"Collected : (\d+)"),
     }
     for tool, (words, pattern) in tools.items():
         if shutil.which(tool):
-            run = subprocess.run([*words, *command], stdout=subprocess.DEVNULL, stderr=subprocess.PIPE, text=True)
+            run = subprocess.run([*words, *command], cwd=folder, stdout=subprocess.DEVNULL, stderr=subprocess.PIPE, text=True)
             if run.returncode == 0 and (found := re.search(pattern, run.stderr, re.M)):
                 return int(found.group(1))
     return None

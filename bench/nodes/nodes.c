@@ -229,17 +229,24 @@ static void files_opened(char **names) {
     out_count = opened;
 }
 
-// The program of a file, as librte_bpf loads it: it gets at 64 bytes of the packet, and answers the port, or all ones.
+// The program of a file, as librte_bpf loads it: it gets at the packet's length, 2 bytes, and 64 bytes behind them, and answers the port,
+// or all ones.
 static struct rte_bpf *loaded(const char *name) {
     static struct ebpf_insn program[4096];
     FILE *file = fopen(name, "rb");
     if (!file) exit(4);
     uint32_t length = fread(program, sizeof *program, 4096, file);
-    struct rte_bpf_prm prm = {.ins = program, .nb_ins = length, .prog_arg = {.type = RTE_BPF_ARG_PTR, .size = 64}};
+    struct rte_bpf_prm prm = {.ins = program, .nb_ins = length, .prog_arg = {.type = RTE_BPF_ARG_PTR, .size = 66}};
     struct rte_bpf *bpf = rte_bpf_load(&prm);
     fclose(file);
     if (!bpf) exit(5);
     return bpf;
+}
+
+// A packet for librte_bpf: its length stands in the headroom, in front of its bytes.
+static inline void *with_length(struct rte_mbuf *packet) {
+    uint16_t length = rte_pktmbuf_data_len(packet);
+    return memcpy(rte_pktmbuf_mtod(packet, uint8_t *) - 2, &length, 2);
 }
 
 static void each_record(void (*node)(struct rte_mbuf *, unsigned), const struct rte_bpf *bpf, on_bytes jit) {
@@ -249,8 +256,8 @@ static void each_record(void (*node)(struct rte_mbuf *, unsigned), const struct 
             struct rte_mbuf *packet = received(ins[port]);
             if (!packet) continue;
             left++;
-            if (jit) sent_or_dropped(packet, jit(rte_pktmbuf_mtod(packet, void *)));
-            else if (bpf) sent_or_dropped(packet, rte_bpf_exec(bpf, rte_pktmbuf_mtod(packet, void *)));
+            if (jit) sent_or_dropped(packet, jit(with_length(packet)));
+            else if (bpf) sent_or_dropped(packet, rte_bpf_exec(bpf, with_length(packet)));
             else node(packet, port);
         }
     }
