@@ -1,4 +1,5 @@
 pub mod Behind
+pub mod Counts
 pub mod Endings
 mod Lines
 mod Numbers

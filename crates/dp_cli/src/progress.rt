@@ -74,6 +74,7 @@ impl<P: Write> Progress<P> {
 
     /// The capture begins with these bytes, which go by later: they tell the order of its numbers.
     pub fn begin(&mut self, front: &[u8])
+        ensures none { self.new.records ≡ none_yet self.new.records.order }
         ensures order { (order : Order) (unit : TimeUnit) → IsHeader order unit (take 24 front.now) → self.new.records ≡ none_yet order }
         ensures to { self.new.to ≡ self.old.to }
         ensures port { self.new.port ≡ self.old.port }

@@ -78,6 +78,7 @@ impl<R: Read, P: Write> Read for Watched<R, P> {
 
     ghost remaining = { λ r. R.remaining r.inner };
 
+    #[tactic(auto, using(crate::proofs::Counts::none_counted))]
     fn read(&mut self, buf: &mut [u8]) -> Result<usize>
         ensures bound { ReadsAtMost result buf.new }
         ensures bytes { ReadConsumes (R.remaining self.old.inner) (R.remaining self.new.inner) result buf.new }

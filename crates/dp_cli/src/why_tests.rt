@@ -2,6 +2,7 @@
 
 use crate::fault::{Fault, MEMORY, tell_fault};
 use crate::guarded::Guarded;
+use crate::progress::Progress;
 use crate::run::fault_of;
 use crate::watched::Watched;
 use crate::why::{Finding, Reason, reason_of};
@@ -9,7 +10,7 @@ use dp_model::{Entry, EnvError};
 use dp_pcap::PcapError;
 use dp_pipe::{Part, PipeError, RouteError, RunCause};
 use std::alloc::Global;
-use std::io::{Error, Read, Result, Write};
+use std::io::{Error, Read, Result, Write, sink};
 use std::test::Fail;
 
 /// The errors of a file that is not there, of a disk that is full and of a device that cannot be read.
@@ -169,7 +170,7 @@ impl Write for Short {
 
 #[test]
 fn a_reader_keeps_its_error(rt: HostRuntime) {
-    let mut reader = Watched::new(Short { left: 3 });
+    let mut reader = Watched::new(Short { left: 3 }, Progress::new(sink(), 0, false));
     let mut buf = [0; 8];
     assert!(&rt; matches!(reader.read(&mut buf), Ok(3)));
     assert!(&rt; reader.seen().failure.is_none());
@@ -187,7 +188,7 @@ fn a_pcapng_file_is_known_by_its_first_bytes(rt: HostRuntime) {
         (b"", false),
     ];
     for (bytes, is_pcapng) in cases {
-        let mut reader = Watched::new(bytes);
+        let mut reader = Watched::new(bytes, Progress::new(sink(), 0, false));
         let mut buf = [0; 8];
         assert!(&rt; reader.read(&mut buf).is_ok());
         assert_eq!(&rt; reader.seen().is_pcapng, is_pcapng);

@@ -82,7 +82,8 @@ impl WholeRecords {
 
     /// A count before the first byte of a capture, whose first bytes are shown to it: the version there tells the order of its numbers.
     pub fn of_capture(front: &[u8]) -> WholeRecords
-        ensures { (order : Order) (unit : TimeUnit) → IsHeader order unit (take 24 front.now) → result ≡ none_yet order }
+        ensures none { result ≡ none_yet result.order }
+        ensures order { (order : Order) (unit : TimeUnit) → IsHeader order unit (take 24 front.now) → result ≡ none_yet order }
     {
         if front.len() < HEADER {
             return WholeRecords::new();
