@@ -1,0 +1,50 @@
+#!/usr/bin/env python3
+"""Compares what needs no proof, before the proofs: the layout of code, definitions and proofs; that each wrong body can be made; and
+how many there are.
+
+Usage: tests/texts.py   (about half a minute)
+Prints a line for each file that `rt fmt` would lay out otherwise, and for each edit whose old text does not stand once; exits with 1 where there is
+one."""
+import concurrent.futures
+import pathlib
+import shutil
+import subprocess
+import sys
+import tempfile
+
+from planted import CRATES, TOP, Edit, Tally, counted, fit, lanes
+
+# What `rt fmt` lays out in a crate.
+PARTS = ("src", "specs", "proofs")
+
+
+def laid_otherwise(crate: str, room: pathlib.Path) -> list[str]:
+    """The files of a crate that are in another layout than that of `rt fmt`, which works in a copy."""
+    here, there = TOP / "crates" / crate, room / "crates" / crate
+    for part in (it for it in PARTS if (here / it).is_dir()):
+        shutil.copytree(here / part, there / part)
+    subprocess.run(["rt", "fmt"], cwd=there, check=True, stdout=subprocess.DEVNULL)
+    files = [it for part in PARTS for it in sorted((here / part).rglob("*.*t"))]
+    return [str(it.relative_to(TOP)) for it in files if it.read_bytes() != (there / it.relative_to(here)).read_bytes()]
+
+
+def main() -> int:
+    with tempfile.TemporaryDirectory(prefix="texts-") as room:
+        shutil.copy(TOP / "crates.txt", room)
+        with concurrent.futures.ThreadPoolExecutor(lanes(0)) as pool:
+            files = [file for found in pool.map(lambda it: laid_otherwise(it, pathlib.Path(room)), CRATES) for file in found]
+    for file in files:
+        print(f"{file}: rt fmt lays it out otherwise")
+    tally = Tally()
+    for crate in CRATES.values():
+        fit([Edit(crate, it) for name in ("must-fail", "planted") for it in sorted((crate.folder / name).glob("*.edit"))], tally)
+    page = (TOP / "docs/notes/wrong_bodies.md").read_text()
+    is_counted = page == counted(page)
+    if not is_counted:
+        print("docs/notes/wrong_bodies.md counts what was there before: run tests/planted.py --count")
+    print(f"texts: {len(files)} laid out otherwise, {len(tally.unfit)} wrong bodies that cannot be made")
+    return 1 if files or tally.unfit or not is_counted else 0
+
+
+if __name__ == "__main__":
+    sys.exit(main())
