@@ -14,11 +14,17 @@ pub const FORWARD: &str = "tx p0,r0,d\nexit\nd: free p0\nexit\n";
 pub const LOOP: &str = "enq p0,0,d\nexit\nd: free p0\nexit\n";
 
 pub const MULTICAST: &str =
-    "alloc p1,0,a\nappend p1,4\nset r1,0x0a0b0c0d\nstore p1,0,4,r1\nclone p2,p0,1,b\nclone p3,p0,1,c\nfree p0\nchain p1,p2\nset r2,1\ntx p1,r2,d\ntx p3,r0,e\nexit\nd: free p1\ne: free p3\nexit\nc: free p2\nb: free p1\na: free p0\nexit\n";
+    "alloc p1,0,a\nappend p1,4\nset r1,0x0a0b0c0d\nstore p1,0,4,r1\nclone p2,p0,1,b\nclone p3,p0,1,c\nfree p0\n\
+     chain p1,p2\nset r2,1\ntx p1,r2,d\ntx p3,r0,e\nexit\nd: free p1\ne: free p3\nexit\nc: free p2\nb: free p1\n\
+     a: free p0\nexit\n";
 
 /// Each of the 32 forms at least once.
 pub const ALL_FORMS: &str =
-    "ifhead p0,64,out\niftail p0,4,out\niflen p0,14,out\niflast p0,14,out\nload r1,p0,12,2\nand r1,7\nloadx r2,p0,r1,2,4\nstore p0,0,4,r2\nstorex p0,r1,2,4,r2\nset r3,5\nmov r4,r3\nadd r4,r3\nsub r4,1\nor r3,2\nxor r3,r3\nshl r3,1\nshr r3,1\njeq r3,7,out\njlt r3,2,out\nlookup r5,0,r2,out\nprepend p0,4\nadj p0,4\nappend p0,2\ntrim p0,2\nclone p1,p0,0,out\nfree p1\nalloc p1,0,out\nchain p1,p0\nenq p1,0,drop\nexit\ndrop: free p1\nexit\nout: jmp end\nend: tx p0,r0,left\nexit\nleft: free p0\nexit\n";
+    "ifhead p0,64,out\niftail p0,4,out\niflen p0,14,out\niflast p0,14,out\nload r1,p0,12,2\nand r1,7\n\
+     loadx r2,p0,r1,2,4\nstore p0,0,4,r2\nstorex p0,r1,2,4,r2\nset r3,5\nmov r4,r3\nadd r4,r3\nsub r4,1\nor r3,2\n\
+     xor r3,r3\nshl r3,1\nshr r3,1\njeq r3,7,out\njlt r3,2,out\nlookup r5,0,r2,out\nprepend p0,4\nadj p0,4\n\
+     append p0,2\ntrim p0,2\nclone p1,p0,0,out\nfree p1\nalloc p1,0,out\nchain p1,p0\nenq p1,0,drop\nexit\n\
+     drop: free p1\nexit\nout: jmp end\nend: tx p0,r0,left\nexit\nleft: free p0\nexit\n";
 
 /// The rows of strip's certificate, as `cert_text` has them.
 const STRIP_ROWS: [(&str, &str); 6] = [

@@ -113,7 +113,8 @@ fn a_packet_is_sole_again_in_a_loop(rt: HostRuntime) -> Result<(), Fail> {
         None
     );
     let kept =
-        "iflen p0,1,d\nset r1,0\na: store p0,0,1,r1\nclone p1,p0,0,d\nclone p2,p0,0,c\nfree p1\nadd r1,1\nfree p2\njlt r1,5,a\nd: free p0\nexit\nc: free p1\nstore p0,0,1,r1\njmp d\n";
+        "iflen p0,1,d\nset r1,0\na: store p0,0,1,r1\nclone p1,p0,0,d\nclone p2,p0,0,c\nfree p1\nadd r1,1\nfree p2\n\
+         jlt r1,5,a\nd: free p0\nexit\nc: free p1\nstore p0,0,1,r1\njmp d\n";
     let cert = infer(rt.alloc(), &program(&rt, kept)?, &env, Entry::Port(0))?;
     assert_eq!(rt; cert.version(), 2);
     let sent =

@@ -15,7 +15,9 @@ struct Loop {
 static LOOPS: [Loop; 14] = [
     Loop {
         does: "walks over the options of a header",
-        node: "iflen p0,60,d\nset r2,20\na: jlt r2,40,w\njmp e\nw: loadx r3,p0,r2,0,1\njeq r3,0,e\njeq r3,1,n\nloadx r4,p0,r2,1,1\njeq r4,0,e\nadd r2,r4\njmp a\nn: add r2,1\njmp a\ne: tx p0,r0,d\nexit\nd: free p0\nexit\n",
+        node: "iflen p0,60,d\nset r2,20\na: jlt r2,40,w\njmp e\nw: loadx r3,p0,r2,0,1\njeq r3,0,e\njeq r3,1,n\n\
+             loadx r4,p0,r2,1,1\njeq r4,0,e\nadd r2,r4\njmp a\nn: add r2,1\njmp a\ne: tx p0,r0,d\nexit\nd: free p0\n\
+             exit\n",
         rule: 0,
     },
     Loop {
@@ -50,7 +52,8 @@ static LOOPS: [Loop; 14] = [
     },
     Loop {
         does: "copies bytes to another packet",
-        node: "iflen p0,64,d\nalloc p1,0,d\nappend p1,64\nset r1,0\na: loadx r2,p0,r1,0,1\nstorex p1,r1,0,1,r2\nadd r1,1\njlt r1,64,a\ntx p1,r0,b\nd: free p0\nexit\nb: free p1\njmp d\n",
+        node: "iflen p0,64,d\nalloc p1,0,d\nappend p1,64\nset r1,0\na: loadx r2,p0,r1,0,1\nstorex p1,r1,0,1,r2\n\
+             add r1,1\njlt r1,64,a\ntx p1,r0,b\nd: free p0\nexit\nb: free p1\njmp d\n",
         rule: 0,
     },
     // the bounds say nothing of numbers that are even

@@ -95,7 +95,8 @@ fn new_bytes_are_zero(rt: HostRuntime) -> Result<(), Fail> {
     assert!(rt; ran.output == written(&rt, &[&[0, 0, 0, 0, 0, 0, 4, 0xf5, 0xf6]])?);
     assert!(rt; says(&ran.report, 2, 1, 64, 2));
     let behind =
-        "iflast p0,2,no\ntrim p0,2\niftail p0,3,no\nappend p0,3\nifhead p0,129,more\nfree p0\nexit\nmore: ifhead p0,128,no\ntx p0,r0,no\nexit\nno: free p0\nexit\n";
+        "iflast p0,2,no\ntrim p0,2\niftail p0,3,no\nappend p0,3\nifhead p0,129,more\nfree p0\nexit\n\
+         more: ifhead p0,128,no\ntx p0,r0,no\nexit\nno: free p0\nexit\n";
     let ran = run(&rt, &env, &[behind], &[&RECORD[..5], &RECORD[..1]])?;
     assert!(rt; ran.output == written(&rt, &[&[0xf0, 0xf1, 2, 0, 0, 0]])?);
     assert!(rt; says(&ran.report, 2, 1, 64, 2));
