@@ -3,9 +3,9 @@ use Rattle.std.proofs.Common.{◌≡◌, ℕ, ◌+◌, ◌<◌, ◌≤◌, Bool,
 use Rattle.std.specs.Prelude.{slice_set, slice_range, slice_index, nat_le}
 use Rattle.std.proofs.lemmas.Bool.{le-leb}
 use Rattle.dp_model.specs.Arithmetic.{big_endian, bytes_in, spelled}
-use Rattle.dp_model.specs.Packets.{Packet, first_len, IsHeadSole, stored, loaded}
+use Rattle.dp_model.specs.Packets.{Packet, first_len, IsHeadSole, stored, loaded, at_front}
 use Rattle.dp_model.specs.Machine.{State, live, Holds, with_buffers, At, Setting, Move, Acts, with_number}
-use Rattle.dp_model.specs.CopyMachine.{first_changed, with_stored, copy_on, first_piece, provided, copy_loads, copy_stores}
+use Rattle.dp_model.specs.CopyMachine.{with_stored, copy_on, first_piece, provided, copy_loads, copy_stores}
 use Rattle.dp_model.specs.Copies.{copy_of, copied}
 use Rattle.dp_model.specs.declared.registers.Width.{Width}
 use Rattle.dp_model.specs.declared.registers.Width.TheVariants.{One, Two, Four, Eight}
@@ -50,7 +50,7 @@ stores_step : (c : Setting) (st : State) (told : List Bool) (p label place w n :
     ≡ Some (At (label + 1), copied c.env.pools (with_buffers (stored place w n k st.world.buffers) st) told)
 stores_step c st told p label place w n k well holds some le sole =
     edits_step c.env.pools st (with_buffers (stored place w n k st.world.buffers) st) told p label (λ k. nat_le (place + w) (length (first_piece k).bytes))
-    (first_changed (with_stored place (big_endian w n))) k holds
+    (at_front (with_stored place (big_endian w n))) k holds
     (le-leb (place + w) _ (omega (arith, le, first_length c.env.pools st.world.buffers k (there c st p k well holds))))
     (store_copies c.env.pools st p k place w n told holds some le sole well)
 

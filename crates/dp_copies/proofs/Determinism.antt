@@ -5,13 +5,13 @@ use Rattle.std.specs.Prelude.{slice_get, option_map, option_and_then, nat_lt}
 use Rattle.std.proofs.lemmas.Option.{same_Some}
 use Rattle.std.specs.Option.{option_map_or}
 use Rattle.dp_model.specs.Environments.{room_at, Environment}
-use Rattle.dp_model.specs.CopyMachine.{Copy, copy_received, CopyState, CopyWaiting, copy_start, copy_node_run, copy_receives, copy_arrives}
-use Rattle.dp_model.specs.CopyMachine.{copy_first_waiting, copy_serves, copy_turn, copy_records_at, copy_run, Captures}
+use Rattle.dp_model.specs.CopyMachine.{Copy, copy_received, CopyState, copy_start, copy_node_run, copy_receives, copy_arrives}
+use Rattle.dp_model.specs.CopyMachine.{copy_serves, copy_turn, copy_records_at, copy_run, Captures}
 use Rattle.dp_model.specs.Prefixes.{Route}
 use Rattle.dp_model.specs.declared.env.PortSpec.{PortSpec}
 use Rattle.dp_model.specs.declared.instr.Instr.{Instr}
 use Rattle.dp_model.specs.Packets.{needed}
-use Rattle.dp_model.specs.Runs.{Got, Oversize, Nodes, Arrival, joined}
+use Rattle.dp_model.specs.Runs.{Got, Oversize, Waiting, first_waiting, Nodes, Arrival, joined}
 use Rattle.dp_copies.proofs.NodeRuns.{goes_more}
 
 -- what the first gives, so does the second
@@ -28,7 +28,7 @@ map_less f None o' less r e = cc
 map_less f (Some a) o' less r e = ap (option_map f) (less a refl) ∙ e
 
 -- the packet that waits is served
-abbrev serve : Environment → List (List Route) → List (List Instr) → ℕ → CopyState → ℕ → Option CopyWaiting → Option CopyState
+abbrev serve : Environment → List (List Route) → List (List Instr) → ℕ → CopyState → ℕ → Option (Waiting Copy) → Option CopyState
 serve env tables programs n x fuel o = option_map_or (λ next. option_and_then (copy_serves env tables fuel programs n)
     (option_and_then (λ program. copy_node_run env tables fuel program next.packet next.ring (record x { rings = next.rings }))
     (slice_get programs next.ring))) o (Some x)
@@ -44,9 +44,9 @@ module _ (env : Environment) (tables : List (List Route)) (fuel more : ℕ) (le 
   serves_less : (programs : List (List Instr)) (n : ℕ) (x : CopyState) →
       Less (copy_serves env tables fuel programs n x) (copy_serves env tables more programs n x)
   serves_less programs zero x t e = e
-  serves_less programs (suc n) x t e = go (copy_first_waiting x.rings) (serves_less programs n) t e
+  serves_less programs (suc n) x t e = go (first_waiting x.rings) (serves_less programs n) t e
     where
-      go : (o : Option CopyWaiting) → ((x : CopyState) → Less (copy_serves env tables fuel programs n x) (copy_serves env tables more programs n x)) →
+      go : (o : Option (Waiting Copy)) → ((x : CopyState) → Less (copy_serves env tables fuel programs n x) (copy_serves env tables more programs n x)) →
           Less (serve env tables programs n x fuel o) (serve env tables programs n x more o)
       go None rest t e = e
       go (Some next) rest t e = then_less (copy_serves env tables fuel programs n) (copy_serves env tables more programs n)

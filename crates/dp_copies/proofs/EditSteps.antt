@@ -6,7 +6,7 @@ use Rattle.std.proofs.lemmas.List.{map-append, length-map}
 use Rattle.dp_model.specs.declared.env.PoolSpec.{PoolSpec}
 use Rattle.dp_model.specs.Packets.{Packet, at_front, at_end, more_before, less_before, more_behind, less_behind, zeroed_behind, zeroed_before}
 use Rattle.dp_model.specs.Machine.{State, Holds, with_buffers, At, with_packet, Setting, Move, Acts}
-use Rattle.dp_model.specs.CopyMachine.{Copy, with_held, copy_put, first_changed, copy_on, first_piece, last_piece, last_changed, with_front, without_front}
+use Rattle.dp_model.specs.CopyMachine.{Copy, with_held, copy_put, copy_on, first_piece, last_piece, with_front, without_front}
 use Rattle.dp_model.specs.CopyMachine.{with_back, without_back, provided, copy_edits}
 use Rattle.dp_model.specs.Copies.{piece_of, copy_of, copied}
 use Rattle.dp_model.specs.declared.instr.Instr.TheVariants.{Free, Prepend, Adj, Append, Trim, Chain}
@@ -39,7 +39,7 @@ pub prepend_step : (c : Setting) (label : ℕ) (s : State) (p n : ℕ) (m : Move
     Does c label s (Prepend p n) later m
 prepend_step c label s p n m later well (k, holds, le, sole, is) = by c label s (Prepend p n) later m _ is
     (edits_step c.env.pools s (with_packet p (at_front (more_before n) k) (with_buffers (zeroed_before n k s.world.buffers) s)) later p label
-    (λ k. nat_le n (first_piece k).before) (first_changed (with_front n)) k holds
+    (λ k. nat_le n (first_piece k).before) (at_front (with_front n)) k holds
     (le-leb n _ (omega (arith, le, first_before c.env.pools s.world.buffers k)))
     (prepend_copies c s p k n later holds le sole well))
 
@@ -47,7 +47,7 @@ pub append_step : (c : Setting) (label : ℕ) (s : State) (p n : ℕ) (m : Move)
     Does c label s (Append p n) later m
 append_step c label s p n m later well (k, holds, le, sole, is) = by c label s (Append p n) later m _ is
     (edits_step c.env.pools s (with_packet p (at_end (more_behind n) k) (with_buffers (zeroed_behind n k s.world.buffers) s)) later p label
-    (λ k. nat_le n (last_piece k).behind) (last_changed (with_back n)) k holds
+    (λ k. nat_le n (last_piece k).behind) (at_end (with_back n)) k holds
     (le-leb n _ (omega (arith, le, last_behind c.env.pools s.world.buffers k)))
     (append_copies c s p k n later holds le sole well))
 
@@ -55,7 +55,7 @@ pub adj_step : (c : Setting) (label : ℕ) (s : State) (p n : ℕ) (m : Move) (l
     Does c label s (Adj p n) later m
 adj_step c label s p n m later well (k, holds, le, is) = by c label s (Adj p n) later m _ is
     (edits_step c.env.pools s (with_packet p (at_front (less_before n) k) s) later p label
-    (λ k. nat_le n (length (first_piece k).bytes)) (first_changed (without_front n)) k holds
+    (λ k. nat_le n (length (first_piece k).bytes)) (at_front (without_front n)) k holds
     (le-leb n _ (omega (arith, le, first_length c.env.pools s.world.buffers k (there c s p k well holds))))
     (put_copies c.env.pools s p (Some (at_front (less_before n) k)) later
     ∙ ap (λ x. copy_put p (Some x) (copied c.env.pools s later)) (adj_copy c.env.pools s.world.buffers k n le (there c s p k well holds))))
@@ -64,7 +64,7 @@ pub trim_step : (c : Setting) (label : ℕ) (s : State) (p n : ℕ) (m : Move) (
     Does c label s (Trim p n) later m
 trim_step c label s p n m later well (k, holds, le, is) = by c label s (Trim p n) later m _ is
     (edits_step c.env.pools s (with_packet p (at_end (less_behind n) k) s) later p label
-    (λ k. nat_le n (length (last_piece k).bytes)) (last_changed (without_back n)) k holds
+    (λ k. nat_le n (length (last_piece k).bytes)) (at_end (without_back n)) k holds
     (le-leb n _ (omega (arith, le, last_length c.env.pools s.world.buffers k (there c s p k well holds))))
     (put_copies c.env.pools s p (Some (at_end (less_behind n) k)) later
     ∙ ap (λ x. copy_put p (Some x) (copied c.env.pools s later)) (trim_copy c.env.pools s.world.buffers k n le (there c s p k well holds))))

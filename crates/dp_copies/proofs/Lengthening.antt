@@ -9,7 +9,7 @@ use Rattle.dp_model.specs.Buffers.{Number, same_number, Buffers, bytes_of, overw
 use Rattle.dp_model.specs.Packets.{Segment, Packet, refs, IsHeadSole, Lies, headroom, tailroom, IsTailSole, room_behind, at_front, at_end, more_before}
 use Rattle.dp_model.specs.Packets.{more_behind, zeroed_behind, zeroed_before}
 use Rattle.dp_model.specs.Machine.{State, live, Holds, with_buffers, with_packet, Setting}
-use Rattle.dp_model.specs.CopyMachine.{Copy, copy_put, first_changed, Piece, last_changed, with_front, with_back}
+use Rattle.dp_model.specs.CopyMachine.{Copy, copy_put, Piece, with_front, with_back}
 use Rattle.dp_model.specs.Copies.{piece_of, copy_of, copied}
 use Rattle.dp_model.specs.Laws.References.{refs-append, refs-cons, refs_first}
 use Rattle.dp_model.specs.Laws.Cases.{one_if}
@@ -37,7 +37,7 @@ prepend_piece pools buffers s n le there =
 -- prepend
 pub prepend_copies : (c : Setting) (st : State) (p : ℕ) (k : Packet) (n : ℕ) (told : List Bool) → Holds st p k → n ≤ headroom k → IsHeadSole (live st) k →
     IsInside c st → copied c.env.pools (with_packet p (at_front (more_before n) k) (with_buffers (zeroed_before n k st.world.buffers) st)) told
-    ≡ copy_put p (Some (first_changed (with_front n) (copy_of c.env.pools st.world.buffers k))) (copied c.env.pools st told)
+    ≡ copy_put p (Some (at_front (with_front n) (copy_of c.env.pools st.world.buffers k))) (copied c.env.pools st told)
 prepend_copies c st p [] n told holds le sole well = put_copies c.env.pools st p (Some []) told
 prepend_copies c st p (s ∷ rest) n told holds le sole well =
     let pools = c.env.pools in
@@ -78,15 +78,10 @@ ends segments s (t ∷ rest) sole =
     record { front = s ∷ e.front; last = e.last; is = ap (λ k. s ∷ k) e.is; sole = e.sole }
 
 -- what an edit behind does to the last segment
-pub at_end-push : (f : Segment → Segment) (front : Packet) (s : Segment) → at_end f (front ++ s ∷ []) ≡ front ++ f s ∷ []
-at_end-push f [] s = refl
-at_end-push f (a ∷ []) s = refl
-at_end-push f (a ∷ b ∷ front) s = ap (λ k. a ∷ k) (at_end-push f (b ∷ front) s)
-
-pub last_changed-push : (f : Piece → Piece) (front : Copy) (x : Piece) → last_changed f (front ++ x ∷ []) ≡ front ++ f x ∷ []
-last_changed-push f [] x = refl
-last_changed-push f (a ∷ []) x = refl
-last_changed-push f (a ∷ b ∷ front) x = ap (λ k. a ∷ k) (last_changed-push f (b ∷ front) x)
+pub at_end-push : {A : Type 0} (f : A → A) (front : List A) (x : A) → at_end f (front ++ x ∷ []) ≡ front ++ f x ∷ []
+at_end-push f [] x = refl
+at_end-push f (a ∷ []) x = refl
+at_end-push f (a ∷ b ∷ front) x = ap (λ k. a ∷ k) (at_end-push f (b ∷ front) x)
 
 -- the zeros behind the last segment
 pub zeroed_behind-push : (n : ℕ) (front : Packet) (s : Segment) (buffers : Buffers) → zeroed_behind n (front ++ s ∷ []) buffers
@@ -108,18 +103,18 @@ refs_push front s b = let none : refs [] b ≡ 0 = refl in omega (arith, refs-ap
 -- append
 pub append_copies : (c : Setting) (st : State) (p : ℕ) (k : Packet) (n : ℕ) (told : List Bool) → Holds st p k → n ≤ tailroom c.env.pools k →
     IsTailSole (live st) k → IsInside c st → copied c.env.pools (with_packet p (at_end (more_behind n) k)
-    (with_buffers (zeroed_behind n k st.world.buffers) st)) told ≡ copy_put p (Some (last_changed (with_back n) (copy_of c.env.pools st.world.buffers k)))
+    (with_buffers (zeroed_behind n k st.world.buffers) st)) told ≡ copy_put p (Some (at_end (with_back n) (copy_of c.env.pools st.world.buffers k)))
     (copied c.env.pools st told)
 append_copies c st p [] n told holds le sole well = put_copies c.env.pools st p (Some []) told
 append_copies c st p (a ∷ rest) n told holds le sole well =
     let e = ends (live st) a rest sole in
     subst (λ j. copied c.env.pools (with_packet p (at_end (more_behind n) j) (with_buffers (zeroed_behind n j st.world.buffers) st)) told
-    ≡ copy_put p (Some (last_changed (with_back n) (copy_of c.env.pools st.world.buffers j))) (copied c.env.pools st told)) (sym e.is)
+    ≡ copy_put p (Some (at_end (with_back n) (copy_of c.env.pools st.world.buffers j))) (copied c.env.pools st told)) (sym e.is)
     (pushed e.front e.last (subst (Holds st p) e.is holds) (subst (λ j. n ≤ tailroom c.env.pools j) e.is le) e.sole)
   where
     pushed : (front : Packet) (s : Segment) → Holds st p (front ++ s ∷ []) → n ≤ tailroom c.env.pools (front ++ s ∷ []) → refs (live st) s.buffer ≡ 1 →
         copied c.env.pools (with_packet p (at_end (more_behind n) (front ++ s ∷ [])) (with_buffers (zeroed_behind n (front ++ s ∷ []) st.world.buffers) st))
-        told ≡ copy_put p (Some (last_changed (with_back n) (copy_of c.env.pools st.world.buffers (front ++ s ∷ [])))) (copied c.env.pools st told)
+        told ≡ copy_put p (Some (at_end (with_back n) (copy_of c.env.pools st.world.buffers (front ++ s ∷ [])))) (copied c.env.pools st told)
     pushed front s holds le sole =
         let pools = c.env.pools in
         let old = st.world.buffers in
@@ -140,8 +135,8 @@ append_copies c st p (a ∷ rest) n told holds le sole well =
         ∙ (ap (λ x. copy_of pools new front ++ x ∷ []) piece
         ∙ (ap (λ xs. xs ++ with_back n (piece_of pools old s) ∷ []) (rest_same pools st p k front s.buffer new holds changes sole
         (λ b. omega (arith, refs_push front s b)))
-        ∙ (sym (last_changed-push (with_back n) (copy_of pools old front) (piece_of pools old s))
-        ∙ ap (last_changed (with_back n)) (sym (map-append (piece_of pools old) front (s ∷ []))))))))
+        ∙ (sym (at_end-push (with_back n) (copy_of pools old front) (piece_of pools old s))
+        ∙ ap (at_end (with_back n)) (sym (map-append (piece_of pools old) front (s ∷ []))))))))
       where
         last_there : (front : Packet) (s : Segment) → AllByRecursion (IsThere c.env.pools st.world.buffers) (front ++ s ∷ []) →
             IsThere c.env.pools st.world.buffers s

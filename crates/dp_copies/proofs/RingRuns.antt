@@ -7,7 +7,7 @@ use Rattle.dp_model.specs.Buffers.{Buffers}
 use Rattle.dp_model.specs.Packets.{Packet, Lies}
 use Rattle.dp_model.specs.Machine.{segments_listed, Setting, World}
 use Rattle.dp_model.specs.Copies.{copy_of}
-use Rattle.dp_model.specs.CopyMachine.{is_told, CopyState, CopyWaiting, copy_node_run, copy_first_waiting, copy_serves, copy_behind}
+use Rattle.dp_model.specs.CopyMachine.{is_told, Copy, CopyState, copy_node_run, copy_serves}
 use Rattle.dp_model.specs.declared.instr.Instr.{Instr}
 use Rattle.dp_model.specs.Runs.{first_state, NodeRun, between, Waiting, behind, first_waiting, Serves}
 use Rattle.dp_model.specs.Laws.Lists.{all_left, all_right, all_join}
@@ -17,23 +17,23 @@ use Rattle.dp_copies.proofs.Lengths.{there}
 use Rattle.dp_copies.proofs.Landings.{Shows, Lands, stays, node_lands}
 
 -- the copies of what waits
-abbrev copy_waiting : List PoolSpec → Buffers → Waiting → CopyWaiting
+abbrev copy_waiting : List PoolSpec → Buffers → Waiting Packet → Waiting Copy
 copy_waiting pools buffers next = record { ring = next.ring; packet = copy_of pools buffers next.packet; rings = map (map (copy_of pools buffers)) next.rings }
 
 -- the same packet waits first
-first_copies : (pools : List PoolSpec) (buffers : Buffers) (rings : List (List Packet)) → copy_first_waiting (map (map (copy_of pools buffers)) rings)
+first_copies : (pools : List PoolSpec) (buffers : Buffers) (rings : List (List Packet)) → first_waiting (map (map (copy_of pools buffers)) rings)
     ≡ option_map (copy_waiting pools buffers) (first_waiting rings)
 first_copies pools buffers [] = refl
-first_copies pools buffers ([] ∷ rings) = ap (option_map (copy_behind [])) (first_copies pools buffers rings) ∙ swap (first_waiting rings)
+first_copies pools buffers ([] ∷ rings) = ap (option_map (behind [])) (first_copies pools buffers rings) ∙ swap (first_waiting rings)
   where
-    swap : (o : Option Waiting) → option_map (copy_behind []) (option_map (copy_waiting pools buffers) o)
+    swap : (o : Option (Waiting Packet)) → option_map (behind []) (option_map (copy_waiting pools buffers) o)
         ≡ option_map (copy_waiting pools buffers) (option_map (behind []) o)
     swap None = refl
     swap (Some next) = refl
 first_copies pools buffers ((k ∷ packets) ∷ rings) = refl
 
 -- it lies within the buffers
-ring_inside : (c : Setting) (next : Waiting) (w : World) → first_waiting w.rings ≡ Some next → IsInside c (between w) →
+ring_inside : (c : Setting) (next : Waiting Packet) (w : World) → first_waiting w.rings ≡ Some next → IsInside c (between w) →
     IsInside c (first_state next.packet next.ring (record w { rings = next.rings }))
 ring_inside c next w e well =
     let (packets, there, are) = waits w.rings next e in
@@ -63,7 +63,7 @@ serves_lands c programs zero w w' told later runs x well shows (none, _, is) =
 serves_lands c programs (suc n) w w' told later runs x well shows serves =
     go (first_waiting w.rings) refl serves (λ mid told runs x. serves_lands c programs n mid w' told later runs x)
   where
-    go : (o : Option Waiting) → first_waiting w.rings ≡ o → MatchOption o ((told ≡ []) × (runs ≡ 0) × (w' ≡ w)) (λ next. (program : List Instr)
+    go : (o : Option (Waiting Packet)) → first_waiting w.rings ≡ o → MatchOption o ((told ≡ []) × (runs ≡ 0) × (w' ≡ w)) (λ next. (program : List Instr)
         × (now later : List Bool) × (mid : World) × (more : ℕ) × (slice_get programs next.ring ≡ Some program)
         × NodeRun c program next.packet next.ring (record w { rings = next.rings }) now mid × Serves c programs n mid later more w' × (told ≡ now ++ later)
         × (runs ≡ more + 1)) → ((mid : World) (told : List Bool) (runs : ℕ) (x : CopyState) → IsInside c (between mid) →
@@ -71,7 +71,7 @@ serves_lands c programs (suc n) w w' told later runs x well shows serves =
         Lands c w' later (λ fuel. copy_serves c.env c.tables fuel programs n x) (λ t. t)) →
         Lands c w' later (λ fuel. copy_serves c.env c.tables fuel programs (suc n) x) (λ t. t)
     go None e (none, _, is) on =
-        let waiting : copy_first_waiting x.rings ≡ None = ap copy_first_waiting shows.rings
+        let waiting : first_waiting x.rings ≡ None = ap first_waiting shows.rings
         ∙ (first_copies c.env.pools w.buffers w.rings ∙ ap (option_map (copy_waiting c.env.pools w.buffers)) e) in
         stays c w w' told later x (λ fuel. copy_serves c.env c.tables fuel programs (suc n) x) (λ t. t) well shows none is
         (λ fuel. ap (λ o. option_map_or (λ next. option_and_then (copy_serves c.env c.tables fuel programs n)
@@ -79,7 +79,7 @@ serves_lands c programs (suc n) w w' told later runs x well shows serves =
         (slice_get programs next.ring))) o (Some x)) waiting)
     go (Some next) e (program, now, rest, mid, more, is_program, run, serves, is_told, _) on =
         let pools = c.env.pools in
-        let waiting : copy_first_waiting x.rings ≡ Some (copy_waiting pools w.buffers next) = ap copy_first_waiting shows.rings
+        let waiting : first_waiting x.rings ≡ Some (copy_waiting pools w.buffers next) = ap first_waiting shows.rings
         ∙ (first_copies pools w.buffers w.rings ∙ ap (option_map (copy_waiting pools w.buffers)) e) in
         let y : CopyState = record x { rings = map (map (copy_of pools w.buffers)) next.rings } in
         let split : told ++ later ≡ now ++ (rest ++ later) = ap (λ ts. ts ++ later) is_told ∙ append_assoc now rest later in

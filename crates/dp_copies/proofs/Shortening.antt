@@ -5,7 +5,7 @@ use Rattle.dp_model.specs.declared.env.PoolSpec.{PoolSpec}
 use Rattle.dp_model.specs.Environments.{room_at}
 use Rattle.dp_model.specs.Buffers.{Buffers, bytes_of}
 use Rattle.dp_model.specs.Packets.{Packet, segment_bytes, first_len, last_len, at_front, at_end, less_before, less_behind}
-use Rattle.dp_model.specs.CopyMachine.{first_changed, last_changed, without_front, without_back}
+use Rattle.dp_model.specs.CopyMachine.{without_front, without_back}
 use Rattle.dp_model.specs.Copies.{piece_of, copy_of}
 use Rattle.dp_copies.proofs.Parts.{range_drop, range_take}
 use Rattle.dp_copies.proofs.Lengths.{length_segment, IsThere}
@@ -13,7 +13,7 @@ use Rattle.dp_copies.proofs.Lengths.{length_segment, IsThere}
 module _ (pools : List PoolSpec) (buffers : Buffers) where
   -- adj
   pub adj_copy : (k : Packet) (n : ℕ) → n ≤ first_len k → AllByRecursion (IsThere pools buffers) k → copy_of pools buffers (at_front (less_before n) k)
-      ≡ first_changed (without_front n) (copy_of pools buffers k)
+      ≡ at_front (without_front n) (copy_of pools buffers k)
   adj_copy [] n le all = refl
   adj_copy (s ∷ rest) n le all =
       let bytes = range_drop (bytes_of buffers s.buffer) s.offset s.len n le all.0.1 in
@@ -22,7 +22,7 @@ module _ (pools : List PoolSpec) (buffers : Buffers) where
 
   -- trim
   pub trim_copy : (k : Packet) (n : ℕ) → n ≤ last_len k → AllByRecursion (IsThere pools buffers) k → copy_of pools buffers (at_end (less_behind n) k)
-      ≡ last_changed (without_back n) (copy_of pools buffers k)
+      ≡ at_end (without_back n) (copy_of pools buffers k)
   trim_copy [] n le all = refl
   trim_copy (s ∷ []) n le all =
       let old = segment_bytes buffers s in

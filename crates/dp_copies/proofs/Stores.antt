@@ -5,9 +5,9 @@ use Rattle.dp_model.specs.declared.env.PoolSpec.{PoolSpec}
 use Rattle.dp_model.specs.Arithmetic.{big_endian}
 use Rattle.dp_model.specs.Environments.{room_at}
 use Rattle.dp_model.specs.Buffers.{Number, same_number, bytes_of, overwritten}
-use Rattle.dp_model.specs.Packets.{Segment, Packet, refs, first_len, IsHeadSole, stored, Lies, IsWithin}
+use Rattle.dp_model.specs.Packets.{Segment, Packet, refs, first_len, IsHeadSole, stored, Lies, IsWithin, at_front}
 use Rattle.dp_model.specs.Machine.{State, live, segments_held, segments_listed, Holds, with_buffers}
-use Rattle.dp_model.specs.CopyMachine.{copy_put, first_changed, with_stored}
+use Rattle.dp_model.specs.CopyMachine.{copy_put, with_stored}
 use Rattle.dp_model.specs.Copies.{copy_of, copied}
 use Rattle.dp_model.specs.Laws.References.{refs-cons, refs_held, refs_two, live_parts}
 use Rattle.dp_model.specs.Laws.Cases.{one_if}
@@ -24,7 +24,7 @@ use Rattle.dp_copies.proofs.Writes.{apart}
 stored_copy : (pools : List PoolSpec) (st : State) (s : Segment) (rest : Packet) (off w n : ℕ) → 0 < w → off + w ≤ s.len →
     s.offset + s.len ≤ room_at pools s.buffer.pool → length (bytes_of st.world.buffers s.buffer) ≡ room_at pools s.buffer.pool →
     Same pools st.world.buffers (stored off w n (s ∷ rest) st.world.buffers) rest → copy_of pools (stored off w n (s ∷ rest) st.world.buffers) (s ∷ rest)
-    ≡ first_changed (with_stored off (big_endian w n)) (copy_of pools st.world.buffers (s ∷ rest))
+    ≡ at_front (with_stored off (big_endian w n)) (copy_of pools st.world.buffers (s ∷ rest))
 stored_copy pools st s rest off w n some short fits room same =
     let old = bytes_of st.world.buffers s.buffer in
     let new : List ℕ = big_endian w n in
@@ -44,7 +44,7 @@ stored_copy pools st s rest off w n some short fits room same =
 -- and no other packet is changed by it
 pub store_copies : (pools : List PoolSpec) (st : State) (p : ℕ) (k : Packet) (off w n : ℕ) (told : List Bool) → Holds st p k → 0 < w → off + w ≤ first_len k →
     IsHeadSole (live st) k → IsWithin pools st.world.buffers (live st) → copied pools (with_buffers (stored off w n k st.world.buffers) st) told
-    ≡ copy_put p (Some (first_changed (with_stored off (big_endian w n)) (copy_of pools st.world.buffers k))) (copied pools st told)
+    ≡ copy_put p (Some (at_front (with_stored off (big_endian w n)) (copy_of pools st.world.buffers k))) (copied pools st told)
 unfolding Same
 store_copies pools st p [] off w n told holds some short sole well = absurd (omega arith)
 store_copies pools st p (s ∷ rest) off w n told holds some short sole well =
@@ -57,7 +57,7 @@ store_copies pools st p (s ∷ rest) off w n told holds some short sole well =
     Same pools old new segments =
     λ segments within b one. bytes_other old s.buffer b _ (apart st s.buffer b (refs segments b) sole (within b) one) in
     let mine : (b : Number) → one_if (same_number s.buffer b) ≤ refs k b = λ b. omega (arith, refs-cons s rest b) in
-    let head : copy_of pools new k ≡ first_changed (with_stored off (big_endian w n)) (copy_of pools old k) =
+    let head : copy_of pools new k ≡ at_front (with_stored off (big_endian w n)) (copy_of pools old k) =
     stored_copy pools st s rest off w n some short lies.fits (well.rooms s.buffer lies.number)
     (others rest (λ b. omega (arith, refs-cons s rest b, live_parts st b, refs_held st.packets p (Some k) b holds))) in
     let packets = map_one (option_map (copy_of pools old)) (option_map (copy_of pools new)) st.packets p (Some k) holds

@@ -22,7 +22,7 @@ pub stand_first : (slots : List (Option Packet)) (registers : List (Option ℕ))
 stand_first slots registers lists i h xs idle there x = omega (arith, idle.each x, left_less lists i h x xs there)
 
 -- this is what a machine does with the first that waits, if one does
-abbrev pub StartsWith : Option Waiting → Option ℕ → Core → Core → Type 0
+abbrev pub StartsWith : Option (Waiting Packet) → Option ℕ → Core → Core → Type 0
 StartsWith first result old new =
     MatchOption first
     ((result ≡ None) × (new ≡ old))
@@ -33,12 +33,12 @@ Starts result old new = StartsWith (first_waiting old.state.world.rings) result 
 
 pub starts_none : (core : Core) (w : List (List Packet)) → w ≡ core.state.world.rings → first_waiting w ≡ None → Starts None core core
 starts_none core w is none =
-    subst (λ (o : Option Waiting). StartsWith o None core core) (sym (ap first_waiting (sym is) ∙ none)) (refl, refl)
+    subst (λ (o : Option (Waiting Packet)). StartsWith o None core core) (sym (ap first_waiting (sym is) ∙ none)) (refl, refl)
 
-pub starts_some : (core new : Core) (found : Waiting) (w : List (List Packet)) → w ≡ core.state.world.rings → first_waiting w ≡ Some found
+pub starts_some : (core new : Core) (found : Waiting Packet) (w : List (List Packet)) → w ≡ core.state.world.rings → first_waiting w ≡ Some found
     → new ≡ moved (first_state found.packet found.ring (record core.state.world { rings = found.rings })) core → Starts (Some found.ring) core new
 starts_some core new found w is first state =
-    subst (λ (o : Option Waiting). StartsWith o (Some found.ring) core new) (sym (ap first_waiting (sym is) ∙ first)) (refl, state)
+    subst (λ (o : Option (Waiting Packet)). StartsWith o (Some found.ring) core new) (sym (ap first_waiting (sym is) ∙ first)) (refl, state)
 
 pub starts_first : (s : Store) (frames : Frames) (registers : List (Option ℕ)) (numbers : List ℕ) (rings : List RingView) (outboxes : List (List ℕ))
     (calls : ℕ) (steps : Ran) (core : Core) (i h : ℕ) (xs : List ℕ) → core_of s frames registers numbers
@@ -50,7 +50,7 @@ starts_first s frames registers numbers rings outboxes calls steps core i h xs i
     let new : Core =
     core_of s frames (Some h ∷ replicate 7 None) (i ∷ replicate 7 0) (record { rings = slice_set (map entries_of rings) i xs; outboxes = outboxes })
     calls (ran steps.steps steps.cuts 0) in
-    let found : Waiting = record { ring = i; packet = packet_at s.slots h; rings = slice_set (in_rings s.slots rings) i (map (packet_at s.slots) xs) } in
+    let found : Waiting Packet = record { ring = i; packet = packet_at s.slots h; rings = slice_set (in_rings s.slots rings) i (map (packet_at s.slots) xs) } in
     let e = map_set (map (packet_at s.slots)) (map entries_of rings) i xs in
     let P : Core → Type 0 = λ c. new ≡ moved (first_state found.packet found.ring (record c.state.world { rings = found.rings })) c in
     starts_some core new found (in_rings s.slots rings) (ap (λ (c : Core). c.state.world.rings) is) (first.is h xs at) (subst P is (rw e refl))

@@ -132,23 +132,23 @@ received_is c nodes program port spec bytes w s keeps is_spec is_program rest fi
 
 -- what is served next
 pub record Next (c : Setting) (nodes : Nodes) (m m' : Core) (ring : ℕ) : Type 0 where
-  pub next : Waiting
+  pub next : Waiting Packet
   pub waits : first_waiting m.state.world.rings ≡ Some next
   pub ring_is : next.ring ≡ ring
   pub taken : m' ≡ moved (first_state next.packet next.ring (record m.state.world { rings = next.rings })) m
   pub there : ring < length c.env.rings
 
 -- what is told of a machine from which one is taken
-abbrev IsTaken : Core → Core → ℕ → Option Waiting → Type 0
+abbrev IsTaken : Core → Core → ℕ → Option (Waiting Packet) → Type 0
 IsTaken m m' ring o =
     MatchOption o ((Some ring ≡ None) × (m' ≡ m))
-    (λ (w : Waiting). (Some ring ≡ Some w.ring) × (m' ≡ moved (first_state w.packet w.ring (record m.state.world { rings = w.rings })) m))
+    (λ (w : Waiting Packet). (Some ring ≡ Some w.ring) × (m' ≡ moved (first_state w.packet w.ring (record m.state.world { rings = w.rings })) m))
 
 pub next_is : (c : Setting) (nodes : Nodes) (m m' : Core) (ring : ℕ) → IsAtRest c m.state.world → IsTaken m m' ring (first_waiting m.state.world.rings)
     → Next c nodes m m' ring
 next_is c nodes m m' ring rest = go (first_waiting m.state.world.rings) refl
   where
-    within : (next : Waiting) → first_waiting m.state.world.rings ≡ Some next → next.ring < length c.env.rings
+    within : (next : Waiting Packet) → first_waiting m.state.world.rings ≡ Some next → next.ring < length c.env.rings
     within next e =
         let w = m.state.world in
         let (packets, there, _) = waits w.rings next e in
@@ -156,7 +156,7 @@ next_is c nodes m m' ring rest = go (first_waiting m.state.world.rings) refl
         rest.ready.world.rings there in
         slice_get_within c.env.rings next.ring spec is_ring
 
-    go : (o : Option Waiting) → first_waiting m.state.world.rings ≡ o → IsTaken m m' ring o → Next c nodes m m' ring
+    go : (o : Option (Waiting Packet)) → first_waiting m.state.world.rings ≡ o → IsTaken m m' ring o → Next c nodes m m' ring
     go None e (never, _) = cc
     go (Some next) e (same, is) =
         let ring_is : next.ring ≡ ring = sym (same_Some ring next.ring same) in
@@ -197,19 +197,19 @@ served_rests s m m' run keeps rest (next, program, told, e, is_program, is_run, 
     safe_rests s.setting b told m'.state.world (keeps.waiting next program m.state.world rest e is_program) is_run
 
 -- no packet comes or goes as it is taken
-listed_waiting : (rings : List (List Packet)) (next : Waiting) → first_waiting rings ≡ Some next → listed_count next.rings + 1 ≡ listed_count rings
+listed_waiting : (rings : List (List Packet)) (next : Waiting Packet) → first_waiting rings ≡ Some next → listed_count next.rings + 1 ≡ listed_count rings
 listed_waiting [] next h = cc
 listed_waiting ([] ∷ rings) next h = go (first_waiting rings) refl h (listed_waiting rings)
   where
-    go : (o : Option Waiting) → first_waiting rings ≡ o → option_map (behind []) o ≡ Some next
-        → ((w : Waiting) → first_waiting rings ≡ Some w → listed_count w.rings + 1 ≡ listed_count rings)
+    go : (o : Option (Waiting Packet)) → first_waiting rings ≡ o → option_map (behind []) o ≡ Some next
+        → ((w : Waiting Packet) → first_waiting rings ≡ Some w → listed_count w.rings + 1 ≡ listed_count rings)
         → listed_count next.rings + 1 ≡ 0 + listed_count rings
     go None e h others = cc
     go (Some w) e h others =
-        let same : 0 + listed_count w.rings ≡ listed_count next.rings = ap (λ (x : Waiting). listed_count x.rings) (same_Some (behind [] w) next h) in
+        let same : 0 + listed_count w.rings ≡ listed_count next.rings = ap (λ (x : Waiting Packet). listed_count x.rings) (same_Some (behind [] w) next h) in
         omega (arith, same, others w e)
 listed_waiting ((k ∷ packets) ∷ rings) next h =
-    let same : length packets + listed_count rings ≡ listed_count next.rings = ap (λ (x : Waiting). listed_count x.rings)
+    let same : length packets + listed_count rings ≡ listed_count next.rings = ap (λ (x : Waiting Packet). listed_count x.rings)
     (same_Some (record { ring = 0; packet = k; rings = packets ∷ rings }) next h) in
     omega (arith, same)
 
@@ -227,11 +227,11 @@ next_count c nodes m m' ring idle n =
 
 -- ---- one after the other
 
-where_none : (A : Type 0) (B : Waiting → Type 0) (o : Option Waiting) → o ≡ None → A → MatchOption o A B
+where_none : (A : Type 0) (B : Waiting Packet → Type 0) (o : Option (Waiting Packet)) → o ≡ None → A → MatchOption o A B
 where_none A B None e a = a
 where_none A B (Some w) e a = cc
 
-where_some : (A : Type 0) (B : Waiting → Type 0) (o : Option Waiting) (next : Waiting) → o ≡ Some next → B next → MatchOption o A B
+where_some : (A : Type 0) (B : Waiting Packet → Type 0) (o : Option (Waiting Packet)) (next : Waiting Packet) → o ≡ Some next → B next → MatchOption o A B
 where_some A B None next e b = cc
 where_some A B (Some w) next e b = subst B (sym (same_Some w next e)) b
 

@@ -3,6 +3,7 @@ use Rattle.std.specs.Prelude.{◌≡◌, ℕ, Bool, List, Option, Some, None, sl
 use Rattle.std.specs.List.{AllByRecursion}
 use Rattle.dp_model.specs.declared.env.PortSpec.{PortSpec}
 use Rattle.dp_model.specs.declared.instr.Instr.{Instr}
+use Rattle.dp_model.specs.Packets.{Packet}
 use Rattle.dp_model.specs.Machine.{World}
 use Rattle.dp_model.specs.Runs.{Outcome, Arrives, Waiting, first_waiting, NodeRun, Took}
 use Rattle.dp_model.specs.Safety.{IsAtRest}
@@ -22,7 +23,7 @@ ArrivesAt s port bytes w outcome told w' =
 abbrev pub ServesOne : Scheme → World → Option took.NodeRun → World → Type 0
 ServesOne s w None w' = (first_waiting w.rings ≡ None) × (w' ≡ w)
 ServesOne s w (Some run) w' =
-    (next : Waiting) × (program : List Instr) × (told : List Bool)
+    (next : Waiting Packet) × (program : List Instr) × (told : List Bool)
     × (first_waiting w.rings ≡ Some next) × (slice_get s.nodes.rings next.ring ≡ Some program)
     × NodeRun s.setting program next.packet next.ring (record w { rings = next.rings }) told w'
     × Took w w' run.steps run.cuts

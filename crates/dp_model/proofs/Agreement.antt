@@ -8,6 +8,7 @@ use Rattle.std.proofs.lemmas.List.{append-nil}
 use Rattle.std.proofs.Math.Seq.{drop-nil, take-nil}
 use Rattle.std.proofs.lemmas.Bool.{eq-eqb, ne_eqb}
 use Rattle.dp_model.specs.declared.instr.Instr.{Instr}
+use Rattle.dp_model.specs.Packets.{Packet}
 use Rattle.dp_model.specs.Machine.{Setting, World}
 use Rattle.dp_model.specs.Runs.{at_port, of_port, NodeRun, Receives, Waiting, first_waiting, Serves, Nodes, Arrival, round_of, rounds, longest, interleaved}
 use Rattle.dp_model.specs.Safety.{Beginning, IsOfRecord, IsServed}
@@ -39,7 +40,7 @@ serves_is c programs zero w told runs w' (_, none, is) =
     subst (λ r. IsServed c programs zero w r w') (sym none) (record { served = is; few = omega arith; why = inl refl })
 serves_is c programs (suc n) w told runs w' serves = go (first_waiting w.rings) refl serves (λ mid told more. serves_is c programs n mid told more w')
   where
-    go : (o : Option Waiting) → first_waiting w.rings ≡ o → MatchOption o ((told ≡ []) × (runs ≡ 0) × (w' ≡ w)) (λ next. (program : List Instr)
+    go : (o : Option (Waiting Packet)) → first_waiting w.rings ≡ o → MatchOption o ((told ≡ []) × (runs ≡ 0) × (w' ≡ w)) (λ next. (program : List Instr)
         × (now later : List Bool) × (mid : World) × (more : ℕ) × (slice_get programs next.ring ≡ Some program)
         × NodeRun c program next.packet next.ring (record w { rings = next.rings }) now mid × Serves c programs n mid later more w' × (told ≡ now ++ later)
         × (runs ≡ more + 1)) → ((mid : World) (told : List Bool) (more : ℕ) → Serves c programs n mid told more w' → IsServed c programs n mid more w') →

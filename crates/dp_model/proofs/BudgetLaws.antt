@@ -226,7 +226,7 @@ serves_took c nodes most zero w w' told runs short (_, none, is) =
 serves_took c nodes most (suc n) w w' told runs short serves = go (first_waiting w.rings) refl serves
     (λ mid told more. serves_took c nodes most n mid w' told more short)
   where
-    go : (o : Option Waiting) → first_waiting w.rings ≡ o → MatchOption o ((told ≡ []) × (runs ≡ 0) × (w' ≡ w)) (λ next. (program : List Instr)
+    go : (o : Option (Waiting Packet)) → first_waiting w.rings ≡ o → MatchOption o ((told ≡ []) × (runs ≡ 0) × (w' ≡ w)) (λ next. (program : List Instr)
         × (now later : List Bool) × (mid : World) × (more : ℕ) × (slice_get nodes.rings next.ring ≡ Some program)
         × NodeRun c program next.packet next.ring (record w { rings = next.rings }) now mid × Serves c nodes.rings n mid later more w' × (told ≡ now ++ later)
         × (runs ≡ more + 1)) → ((mid : World) (told : List Bool) (more : ℕ) → Serves c nodes.rings n mid told more w' →

@@ -64,7 +64,7 @@ serves_calls c nodes most zero w w' told runs pipeline short rest (none, _, is) 
 serves_calls c nodes most (suc n) w w' told runs pipeline short rest serves =
     go (first_waiting w.rings) refl serves (λ mid told more. serves_calls c nodes most n mid w' told more pipeline short)
   where
-    go : (o : Option Waiting) → first_waiting w.rings ≡ o → MatchOption o ((told ≡ []) × (runs ≡ 0) × (w' ≡ w)) (λ next. (program : List Instr)
+    go : (o : Option (Waiting Packet)) → first_waiting w.rings ≡ o → MatchOption o ((told ≡ []) × (runs ≡ 0) × (w' ≡ w)) (λ next. (program : List Instr)
         × (now later : List Bool) × (mid : World) × (more : ℕ) × (slice_get nodes.rings next.ring ≡ Some program)
         × NodeRun c program next.packet next.ring (record w { rings = next.rings }) now mid × Serves c nodes.rings n mid later more w' × (told ≡ now ++ later)
         × (runs ≡ more + 1)) → ((mid : World) (told : List Bool) (more : ℕ) → IsAtRest c mid → Serves c nodes.rings n mid told more w' →

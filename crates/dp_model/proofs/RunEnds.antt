@@ -96,8 +96,9 @@ serves_counts c programs zero w w' told runs (none, _, is) =
     omega (arith, no_call, calls)
 serves_counts c programs (suc n) w w' told runs serves = go (first_waiting w.rings) serves (λ mid told more. serves_counts c programs n mid w' told more)
   where
-    go : (o : Option Waiting) → MatchOption o ((told ≡ []) × (runs ≡ 0) × (w' ≡ w)) (λ next. (program : List Instr) × (now later : List Bool) × (mid : World)
-        × (more : ℕ) × (slice_get programs next.ring ≡ Some program) × NodeRun c program next.packet next.ring (record w { rings = next.rings }) now mid
+    go : (o : Option (Waiting Packet)) → MatchOption o ((told ≡ []) × (runs ≡ 0) × (w' ≡ w)) (λ next. (program : List Instr)
+        × (now later : List Bool) × (mid : World) × (more : ℕ) × (slice_get programs next.ring ≡ Some program)
+        × NodeRun c program next.packet next.ring (record w { rings = next.rings }) now mid
         × Serves c programs n mid later more w' × (told ≡ now ++ later) × (runs ≡ more + 1)) →
         ((mid : World) (told : List Bool) (more : ℕ) → Serves c programs n mid told more w' → w'.calls ≡ mid.calls + length told) →
         w'.calls ≡ w.calls + length told

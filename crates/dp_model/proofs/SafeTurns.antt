@@ -52,7 +52,7 @@ received_packet c port spec bytes numbers is_spec limits fits count =
     (omega (arith, long, count), omega (arith, long, count, fits, segs_small c.env port spec.segs limits (ap (option_map (λ (p : PortSpec). p.segs)) is_spec)))
 
 -- a packet that waits is one, and so are the others
-popped_packets : (w : World) (next : Waiting) → first_waiting w.rings ≡ Some next → ArePackets (between w) →
+popped_packets : (w : World) (next : Waiting Packet) → first_waiting w.rings ≡ Some next → ArePackets (between w) →
     IsPacket next.packet × ArePackets (between (record w { rings = next.rings }))
 popped_packets w next e are =
     let (packets, there, is) = waits w.rings next e in
@@ -89,7 +89,7 @@ record_begins c q port spec bytes w numbers buffers env entry is_spec room limit
     }
 
 -- on a packet of a ring
-pub waiting_begins : (c : Setting) (q : Question) (next : Waiting) (w : World) →
+pub waiting_begins : (c : Setting) (q : Question) (next : Waiting Packet) (w : World) →
     ((spec : RingSpec) → slice_get c.env.rings next.ring ≡ Some spec → IsTrue (is_well_formed_fact spec.fact)) → c.env ≡ q.env → q.entry ≡ Ring next.ring →
     first_waiting w.rings ≡ Some next → IsAtRest c w → BeginsWell c q next.packet next.ring (record w { rings = next.rings })
 waiting_begins c q next w facts env entry e rest = record {
@@ -192,7 +192,7 @@ arrives_rest c nodes program port spec bytes w w' Got told checked is_program is
 
 -- ---- node runs on packets of rings
 -- the node of the ring
-pub waiting_safe : (c : Setting) (nodes : Nodes) (next : Waiting) (program : List Instr) (w : World) → IsPipeline c nodes → IsAtRest c w →
+pub waiting_safe : (c : Setting) (nodes : Nodes) (next : Waiting Packet) (program : List Instr) (w : World) → IsPipeline c nodes → IsAtRest c w →
     first_waiting w.rings ≡ Some next → slice_get nodes.rings next.ring ≡ Some program →
     IsSafeBeginning c (record {
       entry = Ring next.ring;
@@ -220,7 +220,7 @@ serves_rest c nodes zero w w' told runs checked rest (_, _, is) = subst (IsAtRes
 serves_rest c nodes (suc n) w w' told runs checked rest serves = go (first_waiting w.rings) refl serves
     (λ mid told more. serves_rest c nodes n mid w' told more checked)
   where
-    go : (o : Option Waiting) → first_waiting w.rings ≡ o → MatchOption o ((told ≡ []) × (runs ≡ 0) × (w' ≡ w)) (λ next. (program : List Instr)
+    go : (o : Option (Waiting Packet)) → first_waiting w.rings ≡ o → MatchOption o ((told ≡ []) × (runs ≡ 0) × (w' ≡ w)) (λ next. (program : List Instr)
         × (now later : List Bool) × (mid : World) × (more : ℕ) × (slice_get nodes.rings next.ring ≡ Some program)
         × NodeRun c program next.packet next.ring (record w { rings = next.rings }) now mid × Serves c nodes.rings n mid later more w' × (told ≡ now ++ later)
         × (runs ≡ more + 1)) → ((mid : World) (told : List Bool) (more : ℕ) → IsAtRest c mid → Serves c nodes.rings n mid told more w' → IsAtRest c w') →
@@ -236,7 +236,7 @@ serves_rest c nodes (suc n) w w' told runs checked rest serves = go (first_waiti
         }) now mid (waiting_safe c nodes next program w checked rest e is_program) run) serves
 
 -- a ring that has a packet has a node
-ring_node : (c : Setting) (nodes : Nodes) (w : World) (next : Waiting) → length nodes.rings ≡ length c.env.rings → IsAtRest c w →
+ring_node : (c : Setting) (nodes : Nodes) (w : World) (next : Waiting Packet) → length nodes.rings ≡ length c.env.rings → IsAtRest c w →
     first_waiting w.rings ≡ Some next → (program : List Instr) × (slice_get nodes.rings next.ring ≡ Some program)
 ring_node c nodes w next count rest e =
     let (packets, there, _) = waits w.rings next e in
@@ -249,7 +249,7 @@ pub serves_exist : (c : Setting) (nodes : Nodes) (n : ℕ) (w : World) → IsPip
 serves_exist c nodes zero w pipeline rest = ([], 0, w, (refl, refl, refl))
 serves_exist c nodes (suc n) w pipeline rest = go (first_waiting w.rings) refl (λ mid. serves_exist c nodes n mid pipeline)
   where
-    go : (o : Option Waiting) → first_waiting w.rings ≡ o → ((mid : World) → IsAtRest c mid →
+    go : (o : Option (Waiting Packet)) → first_waiting w.rings ≡ o → ((mid : World) → IsAtRest c mid →
         (told : List Bool) × (runs : ℕ) × (w' : World) × Serves c nodes.rings n mid told runs w') →
         (told : List Bool) × (runs : ℕ) × (w' : World) × MatchOption o ((told ≡ []) × (runs ≡ 0) × (w' ≡ w)) (λ next. (program : List Instr)
         × (now later : List Bool) × (mid : World) × (more : ℕ) × (slice_get nodes.rings next.ring ≡ Some program)

@@ -104,7 +104,7 @@ pub record IsOfRecord (c : Setting) (nodes : Nodes) (port : ℕ) (bytes : List �
 abbrev pub HasServed : Setting → List (List Instr) → ℕ → World → World → Type 0
 HasServed c programs zero w w' = w' ≡ w
 HasServed c programs (suc n) w w' =
-    (next : Waiting) × (program : List Instr) × (told : List Bool) × (mid : World)
+    (next : Waiting Packet) × (program : List Instr) × (told : List Bool) × (mid : World)
     × (first_waiting w.rings ≡ Some next) × (slice_get programs next.ring ≡ Some program)
     × NodeRun c program next.packet next.ring (record w { rings = next.rings }) told mid × HasServed c programs n mid w'
 
@@ -128,7 +128,7 @@ pub record IsOfRing (c : Setting) (nodes : Nodes) (port : ℕ) (bytes : List ℕ
   pub few : served < 32
   pub last : World
   pub has_served : HasServed c nodes.rings served mid last
-  pub next : Waiting
+  pub next : Waiting Packet
   pub waits : first_waiting last.rings ≡ Some next
   pub program : List Instr
   pub program_is : slice_get nodes.rings next.ring ≡ Some program
@@ -188,7 +188,7 @@ pub record KeepsSafe (c : Setting) (nodes : Nodes) : Type 0 where
   -- those of a turn are safe
   pub turn_runs : (port : ℕ) (bytes : List ℕ) (w : World) (b : Beginning) → IsAtRest c w → IsOfTurn c nodes port bytes w b → IsSafeBeginning c b
   -- so is the next one on a packet of a ring
-  pub waiting : (next : Waiting) (program : List Instr) (w : World) → IsAtRest c w → first_waiting w.rings ≡ Some next → slice_get nodes.rings next.ring
+  pub waiting : (next : Waiting Packet) (program : List Instr) (w : World) → IsAtRest c w → first_waiting w.rings ≡ Some next → slice_get nodes.rings next.ring
       ≡ Some program →
       IsSafeBeginning c (record {
         entry = Ring next.ring;

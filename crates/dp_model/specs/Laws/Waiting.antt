@@ -58,16 +58,16 @@ module _ (pools : List PoolSpec) where
   )
 
 -- the packet is the first of its ring, and the rings that are left have it no more
-abbrev pub IsTaken : List (List Packet) → Waiting → Type 0
+abbrev pub IsTaken : List (List Packet) → Waiting Packet → Type 0
 IsTaken rings next = (packets : List Packet) × (slice_get rings next.ring ≡ Some (next.packet ∷ packets)) × (next.rings ≡ slice_set rings next.ring packets)
 
 -- the first packet that waits, and the rings without it
-pub waits : (rings : List (List Packet)) (next : Waiting) → first_waiting rings ≡ Some next → IsTaken rings next
+pub waits : (rings : List (List Packet)) (next : Waiting Packet) → first_waiting rings ≡ Some next → IsTaken rings next
 waits [] next e = cc
 waits ([] ∷ rings) next e = later (first_waiting rings) refl (waits rings)
   where
-    later : (o : Option Waiting) → first_waiting rings ≡ o
-        → ((n : Waiting) → first_waiting rings ≡ Some n → IsTaken rings n) → IsTaken ([] ∷ rings) next
+    later : (o : Option (Waiting Packet)) → first_waiting rings ≡ o
+        → ((n : Waiting Packet) → first_waiting rings ≡ Some n → IsTaken rings n) → IsTaken ([] ∷ rings) next
     later None f rest = let no : None ≡ Some next = sym (ap (option_map (behind [])) f) ∙ e in cc
     later (Some n) f rest =
         let same : behind [] n ≡ next = same_Some (behind [] n) next (sym (ap (option_map (behind [])) f) ∙ e) in
