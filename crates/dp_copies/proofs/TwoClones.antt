@@ -71,23 +71,10 @@ turns = record {
 }
 
 -- over shared buffers
-pub shared_run : (w' : World) × Run {T = ℕ} setting nodes arrivals before told (Got ∷ []) captures w'
+pub shared_run : (w' : World) × Run {T = ℕ} setting nodes arrivals before (record { told = told; outcomes = Got ∷ []; captures = captures }) w'
 shared_run = (
   record m11.state.world { outboxes = [] ∷ [] },
-  (
-    Got,
-    [],
-    told,
-    [],
-    1,
-    m11.state.world,
-    [] ∷ [],
-    turns,
-    (refl, refl, refl, refl),
-    refl,
-    refl,
-    refl,
-  ),
+  (Got, told, 1, m11.state.world, record { told = []; outcomes = []; captures = [] ∷ [] }, turns, (refl, refl), refl),
 )
 
 -- with a list of bytes for each packet: computed

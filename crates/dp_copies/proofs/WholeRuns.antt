@@ -5,7 +5,7 @@ use Rattle.std.proofs.lemmas.List.{append-nil}
 use Rattle.dp_model.specs.CopyMachine.{Copy, is_told, CopyState, copy_start, copy_turn, copy_records_at, copy_run, Captures, copy_bytes}
 use Rattle.dp_model.specs.Copies.{copy_of}
 use Rattle.dp_model.specs.Machine.{Setting, World}
-use Rattle.dp_model.specs.Runs.{Outcome, Nodes, Arrival, Run, joined, between, records_at, with_empty_outboxes}
+use Rattle.dp_model.specs.Runs.{Outcome, Nodes, Arrival, Shown, Run, joined, between, records_at, with_empty_outboxes}
 use Rattle.dp_model.specs.Starts.{HaveRoom, IsStart}
 use Rattle.dp_model.specs.Laws.Places.{IsInside, start_inside}
 use Rattle.dp_copies.proofs.Lists.{empty_lists, no_lists}
@@ -29,32 +29,19 @@ drains {T} time run o outcome x z records more captures turn drained rest are =
     ∙ (ap (λ r. Some (joined r more, z)) drained ∙ ap (λ cs. Some (cs, z)) (sym are)))
 
 -- each record in turn
-run_lands : {T : Type 0} (c : Setting) (nodes : Nodes) (arrivals : List (Arrival T)) (w w' : World) (told later : List Bool) (outcomes : List Outcome)
-    (captures : List (List (T × List ℕ))) (x : CopyState) → HaveRoom c.env → IsInside c (between w) → Shows c.env.pools w (told ++ later) x →
-    Run c nodes arrivals w told outcomes captures w' → Lands c w' later (λ fuel. copy_run c.env c.tables fuel nodes arrivals x) (λ t. (captures, t))
-run_lands c nodes [] w w' told later outcomes captures x rooms well shows (none, _, are, is) =
-    stays c w w' told later x (λ fuel. copy_run c.env c.tables fuel nodes [] x) (λ t. (captures, t)) well shows none is
-    (λ fuel. ap (λ cs. Some (cs, x)) (sym are))
-run_lands {T} c nodes (a ∷ arrivals) w w' told later outcomes captures x rooms well shows (
-  outcome,
-  rest,
-  now,
-  then,
-  runs,
-  mid,
-  more,
-  turn,
-  run,
-  is_told,
-  _,
-  are,
-) =
+run_lands : {T : Type 0} (c : Setting) (nodes : Nodes) (arrivals : List (Arrival T)) (w w' : World) (later : List Bool) (shown : Shown T)
+    (x : CopyState) → HaveRoom c.env → IsInside c (between w) → Shows c.env.pools w (shown.told ++ later) x → Run c nodes arrivals w shown w' →
+    Lands c w' later (λ fuel. copy_run c.env c.tables fuel nodes arrivals x) (λ t. (shown.captures, t))
+run_lands {T} c nodes [] w w' later shown x rooms well shows (none, is) =
+    stays c w w' shown.told later x (λ fuel. copy_run c.env c.tables fuel nodes [] x) (λ t. (shown.captures, t)) well shows
+    (ap (λ (s : Shown T). s.told) none) is (λ fuel. ap (λ (s : Shown T). Some (s.captures, x)) (sym none))
+run_lands {T} c nodes (a ∷ arrivals) w w' later shown x rooms well shows (outcome, told, runs, mid, rest, turn, run, is) =
     let pools = c.env.pools in
-    let split : told ++ later ≡ now ++ (then ++ later) = ap (λ ts. ts ++ later) is_told ∙ append_assoc now then later in
-    let first = turn_lands c nodes a.port a.bytes w mid outcome runs now (then
+    let split : shown.told ++ later ≡ told ++ (rest.told ++ later) = ap (λ (s : Shown T). s.told ++ later) is ∙ append_assoc told rest.told later in
+    let first = turn_lands c nodes a.port a.bytes w mid outcome runs told (rest.told
     ++ later) x rooms well (record { rings = shows.rings; outboxes = shows.outboxes; to_tell = shows.to_tell ∙ split; cuts = shows.cuts }) turn in
     let y : CopyState = record first.state { outboxes = map (λ _. []) first.state.outboxes } in
-    let others = run_lands c nodes arrivals (with_empty_outboxes mid) w' then later rest more y rooms (drained_inside c mid first.within)
+    let others = run_lands c nodes arrivals (with_empty_outboxes mid) w' later rest y rooms (drained_inside c mid first.within)
     (record {
       rings = first.shows.rings;
       outboxes = ap (map (λ _. [])) first.shows.outboxes
@@ -71,21 +58,21 @@ run_lands {T} c nodes (a ∷ arrivals) w w' told later outcomes captures x rooms
       enough = first.enough + others.enough;
       lands = λ fuel le.
           drains a.time (copy_run c.env c.tables fuel nodes arrivals) (copy_turn c.env c.tables fuel nodes a.port a.bytes x) outcome first.state others.state
-          (records_at a.time mid) more captures (first.lands fuel (omega (arith, le))) records (others.lands fuel (omega (arith, le))) are;
+          (records_at a.time mid) rest.captures shown.captures (first.lands fuel (omega (arith, le))) records (others.lands fuel (omega (arith, le)))
+          (ap (λ (s : Shown T). s.captures) is);
       within = others.within;
     }
 
 -- a whole run has the captures of the copies
-pub run_copies : {T : Type 0} (c : Setting) (nodes : Nodes) (arrivals : List (Arrival T)) (w w' : World) (told : List Bool) (outcomes : List Outcome)
-    (captures : List (List (T × List ℕ))) → HaveRoom c.env → IsStart c.env w → Run c nodes arrivals w told outcomes captures w' →
-    Captures c.env c.tables nodes arrivals told captures w'.cuts
-run_copies c nodes arrivals w w' told outcomes captures rooms start run =
+pub run_copies : {T : Type 0} (c : Setting) (nodes : Nodes) (arrivals : List (Arrival T)) (w w' : World) (shown : Shown T) → HaveRoom c.env →
+    IsStart c.env w → Run c nodes arrivals w shown w' → Captures c.env c.tables nodes arrivals shown.told shown.captures w'.cuts
+run_copies c nodes arrivals w w' shown rooms start run =
     let copy = copy_of c.env.pools w.buffers in
-    let lands = run_lands c nodes arrivals w w' told [] outcomes captures (copy_start c.env told) rooms (start_inside c w start)
+    let lands = run_lands c nodes arrivals w w' [] shown (copy_start c.env shown.told) rooms (start_inside c w start)
     (record {
       rings = no_lists copy c.env.rings ∙ ap (map (map copy)) (sym start.rings);
       outboxes = no_lists copy c.env.ports ∙ ap (map (map copy)) (sym start.outboxes);
-      to_tell = sym (append-nil told);
+      to_tell = sym (append-nil shown.told);
       cuts = sym start.cuts;
     }) run in
     (lands.enough, lands.state, lands.lands lands.enough (omega arith), lands.shows.to_tell, lands.shows.cuts)

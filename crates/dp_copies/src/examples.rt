@@ -11,6 +11,6 @@ ghost use Rattle.dp_copies.specs.TwoClones.{one_port, setting, nodes, arrivals, 
 /// and the run of the copies, each found without the law, have the same captures.
 pub fn two_clones_in_both_machines()
     ensures starts { IsStart one_port before }
-    ensures shared { (w' : World) × Run {T = ℕ} setting nodes arrivals before told (Got ∷ []) captures w' }
+    ensures shared { (w' : World) × Run {T = ℕ} setting nodes arrivals before (record { told = told; outcomes = Got ∷ []; captures = captures }) w' }
     ensures copied { Captures {T = ℕ} one_port [] nodes arrivals told captures 0 }
 {}

@@ -7,7 +7,7 @@ ghost use Rattle.dp_model.specs.Environments.{Environment, fault_of};
 ghost use Rattle.dp_model.specs.Prefixes.{Route};
 ghost use Rattle.dp_model.specs.Packets.{Packet};
 ghost use Rattle.dp_model.specs.Machine.{Setting, World, State, Move, Step};
-ghost use Rattle.dp_model.specs.Runs.{Nodes, Outcome, Arrival, Receives, Run};
+ghost use Rattle.dp_model.specs.Runs.{Nodes, Arrival, Receives, Shown, Run};
 ghost use Rattle.dp_model.specs.Starts.{IsStart};
 ghost use Rattle.dp_model.specs.Copies.{copy_of};
 ghost use Rattle.dp_model.specs.CopyMachine.{Captures};
@@ -17,10 +17,9 @@ ghost use Rattle.dp_copies.specs.Seen.{IsQueued, IsBeside};
 /// machine in which each packet has bytes of its own, where the allocation calls are told the same, and as many node runs
 /// are cut. No row, rule or certificate occurs. The environment is one that `Env::new` accepts. A `T` is the time of a record.
 pub fn clones_are_copies<T>()
-    ensures { (c : Setting) (nodes : Nodes) (arrivals : List (Arrival T)) (w w' : World) (told : List Bool) (outcomes : List Outcome)
-        (captures : List (List (T × List ℕ))) →
-        fault_of c.env ≡ None → IsStart c.env w → Run c nodes arrivals w told outcomes captures w' →
-        Captures c.env c.tables nodes arrivals told captures w'.cuts }
+    ensures { (c : Setting) (nodes : Nodes) (arrivals : List (Arrival T)) (w w' : World) (shown : Shown T) →
+        fault_of c.env ≡ None → IsStart c.env w → Run c nodes arrivals w shown w' →
+        Captures c.env c.tables nodes arrivals shown.told shown.captures w'.cuts }
 {}
 
 /// The machine of copies is deterministic: on the same records, with the same told to its allocation calls, it has
@@ -35,11 +34,10 @@ pub fn copies_are_deterministic<T>()
 /// Two runs on the same records, whose allocation calls are told the same, have the same captures and as many cuts,
 /// whatever buffers were taken and whatever they held.
 pub fn buffers_are_not_seen<T>()
-    ensures { (c d : Setting) (nodes : Nodes) (arrivals : List (Arrival T)) (w w' v v' : World) (told : List Bool) (outcomes outcomes' : List Outcome)
-        (captures captures' : List (List (T × List ℕ))) →
+    ensures { (c d : Setting) (nodes : Nodes) (arrivals : List (Arrival T)) (w w' v v' : World) (shown shown' : Shown T) →
         c.env ≡ d.env → c.tables ≡ d.tables → fault_of c.env ≡ None → IsStart c.env w → IsStart c.env v →
-        Run c nodes arrivals w told outcomes captures w' → Run d nodes arrivals v told outcomes' captures' v' →
-        (captures ≡ captures') × (w'.cuts ≡ v'.cuts) }
+        Run c nodes arrivals w shown w' → Run d nodes arrivals v shown' v' → shown.told ≡ shown'.told →
+        (shown.captures ≡ shown'.captures) × (w'.cuts ≡ v'.cuts) }
 {}
 
 /// No store, prepend or append is seen through another packet, nor is a buffer that was used before: a packet in a

@@ -14,7 +14,7 @@ use Rattle.dp_model.specs.Packets.{Segment, Packet, Lies, is_free, available}
 use Rattle.dp_model.specs.Machine.{Setting, World, Ended, live, segments_listed}
 use Rattle.dp_model.specs.Meaning.{RingHolds, TablesFit}
 use Rattle.dp_model.specs.Runs.{first_state, NodeRun, between, Outcome, Got, NoBuffer, Oversize, Arrives, Waiting, first_waiting, Serves, Nodes, Turn}
-use Rattle.dp_model.specs.Runs.{Arrival, Run, WholeRun, with_empty_outboxes, with_empty_rings}
+use Rattle.dp_model.specs.Runs.{Arrival, Shown, Run, WholeRun, with_empty_outboxes, with_empty_rings}
 use Rattle.dp_model.specs.Laws.{AreChecked}
 use Rattle.dp_model.specs.Safety.{IsAtRest}
 use Rattle.dp_model.specs.Starts.{IsStart}
@@ -29,19 +29,17 @@ use Rattle.dp_model.specs.Laws.Waiting.{nothing_listed}
 
 -- ---- nothing is live
 
-run_outboxes : {T : Type 0} (c : Setting) (nodes : Nodes) (arrivals : List (Arrival T)) (w w' : World) (told : List Bool) (outcomes : List Outcome)
-    (captures : List (List (T × List ℕ))) → segments_listed w.outboxes ≡ [] → Run c nodes arrivals w told outcomes captures w' → segments_listed w'.outboxes
-    ≡ []
-run_outboxes c nodes [] w w' told outcomes captures none (_, _, _, is) = ap (λ (x : World). segments_listed x.outboxes) is ∙ none
-run_outboxes c nodes (a ∷ arrivals) w w' told outcomes captures none (outcome, rest, now, later, runs, mid, more, turn, run, _, _, _) =
-    run_outboxes c nodes arrivals (with_empty_outboxes mid) w' later rest more (nothing_listed mid.outboxes) run
+run_outboxes : {T : Type 0} (c : Setting) (nodes : Nodes) (arrivals : List (Arrival T)) (w w' : World) (shown : Shown T) →
+    segments_listed w.outboxes ≡ [] → Run c nodes arrivals w shown w' → segments_listed w'.outboxes ≡ []
+run_outboxes c nodes [] w w' shown none (_, is) = ap (λ (x : World). segments_listed x.outboxes) is ∙ none
+run_outboxes c nodes (a ∷ arrivals) w w' shown none (outcome, told, runs, mid, rest, turn, run, _) =
+    run_outboxes c nodes arrivals (with_empty_outboxes mid) w' rest (nothing_listed mid.outboxes) run
 
-pub ends_with_nothing : {T : Type 0} (c : Setting) (nodes : Nodes) (arrivals : List (Arrival T)) (w w' : World) (told : List Bool) (outcomes : List Outcome)
-    (captures : List (List (T × List ℕ))) (left : List ℕ) → IsStart c.env w → WholeRun c nodes arrivals w told outcomes captures left w' →
-    live (between w') ≡ []
-ends_with_nothing c nodes arrivals w w' told outcomes captures left start whole =
+pub ends_with_nothing : {T : Type 0} (c : Setting) (nodes : Nodes) (arrivals : List (Arrival T)) (w w' : World) (shown : Shown T) (left : List ℕ) →
+    IsStart c.env w → WholeRun c nodes arrivals w shown left w' → live (between w') ≡ []
+ends_with_nothing c nodes arrivals w w' shown left start whole =
     let none : segments_listed w.outboxes ≡ [] = ap segments_listed start.outboxes ∙ nothing_mapped c.env.ports in
-    let boxes = run_outboxes c nodes arrivals w whole.last told outcomes captures none whole.run in
+    let boxes = run_outboxes c nodes arrivals w whole.last shown none whole.run in
     ap (λ (x : World). live (between x)) whole.is
     ∙ (ap (λ xs. xs ++ segments_listed whole.last.outboxes) (nothing_listed whole.last.rings) ∙ boxes)
 
@@ -59,11 +57,10 @@ zip_length P (x ∷ xs) (y ∷ ys) all = ap suc (zip_length P xs ys all.1)
 zip_length P [] (y ∷ ys) all = absurd all
 zip_length P (x ∷ xs) [] all = absurd all
 
-pub each_ring_counted : {T : Type 0} (c : Setting) (nodes : Nodes) (arrivals : List (Arrival T)) (w w' : World) (told : List Bool) (outcomes : List Outcome)
-    (captures : List (List (T × List ℕ))) (left : List ℕ) → TablesFit c → AreChecked c nodes → IsStart c.env w →
-    WholeRun c nodes arrivals w told outcomes captures left w' → length left ≡ length c.env.rings
-each_ring_counted c nodes arrivals w w' told outcomes captures left tables checked start whole =
-    let ready = run_ready c nodes arrivals w whole.last told outcomes captures checked (start_ready c w tables start) whole.run in
+pub each_ring_counted : {T : Type 0} (c : Setting) (nodes : Nodes) (arrivals : List (Arrival T)) (w w' : World) (shown : Shown T) (left : List ℕ) →
+    TablesFit c → AreChecked c nodes → IsStart c.env w → WholeRun c nodes arrivals w shown left w' → length left ≡ length c.env.rings
+each_ring_counted c nodes arrivals w w' shown left tables checked start whole =
+    let ready = run_ready c nodes arrivals w whole.last shown checked (start_ready c w tables start) whole.run in
     ap length whole.left_are ∙ (length-map whole.last.rings length ∙ zip_length (RingHolds c.env.pools (live (between whole.last))) c.env.rings
     whole.last.rings ready.world.rings)
 
@@ -121,27 +118,26 @@ turn_counts c nodes port bytes w w' outcome runs told t =
       serves_counts c nodes.rings 32 t.mid w' t.later t.more t.serves,
     )
 
-run_counts : {T : Type 0} (c : Setting) (nodes : Nodes) (arrivals : List (Arrival T)) (w w' : World) (told : List Bool) (outcomes : List Outcome)
-    (captures : List (List (T × List ℕ))) → Run c nodes arrivals w told outcomes captures w' → w'.calls ≡ w.calls + length told
-run_counts c nodes [] w w' told outcomes captures (none, _, _, is) =
-    let no_call : length told ≡ 0 = ap length none in
+run_counts : {T : Type 0} (c : Setting) (nodes : Nodes) (arrivals : List (Arrival T)) (w w' : World) (shown : Shown T) →
+    Run c nodes arrivals w shown w' → w'.calls ≡ w.calls + length shown.told
+run_counts {T} c nodes [] w w' shown (none, is) =
+    let no_call : length shown.told ≡ 0 = ap (λ (s : Shown T). length s.told) none in
     let calls : w'.calls ≡ w.calls = ap (λ (x : World). x.calls) is in
     omega (arith, no_call, calls)
-run_counts c nodes (a ∷ arrivals) w w' told outcomes captures (outcome, rest, now, later, runs, mid, more, turn, run, is_told, _, _) =
-    let long : length told ≡ length now + length later = ap length is_told ∙ length-append now later in
+run_counts {T} c nodes (a ∷ arrivals) w w' shown (outcome, told, runs, mid, rest, turn, run, is) =
+    let long : length shown.told ≡ length told + length rest.told = ap (λ (s : Shown T). length s.told) is ∙ length-append told rest.told in
     omega (
       arith,
       long,
-      turn_counts c nodes a.port a.bytes w mid outcome runs now turn,
-      run_counts c nodes arrivals (with_empty_outboxes mid) w' later rest more run,
+      turn_counts c nodes a.port a.bytes w mid outcome runs told turn,
+      run_counts c nodes arrivals (with_empty_outboxes mid) w' rest run,
     )
 
-pub whole_counts : {T : Type 0} (c : Setting) (nodes : Nodes) (arrivals : List (Arrival T)) (w w' : World) (told : List Bool) (outcomes : List Outcome)
-    (captures : List (List (T × List ℕ))) (left : List ℕ) → IsStart c.env w → WholeRun c nodes arrivals w told outcomes captures left w' →
-    w'.calls ≡ length told
-whole_counts c nodes arrivals w w' told outcomes captures left start whole =
+pub whole_counts : {T : Type 0} (c : Setting) (nodes : Nodes) (arrivals : List (Arrival T)) (w w' : World) (shown : Shown T) (left : List ℕ) →
+    IsStart c.env w → WholeRun c nodes arrivals w shown left w' → w'.calls ≡ length shown.told
+whole_counts c nodes arrivals w w' shown left start whole =
     let same : w'.calls ≡ whole.last.calls = ap (λ (x : World). x.calls) whole.is in
-    omega (arith, same, start.calls, run_counts c nodes arrivals w whole.last told outcomes captures whole.run)
+    omega (arith, same, start.calls, run_counts c nodes arrivals w whole.last shown whole.run)
 
 -- ---- the world afterwards
 

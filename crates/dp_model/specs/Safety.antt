@@ -14,7 +14,7 @@ use Rattle.dp_model.specs.Rules.{Question, IsCertified}
 use Rattle.dp_model.specs.Machine.{Setting, World, State, live, Next, At, Move, Acts, IsPlace, Step, with_step, is_denied}
 use Rattle.dp_model.specs.Meaning.{RowHolds, RingHolds}
 use Rattle.dp_model.specs.Runs.{Goes, first_state, NodeRun, most_steps, NeverStuck, between, Outcome, Got, NoBuffer, Oversize, Arrives, Waiting}
-use Rattle.dp_model.specs.Runs.{first_waiting, Nodes, Turn, Arrival, Run}
+use Rattle.dp_model.specs.Runs.{first_waiting, Nodes, Turn, Arrival, Shown, Run}
 use Rattle.dp_model.specs.Laws.{RowHoldsAt, Ready, Begins, AreChecked}
 
 -- ---- packets
@@ -219,11 +219,9 @@ pub record IsOfRun {T : Type 0} (c : Setting) (nodes : Nodes) (arrivals : List (
   pub arrival : Arrival T
   pub after : List (Arrival T)
   pub arrivals_are : arrivals ≡ before ++ (arrival ∷ after)
-  pub told : List Bool
-  pub outcomes : List Outcome
-  pub captures : List (List (T × List ℕ))
+  pub shown : Shown T
   pub last : World
-  pub run : Run c nodes before w told outcomes captures last
+  pub run : Run c nodes before w shown last
   pub of_turn : IsOfTurn c nodes arrival.port arrival.bytes last b
 
 pub record AreSafe {T : Type 0} (c : Setting) (nodes : Nodes) (arrivals : List (Arrival T)) (w : World) : Type 0 where
@@ -232,16 +230,13 @@ pub record AreSafe {T : Type 0} (c : Setting) (nodes : Nodes) (arrivals : List (
   -- they are all safe
   pub runs : (b : Beginning) → IsOfRun c nodes arrivals w b → IsSafeBeginning c b
   -- there is such a run
-  pub exists : (told : List Bool) × (outcomes : List Outcome) × (captures : List (List (T × List ℕ))) × (w' : World)
-      × Run c nodes arrivals w told outcomes captures w'
+  pub exists : (shown : Shown T) × (w' : World) × Run c nodes arrivals w shown w'
   -- and where it ends the next record can come
-  pub rests : (told : List Bool) (outcomes : List Outcome) (captures : List (List (T × List ℕ))) (w' : World) →
-      Run c nodes arrivals w told outcomes captures w' → IsAtRest c w'
+  pub rests : (shown : Shown T) (w' : World) → Run c nodes arrivals w shown w' → IsAtRest c w'
 
 -- what holds of whole runs of every pipeline, whatever comes
 pub record KeepsRunsSafe {T : Type 0} (c : Setting) (nodes : Nodes) (arrivals : List (Arrival T)) (w : World) : Type 0 where
   -- their node runs are safe
   pub runs : (b : Beginning) → IsOfRun c nodes arrivals w b → IsSafeBeginning c b
   -- and where such a run ends the next record can come
-  pub rests : (told : List Bool) (outcomes : List Outcome) (captures : List (List (T × List ℕ))) (w' : World) →
-      Run c nodes arrivals w told outcomes captures w' → IsAtRest c w'
+  pub rests : (shown : Shown T) (w' : World) → Run c nodes arrivals w shown w' → IsAtRest c w'

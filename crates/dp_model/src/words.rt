@@ -12,8 +12,8 @@ ghost use Rattle.dp_model.specs.Packets.{Segment, Packet, refs, is_free, availab
 ghost use Rattle.dp_model.specs.Packets.{AreOwned, IsWellFormed, at_front, at_end, more_before, less_before, more_behind, less_behind, zeroed_before};
 ghost use Rattle.dp_model.specs.Packets.{zeroed_behind, stored, loaded};
 ghost use Rattle.dp_model.specs.Prefixes.{Route, IsTable, LooksUp, hop_for};
-ghost use Rattle.dp_model.specs.Runs.{Goes, first_state, NodeRun, most_steps, TookAtMost, Receives, Serves, Nodes, Outcome, Turn, Arrival, WholeRun, between};
-ghost use Rattle.dp_model.specs.Runs.{with_empty_outboxes, with_empty_rings, of_port, interleaved};
+ghost use Rattle.dp_model.specs.Runs.{Goes, first_state, NodeRun, most_steps, TookAtMost, Receives, Serves, Nodes, Outcome, Turn, Arrival};
+ghost use Rattle.dp_model.specs.Runs.{Shown, WholeRun, between, with_empty_outboxes, with_empty_rings, of_port, interleaved};
 ghost use Rattle.dp_model.specs.Safety.{ArePackets, IsAtRest, Beginning, IsOfRecord, IsServed, AreShort};
 ghost use Rattle.dp_model.specs.Starts.{IsStart};
 ghost use Rattle.dp_model.specs.Stores.{Store, segments_of, Has, with_slot, Becomes, unwritten, Allocates, ReceivesInto, Clones, Chains, IsWellFormedStore};
@@ -89,17 +89,14 @@ pub fn runs_are_as_they_read<T>()
 /// ring or a transmit list, every buffer is free, so each pool has as many as it has buffers; the allocation calls are
 /// those of which the run tells. What leaves the rings is counted for each of them.
 pub fn whole_runs_end_with_whole_pools<T>()
-    ensures nothing { (c : Setting) (nodes : Nodes) (arrivals : List (Arrival T)) (w w' : World) (told : List Bool) (outcomes : List Outcome)
-        (captures : List (List (T × List ℕ))) (left : List ℕ) →
-        IsStart c.env w → WholeRun c nodes arrivals w told outcomes captures left w' → live (between w') ≡ [] }
+    ensures nothing { (c : Setting) (nodes : Nodes) (arrivals : List (Arrival T)) (w w' : World) (shown : Shown T) (left : List ℕ) →
+        IsStart c.env w → WholeRun c nodes arrivals w shown left w' → live (between w') ≡ [] }
     ensures free { (pools : List PoolSpec) (w : World) (pool : ℕ) (b : Number) → live (between w) ≡ [] →
         (is_free (live (between w)) b ≡ true) × (available pools (live (between w)) pool ≡ count_at pools pool) }
-    ensures rings { (c : Setting) (nodes : Nodes) (arrivals : List (Arrival T)) (w w' : World) (told : List Bool) (outcomes : List Outcome)
-        (captures : List (List (T × List ℕ))) (left : List ℕ) →
-        TablesFit c → AreChecked c nodes → IsStart c.env w → WholeRun c nodes arrivals w told outcomes captures left w' → length left ≡ length c.env.rings }
-    ensures calls { (c : Setting) (nodes : Nodes) (arrivals : List (Arrival T)) (w w' : World) (told : List Bool) (outcomes : List Outcome)
-        (captures : List (List (T × List ℕ))) (left : List ℕ) →
-        IsStart c.env w → WholeRun c nodes arrivals w told outcomes captures left w' → w'.calls ≡ length told }
+    ensures rings { (c : Setting) (nodes : Nodes) (arrivals : List (Arrival T)) (w w' : World) (shown : Shown T) (left : List ℕ) →
+        TablesFit c → AreChecked c nodes → IsStart c.env w → WholeRun c nodes arrivals w shown left w' → length left ≡ length c.env.rings }
+    ensures calls { (c : Setting) (nodes : Nodes) (arrivals : List (Arrival T)) (w w' : World) (shown : Shown T) (left : List ℕ) →
+        IsStart c.env w → WholeRun c nodes arrivals w shown left w' → w'.calls ≡ length shown.told }
     ensures rests { (c : Setting) (w : World) → IsAtRest c w → IsAtRest c (with_empty_rings w) }
 {}
 
@@ -111,7 +108,8 @@ pub fn budgets_are_as_they_read()
     ensures jumps { (c : Setting) (label to : ℕ) (s : State) (i : Instr) (m : Move) → Acts c label s i m → m.next ≡ At to →
         (to ≡ label + 1) ⊎ (label_of i ≡ Some to) }
     ensures order { (s : State) → length s.packets ≡ 8 →
-        without_packets s ≡ without_packet 7 (without_packet 6 (without_packet 5 (without_packet 4 (without_packet 3 (without_packet 2 (without_packet 1 (without_packet 0 s))))))) }
+        without_packets s ≡ without_packet 7 (without_packet 6 (without_packet 5 (without_packet 4
+        (without_packet 3 (without_packet 2 (without_packet 1 (without_packet 0 s))))))) }
     ensures taken { (c : Setting) (program : List Instr) (k : Packet) (number n label : ℕ) (w : World) (told : List Bool) (s : State) →
         Goes c program n 0 (first_state k number w) told (At label) s → (s.jumps ≤ 256) × (s.world.steps ≡ w.steps + n) × (s.world.cuts ≡ w.cuts) }
     ensures node_runs { (c : Setting) (program : List Instr) (k : Packet) (number : ℕ) (w w' : World) (told : List Bool) →

@@ -13,7 +13,7 @@ use Rattle.dp_pcap.specs.Capture.{PacketRecord}
 use Rattle.dp_pcap.specs.Text.{header_text, record_text, text}
 use Rattle.dp_model.specs.Machine.{Setting}
 use Rattle.dp_model.specs.Runs.{Outcome, Nodes, Turn, Run, records_at, joined, with_empty_outboxes}
-use Rattle.dp_model.specs.Laws.Runs.{run_push}
+use Rattle.dp_model.specs.Laws.Runs.{with_turn, run_push}
 use Rattle.dp_engine.specs.declared.report.Tallies.{Tallies}
 use Rattle.dp_engine.specs.Drains.{captured}
 use Rattle.dp_engine.specs.Engines.{EngineState, no_tallies, tallies_at, counted_at, sent_at}
@@ -28,7 +28,7 @@ use Rattle.dp_pipe.proofs.Heading.{order}
 use Rattle.dp_pipe.proofs.Numbers.{IsCounted}
 use Rattle.dp_pipe.proofs.PacketRuns.{IsReady, IsFirst, packet_run, ran, run_of, counted_run, rings_there}
 use Rattle.dp_pipe.proofs.Places.{behind}
-use Rattle.dp_pipe.proofs.RunOn.{counted_sent, outcomes_many, tally_more, turn_tally}
+use Rattle.dp_pipe.proofs.RunOn.{counted_sent, outcomes_many, shown_in, tally_more, turn_tally}
 use Rattle.dp_pipe.proofs.Through.{stays_failed}
 
 -- ---- captures with one more
@@ -194,11 +194,10 @@ module _ (p : Plan) (pattern : List ℕ) (first last : EngineState) (unit : Time
       (subst (λ (n : Nodes). Turn f.engine.setting n f.last.port f.last.bytes f.engine.world f.turn.outcome f.turn.runs f.turn.told f.behind.world)
       (ap (λ (e : EngineState). e.nodes) f.run.stays ∙ is.nodes) f.turn.turn)
 
-  pub pushed : Run (setting_in p pattern) (programs_in p) (f.before ++ f.last ∷ []) first.world (f.run.told ++ f.turn.told) (f.run.outcomes
-      ++ f.turn.outcome ∷ []) (joined f.captures (records_at f.last.time f.behind.world))
-      (with_empty_outboxes f.behind.world)
-  pushed = run_push (setting_in p pattern) (programs_in p) f.before f.last first.world f.engine.world f.behind.world f.run.told f.turn.told f.run.outcomes
-      f.turn.outcome f.turn.runs f.captures boxes
+  pub pushed : Run (setting_in p pattern) (programs_in p) (f.before ++ f.last ∷ []) first.world
+      (with_turn f.last.time f.turn.outcome f.turn.told f.behind.world (shown_in f.run)) (with_empty_outboxes f.behind.world)
+  pushed = run_push (setting_in p pattern) (programs_in p) f.before f.last first.world f.engine.world f.behind.world (shown_in f.run)
+      f.turn.outcome f.turn.runs f.turn.told boxes
       (ran p pattern first f.engine f.before f.captures is f.run) turned
 
   abbrev pub through : PacketRun p pattern (f.before ++ f.last ∷ [])
@@ -262,7 +261,7 @@ module _ (p : Plan) (pattern : List ℕ) (first last : EngineState) (unit : Time
       t3 ∙ ap (λ n. record after { sent = n }) (sent_is q port own_sent f.captures through.captures (length newest) f.stopped.whole long refl)
       ∙ ap (λ (t : Tallies). record t { sent = sent_until port own_sent through.captures f.captures q })
       (sym (tally_more q f.before f.run.outcomes f.last o no_tallies (outcomes_many (setting_in p pattern) (programs_in p) f.before first.world f.engine.world
-      f.run.told f.run.outcomes f.captures (ran p pattern first f.engine f.before f.captures is f.run))))
+      (shown_in f.run) (ran p pattern first f.engine f.before f.captures is f.run))))
     where
       length_set : {A : Type 0} (xs : List A) (i : ℕ) (x : A) → length (slice_set xs i x) ≡ length xs
       length_set [] i x = refl

@@ -8,7 +8,7 @@ use Rattle.dp_pcap.specs.declared.time.Time.{Time}
 use Rattle.dp_model.specs.Environments.{fault_of}
 use Rattle.dp_model.specs.Machine.{Setting, World}
 use Rattle.dp_model.specs.Meaning.{TablesFit}
-use Rattle.dp_model.specs.Runs.{Nodes, Arrival, Outcome, Run}
+use Rattle.dp_model.specs.Runs.{Nodes, Arrival, Outcome, Shown, Run}
 use Rattle.dp_model.specs.Safety.{IsPipeline, KeepsRunsSafe}
 use Rattle.dp_model.specs.Starts.{IsStart}
 use Rattle.dp_model.specs.Laws.Runs.{safe_never_stuck}
@@ -21,15 +21,16 @@ use Rattle.dp_pipe.specs.Headline.{PacketRun}
 use Rattle.dp_pipe.specs.Pipelines.{Plan}
 use Rattle.dp_pipe.specs.Running.{setting_in, programs_in}
 use Rattle.dp_pipe.proofs.Advancing.{mid_of}
+use Rattle.dp_pipe.proofs.RunOn.{shown_in}
 use Rattle.dp_pipe.proofs.Numbers.{IsCounted}
 
 -- the laws of runs that a run of a pipeline rests on: its node runs are safe, and its captures are those of the copies
 pub record AreLaws : Type 0 where
   pub safe : (c : Setting) (nodes : Nodes) (arrivals : List (Arrival Time)) (w : World) → TablesFit c → IsPipeline c nodes → IsStart c.env w
       → KeepsRunsSafe c nodes arrivals w
-  pub copies : (c : Setting) (nodes : Nodes) (arrivals : List (Arrival Time)) (w w' : World) (told : List Bool) (outcomes : List Outcome)
-      (captures : List (List (Time × List ℕ))) → fault_of c.env ≡ None → IsStart c.env w → Run c nodes arrivals w told outcomes captures w'
-      → Captures c.env c.tables nodes arrivals told captures w'.cuts
+  pub copies : (c : Setting) (nodes : Nodes) (arrivals : List (Arrival Time)) (w w' : World) (shown : Shown Time)
+      → fault_of c.env ≡ None → IsStart c.env w → Run c nodes arrivals w shown w'
+      → Captures c.env c.tables nodes arrivals shown.told shown.captures w'.cuts
 
 -- a pipeline of checked programs, within the limits, whose tables are as its environment says
 pub record IsReady (p : Plan) (pattern : List ℕ) : Type 0 where
@@ -45,7 +46,8 @@ safe_runs p pattern arrivals w ready start = ready.laws.safe (setting_in p patte
 
 abbrev pub packet_run : (p : Plan) (pattern : List ℕ) (arrivals : List (Arrival Time)) (first last : World) (told : List Bool) (outcomes : List Outcome)
     (captures : List (List (Time × List ℕ)))
-    → IsReady p pattern → IsStart p.env first → Run (setting_in p pattern) (programs_in p) arrivals first told outcomes captures last →
+    → IsReady p pattern → IsStart p.env first
+    → Run (setting_in p pattern) (programs_in p) arrivals first (record { told = told; outcomes = outcomes; captures = captures }) last →
     PacketRun p pattern arrivals
 packet_run p pattern arrivals first last told outcomes captures ready start run = record {
   first = first;
@@ -56,7 +58,8 @@ packet_run p pattern arrivals first last told outcomes captures ready start run 
   last = last;
   run = run;
   never_stuck = λ b of. safe_never_stuck (setting_in p pattern) b ((safe_runs p pattern arrivals first ready start).runs b of);
-  copies = ready.laws.copies (setting_in p pattern) (programs_in p) arrivals first last told outcomes captures ready.limits start run;
+  copies = ready.laws.copies (setting_in p pattern) (programs_in p) arrivals first last
+      (record { told = told; outcomes = outcomes; captures = captures }) ready.limits start run;
 }
 
 zip_length : {X Y : Type 0} (P : X → Y → Type 0) (xs : List X) (ys : List Y) → AllZip P xs ys → length ys ≡ length xs
@@ -69,7 +72,8 @@ zip_length P (x ∷ xs) (y ∷ ys) all = ap suc (zip_length P xs ys all.1)
 pub rings_there : (p : Plan) (pattern : List ℕ) (arrivals : List (Arrival Time)) → IsReady p pattern → (run : PacketRun p pattern arrivals) →
     length run.last.rings ≡ length p.env.rings
 rings_there p pattern arrivals ready run =
-    let rest = (safe_runs p pattern arrivals run.first ready run.start).rests run.told run.outcomes run.captures run.last run.run in
+    let rest = (safe_runs p pattern arrivals run.first ready run.start).rests
+    (record { told = run.told; outcomes = run.outcomes; captures = run.captures }) run.last run.run in
     zip_length _ p.env.rings run.last.rings rest.ready.world.rings
 
 -- an engine before its first turn
@@ -82,10 +86,10 @@ pub record IsFirst (p : Plan) (pattern : List ℕ) (first : EngineState) : Type 
 
 pub ran : (p : Plan) (pattern : List ℕ) (first last : EngineState) (arrivals : List (Arrival Time)) (captures : List (List (Time × List ℕ))) →
     IsFirst p pattern first → (r : HasRun first last arrivals captures)
-    → Run (setting_in p pattern) (programs_in p) arrivals first.world r.told r.outcomes captures last.world
+    → Run (setting_in p pattern) (programs_in p) arrivals first.world (shown_in r) last.world
 ran p pattern first last arrivals captures is r =
-    subst (λ (c : Setting). Run c (programs_in p) arrivals first.world r.told r.outcomes captures last.world) is.setting
-    (subst (λ (n : Nodes). Run first.setting n arrivals first.world r.told r.outcomes captures last.world) is.nodes r.run)
+    subst (λ (c : Setting). Run c (programs_in p) arrivals first.world (shown_in r) last.world) is.setting
+    (subst (λ (n : Nodes). Run first.setting n arrivals first.world (shown_in r) last.world) is.nodes r.run)
 
 -- what an engine ran
 abbrev pub run_of : (p : Plan) (pattern : List ℕ) (first last : EngineState) (arrivals : List (Arrival Time)) (captures : List (List (Time × List ℕ)))

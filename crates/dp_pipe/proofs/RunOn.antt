@@ -11,8 +11,8 @@ use Rattle.dp_pcap.specs.declared.time.Unit.{Unit as TimeUnit}
 use Rattle.dp_pcap.specs.Capture.{PacketRecord}
 use Rattle.dp_model.specs.Packets.{Packet}
 use Rattle.dp_model.specs.Machine.{Setting, World}
-use Rattle.dp_model.specs.Runs.{Arrival, Outcome, Got, NoBuffer, Oversize, Nodes, Turn, Run, records_at, joined, with_empty_outboxes}
-use Rattle.dp_model.specs.Laws.Runs.{run_push}
+use Rattle.dp_model.specs.Runs.{Arrival, Outcome, Got, NoBuffer, Oversize, Nodes, Turn, Shown, Run, records_at, joined, with_empty_outboxes}
+use Rattle.dp_model.specs.Laws.Runs.{with_turn, run_push}
 use Rattle.dp_engine.specs.declared.report.Tallies.{Tallies}
 use Rattle.dp_engine.specs.Drains.{captured}
 use Rattle.dp_engine.specs.Tallies.{counted}
@@ -23,23 +23,33 @@ use Rattle.dp_pipe.proofs.Forwarded.{emptied_all, tallies_other, tallies_same, s
 abbrev pub arrival : ℕ → Time → List ℕ → Arrival Time
 arrival port time bytes = record { port = port; time = time; bytes = bytes }
 
+-- what the run of an engine shows
+abbrev pub shown_in : {e e' : EngineState} {arrivals : List (Arrival Time)} {captures : List (List (Time × List ℕ))} → HasRun e e' arrivals captures
+    → Shown Time
+shown_in {e} {e'} {arrivals} {captures} run = record { told = run.told; outcomes = run.outcomes; captures = captures }
+
 -- each record has an outcome
-pub outcomes_many : (c : Setting) (nodes : Nodes) (arrivals : List (Arrival Time)) (w w' : World) (told : List Bool) (outcomes : List Outcome)
-    (captures : List (List (Time × List ℕ))) → Run c nodes arrivals w told outcomes captures w' → length outcomes ≡ length arrivals
-outcomes_many c nodes [] w w' told outcomes captures (none, no_outcomes, are, is) = ap length no_outcomes
-outcomes_many c nodes (a ∷ arrivals) w w' told outcomes captures (outcome, rest, now, later, runs, mid, more, turn, run, is_told, are_outcomes, are) =
-    ap length are_outcomes ∙ ap suc (outcomes_many c nodes arrivals (with_empty_outboxes mid) w' later rest more run)
+pub outcomes_many : (c : Setting) (nodes : Nodes) (arrivals : List (Arrival Time)) (w w' : World) (shown : Shown Time)
+    → Run c nodes arrivals w shown w' → length shown.outcomes ≡ length arrivals
+outcomes_many c nodes [] w w' shown (none, is) = ap (λ (s : Shown Time). length s.outcomes) none
+outcomes_many c nodes (a ∷ arrivals) w w' shown (outcome, told, runs, mid, rest, turn, run, is) =
+    ap (λ (s : Shown Time). length s.outcomes) is ∙ ap suc (outcomes_many c nodes arrivals (with_empty_outboxes mid) w' rest run)
 
 -- as many captures as ports, at most
-pub captures_many : (c : Setting) (nodes : Nodes) (arrivals : List (Arrival Time)) (w w' : World) (told : List Bool) (outcomes : List Outcome)
-    (captures : List (List (Time × List ℕ))) → Run c nodes arrivals w told outcomes captures w' → length captures ≤ length c.env.ports
-captures_many c nodes [] w w' told outcomes captures (none, no_outcomes, are, is) = omega (arith, ap length are, length_none (length c.env.ports))
+pub captures_many : (c : Setting) (nodes : Nodes) (arrivals : List (Arrival Time)) (w w' : World) (shown : Shown Time)
+    → Run c nodes arrivals w shown w' → length shown.captures ≤ length c.env.ports
+captures_many c nodes [] w w' shown (none, is) = omega (arith, ap (λ (s : Shown Time). length s.captures) none, length_none (length c.env.ports))
   where
     length_none : (n : ℕ) → length {A = List (Time × List ℕ)} (replicate n []) ≡ n
     length_none zero = refl
     length_none (suc n) = ap suc (length_none n)
-captures_many c nodes (a ∷ arrivals) w w' told outcomes captures (outcome, rest, now, later, runs, mid, more, turn, run, is_told, are_outcomes, are) =
-    omega (arith, ap length are, shorter (records_at a.time mid) more, captures_many c nodes arrivals (with_empty_outboxes mid) w' later rest more run)
+captures_many c nodes (a ∷ arrivals) w w' shown (outcome, told, runs, mid, rest, turn, run, is) =
+    omega (
+      arith,
+      ap (λ (s : Shown Time). length s.captures) is,
+      shorter (records_at a.time mid) rest.captures,
+      captures_many c nodes arrivals (with_empty_outboxes mid) w' rest run,
+    )
   where
     shorter : {A : Type 0} (xs ys : List (List A)) → length (joined xs ys) ≤ length ys
     shorter [] ys = omega arith
@@ -92,13 +102,13 @@ run_on e e1 e2 e3 port time bytes arrivals captures unit mids holds there boxes 
     let nodes1 = ap (λ (x : EngineState). x.nodes) run.stays in
     let turned : Turn e.setting e.nodes port bytes e1.world turn.outcome turn.runs turn.told e2.world =
     subst (λ (x : EngineState). Turn x.setting x.nodes port bytes e1.world turn.outcome turn.runs turn.told e2.world) (run.stays) turn.turn in
-    let pushed = run_push e.setting e.nodes arrivals (arrival port time bytes) e.world e1.world e2.world run.told turn.told run.outcomes turn.outcome
-    turn.runs captures boxes run.run turned in
+    let pushed = run_push e.setting e.nodes arrivals (arrival port time bytes) e.world e1.world e2.world (shown_in run) turn.outcome turn.runs
+    turn.told boxes run.run turned in
     let n = length e.setting.env.ports in
     let world3 : e3.world ≡ with_empty_outboxes e2.world =
     ap (λ (x : EngineState). x.world) all.is ∙ ap (λ l. record e2.world { outboxes = l }) (ap (λ m. emptied m e2.world.outboxes) (sym boxes)
     ∙ emptied_all e2.world.outboxes) in
-    let many = outcomes_many e.setting e.nodes arrivals e.world e1.world run.told run.outcomes captures run.run in
+    let many = outcomes_many e.setting e.nodes arrivals e.world e1.world (shown_in run) run.run in
     let stays2 : e2 ≡ record e { world = e2.world; turns = e1.turns + 1; tallies = e2.tallies } =
     subst (λ (x : EngineState). e2 ≡ record x { world = e2.world; turns = e1.turns + 1; tallies = e2.tallies }) run.stays
     (turn.is ∙ ap (λ ts. record e1 { world = e2.world; turns = e1.turns + 1; tallies = ts }) (sym (ap (λ (x : EngineState). x.tallies) turn.is))) in
@@ -109,8 +119,8 @@ run_on e e1 e2 e3 port time bytes arrivals captures unit mids holds there boxes 
     record {
       told = run.told ++ turn.told;
       outcomes = run.outcomes ++ turn.outcome ∷ [];
-      run = subst (λ w. Run e.setting e.nodes (arrivals ++ arrival port time bytes ∷ []) e.world (run.told ++ turn.told) (run.outcomes
-          ++ turn.outcome ∷ []) (joined captures (records_at time e2.world)) w) (sym world3) pushed;
+      run = subst (Run e.setting e.nodes (arrivals ++ arrival port time bytes ∷ []) e.world
+          (with_turn time turn.outcome turn.told e2.world (shown_in run))) (sym world3) pushed;
       turns = omega (arith, turns3, run.turns, length-append arrivals (arrival port time bytes ∷ []));
       each = all.each ∙ ap (λ (x : EngineState). length x.tallies) turn.is ∙ long e1.tallies port (counted turn.outcome (tallies_at e1.tallies port))
           ∙ run.each;
@@ -131,7 +141,7 @@ run_on e e1 e2 e3 port time bytes arrivals captures unit mids holds there boxes 
         let q_in : q < length e.setting.env.ports = omega (
           arith,
           slice_get_within captures q x was,
-          captures_many e.setting e.nodes arrivals e.world e1.world run.told run.outcomes captures run.run,
+          captures_many e.setting e.nodes arrivals e.world e1.world (shown_in run) run.run,
         ) in
         let setting2 : e2.setting ≡ e.setting = ap (λ (z : EngineState). z.setting) turn.is ∙ ap (λ (z : EngineState). z.setting) run.stays in
         let t1 = run.tallies q x was in

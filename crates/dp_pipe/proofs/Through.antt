@@ -58,7 +58,7 @@ run_none : (e : EngineState) → HasRun e e [] (replicate (length e.setting.env.
 run_none e = record {
   told = [];
   outcomes = [];
-  run = (refl, refl, refl, refl);
+  run = (refl, refl);
   turns = omega arith;
   each = refl;
   tallies = tallied;

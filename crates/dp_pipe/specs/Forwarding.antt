@@ -111,7 +111,7 @@ capture_of records = map captured records
 pub record HasRun (e e' : EngineState) (arrivals : List (Arrival Time)) (captures : List (List (Time × List ℕ))) : Type 0 where
   pub told : List Bool
   pub outcomes : List Outcome
-  pub run : Run e.setting e.nodes arrivals e.world told outcomes captures e'.world
+  pub run : Run e.setting e.nodes arrivals e.world (record { told = told; outcomes = outcomes; captures = captures }) e'.world
   pub turns : e'.turns ≡ e.turns + length arrivals
   pub each : length e'.tallies ≡ length e.tallies
   pub tallies : (port : ℕ) (sent : List (Time × List ℕ)) → slice_get captures port ≡ Some sent

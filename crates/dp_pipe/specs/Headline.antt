@@ -39,7 +39,7 @@ pub record PacketRun (p : Plan) (pattern : List ℕ) (arrivals : List (Arrival T
   pub outcomes : List Outcome
   pub captures : List (List (Time × List ℕ))
   pub last : World
-  pub run : Run (setting_in p pattern) (programs_in p) arrivals first told outcomes captures last
+  pub run : Run (setting_in p pattern) (programs_in p) arrivals first (record { told = told; outcomes = outcomes; captures = captures }) last
   pub never_stuck : (b : Beginning) → IsOfRun (setting_in p pattern) (programs_in p) arrivals first b →
       NeverStuck (setting_in p pattern) b.program b.packet b.number b.world
   pub copies : Captures p.env (routes_of p.tables) (programs_in p) arrivals told captures last.cuts

@@ -7,7 +7,7 @@ use Rattle.dp_model.specs.declared.env.PoolSpec.{PoolSpec}
 use Rattle.dp_model.specs.Packets.{Segment, AreOwned}
 use Rattle.dp_model.specs.Machine.{Setting, World, live, segments_listed}
 use Rattle.dp_model.specs.Meaning.{RingHolds, TablesFit}
-use Rattle.dp_model.specs.Runs.{Outcome, between, Nodes, Turn, Arrival, Run, records_at, with_empty_outboxes, joined, NodeRun, NeverStuck}
+use Rattle.dp_model.specs.Runs.{Outcome, between, Nodes, Turn, Arrival, Shown, Run, records_at, with_empty_outboxes, joined, NodeRun, NeverStuck}
 use Rattle.dp_model.specs.Starts.{IsStart}
 use Rattle.dp_model.specs.Safety.{IsPacket, ArePackets, IsAtRest, Beginning, IsSafeBeginning}
 use Rattle.dp_model.specs.Laws.{Ready}
@@ -51,42 +51,52 @@ module _ {A : Type 0} where
   joined_assoc (x ∷ xs) (y ∷ ys) (z ∷ zs) = ap (λ a. a ∷ joined (joined xs ys) zs) (append_assoc x y z)
       ∙ ap (λ as_. (x ++ (y ++ z)) ∷ as_) (joined_assoc xs ys zs)
 
+-- what a run shows with one more turn
+abbrev pub with_turn : {T : Type 0} → T → Outcome → List Bool → World → Shown T → Shown T
+with_turn time outcome told w shown = record {
+  told = shown.told ++ told;
+  outcomes = shown.outcomes ++ outcome ∷ [];
+  captures = joined shown.captures (records_at time w);
+}
+
 -- a run and one more turn is a run
-pub run_push : {T : Type 0} (c : Setting) (nodes : Nodes) (arrivals : List (Arrival T)) (a : Arrival T) (w v mid : World) (told now : List Bool)
-    (outcomes : List Outcome) (outcome : Outcome) (runs : ℕ) (captures : List (List (T × List ℕ))) → length mid.outboxes ≡ length c.env.ports
-    → Run c nodes arrivals w told outcomes captures v → Turn c nodes a.port a.bytes v outcome runs now mid
-    → Run c nodes (arrivals ++ a ∷ []) w (told ++ now) (outcomes ++ outcome ∷ []) (joined captures (records_at a.time mid)) (with_empty_outboxes mid)
-run_push {T} c nodes [] a w v mid told now outcomes outcome runs captures ports (none, no_outcomes, are, is) turn =
+pub run_push : {T : Type 0} (c : Setting) (nodes : Nodes) (arrivals : List (Arrival T)) (a : Arrival T) (w v mid : World) (shown : Shown T)
+    (outcome : Outcome) (runs : ℕ) (told : List Bool) → length mid.outboxes ≡ length c.env.ports → Run c nodes arrivals w shown v
+    → Turn c nodes a.port a.bytes v outcome runs told mid → Run c nodes (arrivals ++ a ∷ []) w (with_turn a.time outcome told mid shown)
+    (with_empty_outboxes mid)
+run_push {T} c nodes [] a w v mid shown outcome runs told ports (none, is) turn =
     let records : List (List (T × List ℕ)) = records_at a.time mid in
-    let long : length records ≡ length c.env.ports = length-map mid.outboxes _ ∙ ports in (
+    let long : length records ≡ length c.env.ports = length-map mid.outboxes _ ∙ ports in
+    let nothing : List (List (T × List ℕ)) = replicate (length c.env.ports) [] in
+    let only : joined nothing records ≡ joined records nothing = joined_none_left (length c.env.ports) records long
+    ∙ sym (joined_none_right (length c.env.ports) records long) in
+    let flat : told ≡ told ++ [] = sym (append-nil told) in
+    let last : Shown T = record { told = []; outcomes = []; captures = nothing } in
+    let same : with_turn a.time outcome told mid last ≡ record { told = told ++ []; outcomes = outcome ∷ []; captures = joined records nothing } =
+    λ i. record { told = flat i; outcomes = outcome ∷ []; captures = only i } in (
       outcome,
-      [],
-      now,
-      [],
+      told,
       runs,
       mid,
-      replicate (length c.env.ports) [],
-      subst (λ x. Turn c nodes a.port a.bytes x outcome runs now mid) is turn,
-      (refl, refl, refl, refl),
-      ap (λ ts. ts ++ now) none ∙ sym (append-nil now),
-      ap (λ os. os ++ outcome ∷ []) no_outcomes,
-      ap (λ cs. joined cs records) are ∙ (joined_none_left (length c.env.ports) records long ∙ sym (joined_none_right (length c.env.ports) records long)),
+      last,
+      subst (λ x. Turn c nodes a.port a.bytes x outcome runs told mid) is turn,
+      (refl, refl),
+      ap (with_turn a.time outcome told mid) none ∙ same,
     )
-run_push {T} c nodes (b ∷ arrivals) a w v mid told now outcomes outcome runs captures ports
-    (outcome', rest, now', later, runs', mid', more, turn', run, is_told, are_outcomes, are) turn =
+run_push {T} c nodes (b ∷ arrivals) a w v mid shown outcome runs told ports (outcome', told', runs', mid', rest, turn', run, is) turn =
     let records : List (List (T × List ℕ)) = records_at a.time mid in (
       outcome',
-      rest ++ outcome ∷ [],
-      now',
-      later ++ now,
+      told',
       runs',
       mid',
-      joined more records,
+      with_turn a.time outcome told mid rest,
       turn',
-      run_push c nodes arrivals a (with_empty_outboxes mid') v mid later now rest outcome runs more ports run turn,
-      ap (λ ts. ts ++ now) is_told ∙ append_assoc now' later now,
-      ap (λ os. os ++ outcome ∷ []) are_outcomes,
-      ap (λ cs. joined cs records) are ∙ joined_assoc (records_at b.time mid') more records,
+      run_push c nodes arrivals a (with_empty_outboxes mid') v mid rest outcome runs told ports run turn,
+      ap (with_turn a.time outcome told mid) is ∙ (λ i. record {
+        told = append_assoc told' rest.told told i;
+        outcomes = outcome' ∷ (rest.outcomes ++ outcome ∷ []);
+        captures = joined_assoc (records_at b.time mid') rest.captures records i;
+      }),
     )
 
 -- lists without a packet have no segment
