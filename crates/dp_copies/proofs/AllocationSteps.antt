@@ -8,13 +8,14 @@ use Rattle.dp_model.specs.Buffers.{Number, Buffers, ChangesOnly}
 use Rattle.dp_model.specs.Packets.{Packet, allocated, cloned, IsFresh}
 use Rattle.dp_model.specs.Machine.{State, live, Holds, with_buffers, At, IsEmpty, with_packet, with_call, Setting, Move, Acts, is_given, is_denied}
 use Rattle.dp_model.specs.CopyMachine.{Copy, copy_put, copy_step, copy_on, copy_allocated, with_empty, is_told}
-use Rattle.dp_model.specs.Copies.{copy_of, copied}
+use Rattle.dp_model.specs.Copies.{copy_of}
 use Rattle.dp_model.specs.declared.instr.Instr.TheVariants.{Alloc, Clone}
 use Rattle.dp_model.specs.Environments.{Environment}
 use Rattle.dp_model.specs.Prefixes.{Route}
 use Rattle.dp_model.specs.Laws.References.{live_parts}
 use Rattle.dp_model.specs.Laws.Places.{IsInside}
 use Rattle.dp_model.specs.Laws.Cases.{matched}
+use Rattle.dp_copies.proofs.States.{copied}
 use Rattle.dp_copies.proofs.Unchanged.{Same, held_same, listed_same}
 use Rattle.dp_copies.proofs.Lengths.{there}
 use Rattle.dp_copies.proofs.Taking.{alloc_copy, cloned_copy, fresh_same}

@@ -6,8 +6,8 @@ use Rattle.dp_model.specs.declared.instr.Instr.{Instr}
 use Rattle.dp_model.specs.Packets.{IsWithin}
 use Rattle.dp_model.specs.Machine.{Setting, State, live, Move, Step, with_step, jump_budget, is_backward, with_jump, cut_off, budgeted}
 use Rattle.dp_model.specs.CopyMachine.{CopyMove, copy_step, copy_cut_off, copy_budgeted}
-use Rattle.dp_model.specs.Copies.{copied}
 use Rattle.dp_model.specs.Laws.Steps.{budget_keeps}
+use Rattle.dp_copies.proofs.States.{copied}
 use Rattle.dp_copies.proofs.Steps.{StepsCopy}
 
 -- what the budget makes of a move

@@ -6,11 +6,12 @@ use Rattle.dp_model.specs.Arithmetic.{big_endian, bytes_in, spelled}
 use Rattle.dp_model.specs.Packets.{Packet, first_len, IsHeadSole, stored, loaded, at_front}
 use Rattle.dp_model.specs.Machine.{State, live, Holds, with_buffers, At, Setting, Move, Acts, with_number}
 use Rattle.dp_model.specs.CopyMachine.{with_stored, copy_on, first_piece, provided, copy_loads, copy_stores}
-use Rattle.dp_model.specs.Copies.{copy_of, copied}
+use Rattle.dp_model.specs.Copies.{copy_of}
 use Rattle.dp_model.specs.declared.registers.Width.{Width}
 use Rattle.dp_model.specs.declared.registers.Width.TheVariants.{One, Two, Four, Eight}
 use Rattle.dp_model.specs.declared.instr.Instr.TheVariants.{Load, Store, LoadX, StoreX}
 use Rattle.dp_model.specs.Laws.Places.{IsInside}
+use Rattle.dp_copies.proofs.States.{copied}
 use Rattle.dp_copies.proofs.Lengths.{first_length, there}
 use Rattle.dp_copies.proofs.Stores.{store_copies}
 use Rattle.dp_copies.proofs.Moves.{Does, by, held_step}

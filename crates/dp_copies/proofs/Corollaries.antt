@@ -5,14 +5,14 @@ use Rattle.dp_model.specs.Machine.{Setting, World}
 use Rattle.dp_model.specs.Runs.{Nodes, Arrival, Shown, Run}
 use Rattle.dp_model.specs.Starts.{IsStart}
 use Rattle.dp_model.specs.CopyMachine.{Captures}
-use Rattle.dp_copies.proofs.Rooms.{accepted_have_room}
+use Rattle.dp_model.specs.Laws.Limits.{ports_have_room}
 use Rattle.dp_copies.proofs.WholeRuns.{run_copies}
 use Rattle.dp_copies.proofs.Determinism.{captures_once}
 
 -- the law
 pub accepted_runs_copy : {T : Type 0} (c : Setting) (nodes : Nodes) (arrivals : List (Arrival T)) (w w' : World) (shown : Shown T) →
     fault_of c.env ≡ None → IsStart c.env w → Run c nodes arrivals w shown w' → Captures c.env c.tables nodes arrivals shown.told shown.captures w'.cuts
-accepted_runs_copy c nodes arrivals w w' shown accepted = run_copies c nodes arrivals w w' shown (accepted_have_room c.env accepted)
+accepted_runs_copy c nodes arrivals w w' shown accepted = run_copies c nodes arrivals w w' shown (ports_have_room c.env accepted)
 
 -- both runs have the captures of the copies, and there is one list of these
 pub same_captures : {T : Type 0} (c d : Setting) (nodes : Nodes) (arrivals : List (Arrival T)) (w w' v v' : World) (shown shown' : Shown T) →

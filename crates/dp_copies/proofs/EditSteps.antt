@@ -8,9 +8,10 @@ use Rattle.dp_model.specs.Packets.{Packet, at_front, at_end, more_before, less_b
 use Rattle.dp_model.specs.Machine.{State, Holds, with_buffers, At, with_packet, Setting, Move, Acts}
 use Rattle.dp_model.specs.CopyMachine.{Copy, with_held, copy_put, copy_on, first_piece, last_piece, with_front, without_front}
 use Rattle.dp_model.specs.CopyMachine.{with_back, without_back, provided, copy_edits}
-use Rattle.dp_model.specs.Copies.{piece_of, copy_of, copied}
+use Rattle.dp_model.specs.Copies.{piece_of, copy_of}
 use Rattle.dp_model.specs.declared.instr.Instr.TheVariants.{Free, Prepend, Adj, Append, Trim, Chain}
 use Rattle.dp_model.specs.Laws.Places.{IsInside}
+use Rattle.dp_copies.proofs.States.{copied}
 use Rattle.dp_copies.proofs.Lengths.{first_before, first_length, last_behind, last_length, there}
 use Rattle.dp_copies.proofs.Writes.{apart}
 use Rattle.dp_copies.proofs.Shortening.{adj_copy, trim_copy}

@@ -3,12 +3,13 @@ use Rattle.std.proofs.Common.{◌≡◌, ℕ, ◌≤◌, Bool, List, [], ◌∷�
 use Rattle.dp_model.specs.declared.env.PoolSpec.{PoolSpec}
 use Rattle.dp_model.specs.Packets.{Packet, Lies}
 use Rattle.dp_model.specs.Machine.{segments_held, segments_listed, Setting, World, Ended}
-use Rattle.dp_model.specs.Copies.{copy_of, copied}
+use Rattle.dp_model.specs.Copies.{copy_of}
 use Rattle.dp_model.specs.declared.instr.Instr.{Instr}
 use Rattle.dp_model.specs.CopyMachine.{CopyState, copy_node_run, copy_goes}
 use Rattle.dp_model.specs.Runs.{first_state, NodeRun, between}
 use Rattle.dp_model.specs.Laws.Places.{IsInside}
 use Rattle.dp_model.specs.Laws.Lists.{all_right}
+use Rattle.dp_copies.proofs.States.{copied}
 use Rattle.dp_copies.proofs.Steps.{steps_copy}
 use Rattle.dp_copies.proofs.NodeRuns.{goes_more, goes_copies, goes_within}
 

@@ -10,11 +10,12 @@ use Rattle.dp_model.specs.Packets.{Segment, Packet, refs, IsHeadSole, Lies, head
 use Rattle.dp_model.specs.Packets.{more_behind, zeroed_behind, zeroed_before}
 use Rattle.dp_model.specs.Machine.{State, live, Holds, with_buffers, with_packet, Setting}
 use Rattle.dp_model.specs.CopyMachine.{Copy, copy_put, Piece, with_front, with_back}
-use Rattle.dp_model.specs.Copies.{piece_of, copy_of, copied}
+use Rattle.dp_model.specs.Copies.{piece_of, copy_of}
 use Rattle.dp_model.specs.Laws.References.{refs-append, refs-cons, refs_first}
 use Rattle.dp_model.specs.Laws.Cases.{one_if}
 use Rattle.dp_model.specs.Laws.Stored.{bytes_other}
 use Rattle.dp_model.specs.Laws.Places.{IsInside, inside_held}
+use Rattle.dp_copies.proofs.States.{copied}
 use Rattle.dp_copies.proofs.Parts.{range_before, range_behind, written_at}
 use Rattle.dp_copies.proofs.Lengths.{IsThere, there}
 use Rattle.dp_copies.proofs.Writes.{wrote, rest_same}

@@ -15,9 +15,9 @@ pub mod NodeRuns
 pub mod NotSeen
 pub mod Parts
 pub mod RingRuns
-pub mod Rooms
 pub mod SendSteps
 pub mod Shortening
+pub mod States
 pub mod Steps
 pub mod Stores
 pub mod Taking

@@ -8,8 +8,9 @@ use Rattle.dp_model.specs.declared.env.PoolSpec.{PoolSpec}
 use Rattle.dp_model.specs.Packets.{Packet}
 use Rattle.dp_model.specs.Machine.{State, Holds, IsEmpty, Setting, Move}
 use Rattle.dp_model.specs.CopyMachine.{Copy, CopyMove, with_held, copy_put, copy_step, with_empty, is_gone}
-use Rattle.dp_model.specs.Copies.{copy_of, copied}
+use Rattle.dp_model.specs.Copies.{copy_of}
 use Rattle.dp_model.specs.declared.instr.Instr.{Instr}
+use Rattle.dp_copies.proofs.States.{copied}
 
 -- the move is that of the copies
 abbrev pub Does : Setting → ℕ → State → Instr → List Bool → Move → Type 0

@@ -4,13 +4,13 @@ use Rattle.std.specs.Prelude.{slice_get, option_map, option_and_then}
 use Rattle.dp_model.specs.Packets.{IsWithin}
 use Rattle.dp_model.specs.Machine.{State, live, At, Setting, Next, Ended}
 use Rattle.dp_model.specs.CopyMachine.{CopyMove, copy_step, is_told, CopyState, copy_then, copy_goes, copy_budgeted}
-use Rattle.dp_model.specs.Copies.{copied}
 use Rattle.dp_model.specs.Environments.{Environment}
 use Rattle.dp_model.specs.Prefixes.{Route}
 use Rattle.dp_model.specs.declared.instr.Instr.{Instr}
 use Rattle.dp_model.specs.Runs.{Then, Goes}
 use Rattle.dp_model.specs.Laws.Places.{IsInside}
 use Rattle.dp_model.specs.Laws.StepsWithin.{step_within}
+use Rattle.dp_copies.proofs.States.{copied}
 use Rattle.dp_copies.proofs.Steps.{StepsCopy}
 use Rattle.dp_copies.proofs.Budget.{step_copies}
 

@@ -9,10 +9,11 @@ use Rattle.dp_model.specs.Buffers.{Buffers}
 use Rattle.dp_model.specs.Packets.{Packet}
 use Rattle.dp_model.specs.Machine.{State, At, Setting, Ended, Move, Acts, goes_on, moves_to, without_packet, with_ring, with_outbox}
 use Rattle.dp_model.specs.CopyMachine.{Copy, CopyMove, copy_put, copy_step, copy_on, is_gone, CopyState, provided, copy_leaves}
-use Rattle.dp_model.specs.Copies.{copy_of, copied}
+use Rattle.dp_model.specs.Copies.{copy_of}
 use Rattle.dp_model.specs.declared.instr.Instr.{Instr}
 use Rattle.dp_model.specs.declared.instr.Instr.TheVariants.{Tx, Enq, Exit}
 use Rattle.dp_model.specs.Laws.Places.{IsInside}
+use Rattle.dp_copies.proofs.States.{copied}
 use Rattle.dp_copies.proofs.Moves.{Does, by, either, held_step, put_copies}
 
 -- a packet leaves for a list

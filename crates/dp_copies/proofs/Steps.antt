@@ -4,10 +4,10 @@ use Rattle.std.specs.Prelude.{option_map}
 use Rattle.dp_model.specs.Packets.{IsWithin}
 use Rattle.dp_model.specs.Machine.{State, live, At, Setting, Move, Acts}
 use Rattle.dp_model.specs.CopyMachine.{CopyMove, copy_step}
-use Rattle.dp_model.specs.Copies.{copied}
 use Rattle.dp_model.specs.declared.instr.Instr.TheVariants.{Alloc, Clone, Free, Prepend, Adj, Append, Trim, Chain, IfHead, IfTail, IfLen, IfLast, Load, Store}
 use Rattle.dp_model.specs.declared.instr.Instr.TheVariants.{LoadX, StoreX, Set, Mov, Add, Sub, And, Or, Xor, Shl, Shr, Jmp, Jeq, Jlt, Lookup, Tx, Enq, Exit}
 use Rattle.dp_model.specs.declared.instr.Instr.{Instr}
+use Rattle.dp_copies.proofs.States.{copied}
 use Rattle.dp_copies.proofs.Moves.{by}
 use Rattle.dp_copies.proofs.AllocationSteps.{alloc_step, clone_step}
 use Rattle.dp_copies.proofs.EditSteps.{free_step, prepend_step, append_step, adj_step, trim_step, chain_step}

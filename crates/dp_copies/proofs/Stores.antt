@@ -8,12 +8,13 @@ use Rattle.dp_model.specs.Buffers.{Number, same_number, bytes_of, overwritten}
 use Rattle.dp_model.specs.Packets.{Segment, Packet, refs, first_len, IsHeadSole, stored, Lies, IsWithin, at_front}
 use Rattle.dp_model.specs.Machine.{State, live, segments_held, segments_listed, Holds, with_buffers}
 use Rattle.dp_model.specs.CopyMachine.{copy_put, with_stored}
-use Rattle.dp_model.specs.Copies.{copy_of, copied}
+use Rattle.dp_model.specs.Copies.{copy_of}
 use Rattle.dp_model.specs.Laws.References.{refs-cons, refs_held, refs_two, live_parts}
 use Rattle.dp_model.specs.Laws.Cases.{one_if}
 use Rattle.dp_model.specs.Laws.Lists.{all_left}
 use Rattle.dp_model.specs.Laws.Places.{all_held}
 use Rattle.dp_model.specs.Laws.Stored.{bytes_other, bytes_same, range_overwritten}
+use Rattle.dp_copies.proofs.States.{copied}
 use Rattle.dp_copies.proofs.Unchanged.{Same, copy_same, listed_same}
 use Rattle.dp_copies.proofs.Lists.{map_one}
 use Rattle.dp_copies.proofs.Parts.{length-big_endian}

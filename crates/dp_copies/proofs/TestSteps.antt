@@ -5,9 +5,10 @@ use Rattle.dp_model.specs.declared.env.PoolSpec.{PoolSpec}
 use Rattle.dp_model.specs.Packets.{Packet, first_len, headroom, tailroom, last_len}
 use Rattle.dp_model.specs.Machine.{State, Holds, Setting, Move, Acts, goes_on, moves_to}
 use Rattle.dp_model.specs.CopyMachine.{Copy, first_piece, last_piece, copy_branches, copy_tests}
-use Rattle.dp_model.specs.Copies.{copy_of, copied}
+use Rattle.dp_model.specs.Copies.{copy_of}
 use Rattle.dp_model.specs.declared.instr.Instr.TheVariants.{IfHead, IfTail, IfLen, IfLast}
 use Rattle.dp_model.specs.Laws.Places.{IsInside}
+use Rattle.dp_copies.proofs.States.{copied}
 use Rattle.dp_copies.proofs.Lengths.{first_before, first_length, last_behind, last_length, there}
 use Rattle.dp_copies.proofs.Moves.{Does, by, either, held_step}
 

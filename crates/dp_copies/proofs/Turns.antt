@@ -11,7 +11,7 @@ use Rattle.dp_model.specs.CopyMachine.{copy_received, is_told, CopyState, copy_n
 use Rattle.dp_model.specs.declared.env.PortSpec.{PortSpec}
 use Rattle.dp_model.specs.declared.instr.Instr.{Instr}
 use Rattle.dp_model.specs.Runs.{Outcome, Got, Oversize, Nodes, NoBuffer, between, Receives, Arrives, Turn}
-use Rattle.dp_model.specs.Starts.{HaveRoom}
+use Rattle.dp_model.specs.Laws.Limits.{HaveRoom}
 use Rattle.dp_model.specs.Laws.References.{live_parts}
 use Rattle.dp_model.specs.Laws.Places.{IsInside, lies_received, needed_holds, all_first}
 use Rattle.dp_copies.proofs.Unchanged.{Same, listed_same}

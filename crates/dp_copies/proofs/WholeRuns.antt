@@ -6,7 +6,8 @@ use Rattle.dp_model.specs.CopyMachine.{Copy, is_told, CopyState, copy_start, cop
 use Rattle.dp_model.specs.Copies.{copy_of}
 use Rattle.dp_model.specs.Machine.{Setting, World}
 use Rattle.dp_model.specs.Runs.{Outcome, Nodes, Arrival, Shown, Run, joined, between, records_at, with_empty_outboxes}
-use Rattle.dp_model.specs.Starts.{HaveRoom, IsStart}
+use Rattle.dp_model.specs.Starts.{IsStart}
+use Rattle.dp_model.specs.Laws.Limits.{HaveRoom}
 use Rattle.dp_model.specs.Laws.Places.{IsInside, start_inside}
 use Rattle.dp_copies.proofs.Lists.{empty_lists, no_lists}
 use Rattle.dp_copies.proofs.Landings.{Shows, Lands, stays}

@@ -8,10 +8,11 @@ use Rattle.dp_model.specs.Buffers.{Number, same_number, Buffers, bytes_of}
 use Rattle.dp_model.specs.Packets.{Segment, Packet, refs}
 use Rattle.dp_model.specs.Machine.{State, live, segments_listed, Holds, with_buffers, with_packet}
 use Rattle.dp_model.specs.CopyMachine.{Copy, copy_put}
-use Rattle.dp_model.specs.Copies.{copy_of, copied}
+use Rattle.dp_model.specs.Copies.{copy_of}
 use Rattle.dp_model.specs.Laws.Cases.{one_if}
 use Rattle.dp_model.specs.Laws.References.{refs_held, refs_two, live_parts}
 use Rattle.dp_model.specs.Laws.Stored.{same_is}
+use Rattle.dp_copies.proofs.States.{copied}
 use Rattle.dp_copies.proofs.Unchanged.{Same, copy_same, listed_same}
 use Rattle.dp_copies.proofs.Lists.{set_one}
 use Rattle.dp_copies.proofs.Lengths.{there}

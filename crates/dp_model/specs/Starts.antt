@@ -1,13 +1,8 @@
 -- Where runs start.
-use Rattle.std.specs.Prelude.{◌≡◌, ℕ, ◌≤◌, [], length, map, Some, slice_get}
-use Rattle.dp_model.specs.declared.env.PortSpec.{PortSpec}
+use Rattle.std.specs.Prelude.{◌≡◌, [], length, map}
 use Rattle.dp_model.specs.Environments.{Environment, room_at}
 use Rattle.dp_model.specs.Buffers.{Number, IsNumber, AreBytes, bytes_of}
 use Rattle.dp_model.specs.Machine.{World}
-
--- the pools of ports have buffers with room for bytes
-abbrev pub HaveRoom : Environment → Type 0
-HaveRoom env = (port : ℕ) (spec : PortSpec) → slice_get env.ports port ≡ Some spec → 129 ≤ room_at env.pools spec.pool
 
 -- the world before the first record: every ring and transmit list is there and empty, each buffer has its room, with any
 -- bytes, and nothing has been counted

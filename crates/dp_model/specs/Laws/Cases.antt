@@ -1,4 +1,4 @@
--- Laws of tests: what follows either way.
+-- Internal: laws of tests, what follows either way.
 use Rattle.std.proofs.Common.{◌≡◌, ℕ, Bool, true, false, cond, refl}
 use Rattle.std.specs.Prelude.{MatchBool}
 

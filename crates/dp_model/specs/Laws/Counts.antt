@@ -1,4 +1,4 @@
--- Laws of counts of segments; each buffer stays owned as it should where no count grows.
+-- Internal: laws of counts of segments; each buffer stays owned as it should where no count grows.
 use Rattle.std.proofs.Common.{◌≡◌, ℕ, ◌+◌, ◌≤◌, Bool, true, false, cond, List, [], ◌∷◌, ◌++◌, refl, sym, ◌∙◌, ap, arith, not, ◌&&◌, subst, ⊎_elim}
 use Rattle.std.specs.Prelude.{count_by, map}
 use Rattle.std.specs.List.{AllByRecursion}

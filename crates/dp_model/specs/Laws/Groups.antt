@@ -1,4 +1,4 @@
--- Laws of groups of registers that share: who belongs to which, and what edits of a row leave.
+-- Internal: laws of groups of registers that share, who belongs to which, and what edits of a row leave.
 use Rattle.std.proofs.Common.{◌≡◌, ◌≢◌, ℕ, zero, suc, ◌+◌, Bool, true, false, List, [], ◌∷◌, length, Option, Some, None, refl, ◌∙◌, ap, subst, arith, ◌⊎◌}
 use Rattle.std.proofs.Common.{◌-◌, cond, sym, inl, inr, ⊎_elim, ◌&&◌, get_or}
 use Rattle.std.specs.Prelude.{slice_get, slice_set, option_and_then, nat_le, ◌==◌, ◌≢◌}

@@ -1,4 +1,4 @@
--- Laws of environments without a fault: their numbers are small.
+-- Internal: laws of environments without a fault, whose numbers are small.
 use Rattle.std.proofs.Common.{◌≡◌, ℕ, zero, suc, ◌+◌, ◌≤◌, Bool, true, false, not, cond, ◌&&◌, List, [], ◌∷◌, length, Option, Some, None, refl, sym, ◌∙◌, arith}
 use Rattle.std.specs.Prelude.{nat_le, slice_get, option_map, position, if◌then◌else◌}
 use Rattle.std.specs.List.{position_from}
@@ -9,7 +9,6 @@ use Rattle.dp_model.specs.declared.env.PortSpec.{PortSpec}
 use Rattle.dp_model.specs.declared.env.EnvError.TheVariants.{BadNumber, BadPort}
 use Rattle.dp_model.specs.Environments.{Environment, room_at, is_ring_count, port_fits, numbers_fit, fault_of}
 use Rattle.dp_model.specs.Rows.{segs_at}
-use Rattle.dp_model.specs.Starts.{HaveRoom}
 
 -- there are at most 8 pools, 8 rings and 8 ports
 pub numbers_known : (e : Environment) → numbers_fit e ≡ true → (length e.pools ≤ 8) × (length e.rings ≤ 8) × (length e.ports ≤ 8)
@@ -77,7 +76,11 @@ segs_small e k segs h is = go (slice_get e.ports k) refl is
         let same : p.segs ≡ segs = cc in
         omega (arith, below, same)
 
--- the pools of ports have room for bytes
+-- the pools of ports have buffers with room for bytes
+abbrev pub HaveRoom : Environment → Type 0
+HaveRoom env = (port : ℕ) (spec : PortSpec) → slice_get env.ports port ≡ Some spec → 129 ≤ room_at env.pools spec.pool
+
+-- so they have
 pub ports_have_room : (e : Environment) → fault_of e ≡ None → HaveRoom e
 ports_have_room e h port spec there =
     let fits = not_false (port_fits e.pools spec) (none_at (λ p. not (port_fits e.pools p)) e.ports port spec (ports_pass e h) there) in

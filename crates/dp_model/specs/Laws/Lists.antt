@@ -1,4 +1,4 @@
--- Laws of lists: what a write leaves, and what holds of each element.
+-- Internal: laws of lists, what a write leaves, and what holds of each element.
 use Rattle.std.proofs.Common.{◌≡◌, ◌≢◌, ℕ, zero, suc, ◌+◌, Bool, true, List, [], ◌∷◌, ◌++◌, Some, refl, ap, arith, ◌<◌, length, subst, ◌&&◌, add-one, drop}
 use Rattle.std.proofs.Common.{slice_get, slice_set, take}
 use Rattle.std.specs.Prelude.{slice_get, slice_set}

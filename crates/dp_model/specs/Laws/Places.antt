@@ -1,4 +1,4 @@
--- Laws of segments that lie within their buffers.
+-- Internal: laws of segments that lie within their buffers.
 use Rattle.std.proofs.Common.{◌≡◌, ℕ, zero, suc, ◌+◌, ◌-◌, ◌<◌, ◌≤◌, List, [], ◌∷◌, ◌++◌, length, Option, Some, None, sym, ap, subst, arith, ◌*◌, ◌/◌, max, map}
 use Rattle.std.specs.Prelude.{slice_get}
 use Rattle.std.specs.List.{AllByRecursion}

@@ -1,4 +1,4 @@
--- Laws of references: what each packet adds, and what registers hold.
+-- Internal: laws of references, what each packet adds, and what registers hold.
 use Rattle.std.proofs.Common.{◌≡◌, ◌≢◌, ℕ, zero, suc, ◌+◌, ◌≤◌, true, cond, List, [], ◌∷◌, ◌++◌, Option, Some, None, refl, ◌∙◌, ap, arith, false, not, ◌||◌}
 use Rattle.std.specs.Prelude.{slice_get, slice_set}
 use Rattle.std.proofs.lemmas.List.Sums.{sum_by-append, sum_by-cons}

@@ -1,4 +1,4 @@
--- Laws of runs: where they begin, and one more turn.
+-- Internal: laws of runs, where they begin, and one more turn.
 use Rattle.std.proofs.Common.{◌≡◌, ℕ, zero, suc, Bool, List, [], ◌∷◌, ◌++◌, length, replicate, map, refl, sym, ◌∙◌, ap, subst, arith, append_assoc}
 use Rattle.std.specs.List.{AllZip, AllByRecursion}
 use Rattle.std.proofs.lemmas.List.{append-nil, length-map}

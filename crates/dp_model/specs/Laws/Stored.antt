@@ -1,4 +1,4 @@
--- Laws of the bytes of buffers, when one of them is written.
+-- Internal: laws of the bytes of buffers, when one of them is written.
 use Rattle.std.proofs.Common.{◌≡◌, ◌≢◌, ℕ, zero, suc, ◌+◌, ◌-◌, ◌≤◌, true, List, [], ◌∷◌, ◌++◌, refl, ◌∙◌, ap, arith, ◌<◌, false, length, sym, subst, get_or}
 use Rattle.std.proofs.Common.{set, ⊎_elim, ◌⊎◌, take, drop, inl, inr, length-append, length-take, length-drop}
 use Rattle.std.proofs.lemmas.Bool.{eq-eqb, and_from, and_parts, eqb-true, cases_eq, cases_lt, both_ways, cases_Bool}

@@ -1,4 +1,4 @@
--- Laws of packets that wait in rings.
+-- Internal: laws of packets that wait in rings.
 use Rattle.std.proofs.Common.{◌≡◌, ℕ, zero, suc, List, [], ◌∷◌, ◌++◌, Option, Some, None, refl, ◌∙◌, ap, subst, arith, sym, map}
 use Rattle.std.specs.Prelude.{slice_get, slice_set, flat_map, option_map}
 use Rattle.std.specs.List.{AllByRecursion, AllZip}
