@@ -1,5 +1,5 @@
 -- The law for environments that `Env::new` accepts, and that two runs that are told the same write the same.
-use Rattle.std.proofs.Common.{◌≡◌, ℕ, List, None, subst}
+use Rattle.std.proofs.Common.{◌≡◌, List, None, subst}
 use Rattle.dp_model.specs.Environments.{fault_of}
 use Rattle.dp_model.specs.Machine.{Setting, World}
 use Rattle.dp_model.specs.Runs.{Nodes, Arrival, Shown, Run}

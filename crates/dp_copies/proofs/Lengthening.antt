@@ -9,7 +9,7 @@ use Rattle.dp_model.specs.Buffers.{Number, same_number, Buffers, bytes_of, overw
 use Rattle.dp_model.specs.Packets.{Segment, Packet, refs, IsHeadSole, Lies, headroom, tailroom, IsTailSole, room_behind, at_front, at_end, more_before}
 use Rattle.dp_model.specs.Packets.{more_behind, zeroed_behind, zeroed_before}
 use Rattle.dp_model.specs.Machine.{State, live, Holds, with_buffers, with_packet, Setting}
-use Rattle.dp_model.specs.CopyMachine.{Copy, copy_put, Piece, with_front, with_back}
+use Rattle.dp_model.specs.CopyMachine.{copy_put, with_front, with_back}
 use Rattle.dp_model.specs.Copies.{piece_of, copy_of}
 use Rattle.dp_model.specs.Laws.References.{refs-append, refs-cons, refs_first}
 use Rattle.dp_model.specs.Laws.Cases.{one_if}

@@ -2,7 +2,7 @@
 use Rattle.std.proofs.Common.{◌≡◌, ℕ, ◌+◌, Bool, List, [], ◌∷◌, ◌++◌, map, Option, Some, ◌∙◌, ap, arith, sym, append_assoc}
 use Rattle.std.specs.Prelude.{option_map, option_and_then}
 use Rattle.std.proofs.lemmas.List.{append-nil}
-use Rattle.dp_model.specs.CopyMachine.{Copy, is_told, CopyState, copy_start, copy_turn, copy_records_at, copy_run, Captures, copy_bytes}
+use Rattle.dp_model.specs.CopyMachine.{Copy, CopyState, copy_start, copy_turn, copy_records_at, copy_run, Captures, copy_bytes}
 use Rattle.dp_model.specs.Copies.{copy_of}
 use Rattle.dp_model.specs.Machine.{Setting, World}
 use Rattle.dp_model.specs.Runs.{Outcome, Nodes, Arrival, Shown, Run, joined, between, records_at, with_empty_outboxes}

@@ -1,5 +1,5 @@
 -- Whole runs of a pipeline: every node run is safe, and there is a run for each list of records.
-use Rattle.std.proofs.Common.{◌≡◌, ℕ, Bool, List, [], ◌∷◌, ◌++◌, length, replicate, refl, sym, ap, subst, arith}
+use Rattle.std.proofs.Common.{◌≡◌, List, [], ◌∷◌, ◌++◌, length, replicate, refl, sym, ap, subst, arith}
 use Rattle.std.specs.List.{AllByRecursion}
 use Rattle.dp_model.specs.Machine.{Setting, World, live, segments_listed}
 use Rattle.dp_model.specs.Runs.{between, Nodes, Arrival, Shown, Run, records_at, with_empty_outboxes, joined}
