@@ -2,7 +2,7 @@
 use Rattle.std.proofs.Common.{◌≡◌, ℕ, ◌-◌, ◌/◌, ◌^◌, ◌<◌, ◌≤◌, Some, sym, ◌∙◌, ap, subst}
 use Rattle.dp_lpm.specs.declared.cell.Entry.TheVariants.{Hop}
 use Rattle.dp_lpm.specs.declared.rule.Rule.{Rule}
-use Rattle.dp_lpm.specs.declared.store.Store.{Store}
+use Rattle.dp_lpm.specs.declared.ruled_table.RuledTable.{RuledTable}
 use Rattle.dp_lpm.specs.Routes.{IsRoute, prefix_of, ChangesAt}
 use Rattle.dp_lpm.specs.Rules.{route_of, routes_of}
 use Rattle.dp_lpm.specs.Tables.{group_at, start_of, Settled}
@@ -23,13 +23,13 @@ rule_is ip depth hop prefix is small some most low = record {
   hop = low;
 }
 
-pub added_group : (old new : Store) (ip depth hop prefix : ℕ) → prefix ≡ prefix_of ip depth → depth ≤ 32 →
+pub added_group : (old new : RuledTable) (ip depth hop prefix : ℕ) → prefix ≡ prefix_of ip depth → depth ≤ 32 →
     TakesIn old new (route_of (rule_of prefix depth hop)) → 24 < depth → (g : ℕ) × (group_at new.table (ip / 256) ≡ Some g)
 added_group old new ip depth hop prefix is most takes deep =
     let first : first_of (route_of (rule_of prefix depth hop)) ≡ ip / 256 = ap (λ p. p / 2 ^ (depth - 24)) is ∙ deep_first ip depth deep most in
     subst (λ i. (g : ℕ) × (group_at new.table i ≡ Some g)) first (takes.group deep)
 
-pub added_keeps : (old mid new : Store) (ip depth hop prefix : ℕ) → prefix ≡ prefix_of ip depth → 1 ≤ depth → depth ≤ 32 →
+pub added_keeps : (old mid new : RuledTable) (ip depth hop prefix : ℕ) → prefix ≡ prefix_of ip depth → 1 ≤ depth → depth ≤ 32 →
     TakesIn old mid (route_of (rule_of prefix depth hop)) → Settled (start_of ip depth) (2 ^ (32 - depth)) depth (Hop hop depth) mid.table new.table →
     new.rules ≡ mid.rules → new.max_rules ≡ mid.max_rules → IsKept new
 added_keeps old mid new ip depth hop prefix is some most takes settled rules max =

@@ -6,7 +6,7 @@ use Rattle.std.specs.Option.{option_or}
 use Rattle.std.proofs.lemmas.Bool.{cases_eq, cases_lt}
 use Rattle.dp_model.specs.Prefixes.{Route}
 use Rattle.dp_lpm.specs.declared.cell.Entry.{Entry}
-use Rattle.dp_lpm.specs.declared.store.Store.{Store}
+use Rattle.dp_lpm.specs.declared.ruled_table.RuledTable.{RuledTable}
 use Rattle.dp_lpm.specs.Cells.{depth_of, settled}
 use Rattle.dp_lpm.specs.Routes.{IsRoute, prefix_of, ChangesAt, deepest_within}
 use Rattle.dp_lpm.specs.Rules.{IsOrdered, routes_of, entry_of}
@@ -18,7 +18,7 @@ use Rattle.dp_lpm.proofs.Ranges.{in_range, range_low, range_high}
 use Rattle.dp_lpm.proofs.Grouping.{grouped_table}
 
 -- entries of all addresses, once those of the prefix have settled
-settled_answers : (before after : List Route) (old new : Store) (ip depth : ℕ) (route : Option Route) →
+settled_answers : (before after : List Route) (old new : RuledTable) (ip depth : ℕ) (route : Option Route) →
     ChangesAt before after (prefix_of ip depth) depth route → 1 ≤ depth → depth ≤ 32 →
     ((a : ℕ) → entry_for old.table a ≡ entry_of (deepest_within 32 before a)) →
     Settled (start_of ip depth) (2 ^ (32 - depth)) depth (entry_of (option_or route (deepest_within (depth - 1) before ip))) old.table new.table →
@@ -50,7 +50,7 @@ settled_answers before after old new ip depth route changes some most answers so
         (cases_lt a (start_of ip depth))
         ∙ (answers a ∙ ap entry_of (sym (outside_same before after (prefix_of ip depth) depth route changes a 32 other)))
 
-pub settled_keeps : (before counted : List Route) (old new : Store) (ip depth : ℕ) (route : Option Route) → Keeps before counted old →
+pub settled_keeps : (before counted : List Route) (old new : RuledTable) (ip depth : ℕ) (route : Option Route) → Keeps before counted old →
     ChangesAt before (routes_in old) (prefix_of ip depth) depth route → 1 ≤ depth → depth ≤ 32 →
     Settled (start_of ip depth) (2 ^ (32 - depth)) depth (entry_of (option_or route (deepest_within (depth - 1) before ip))) old.table new.table →
     new.rules ≡ old.rules → new.max_rules ≡ old.max_rules → Keeps (routes_in new) counted new

@@ -9,7 +9,7 @@ use Rattle.std.proofs.lemmas.Option.{same_Some}
 use Rattle.dp_model.specs.Prefixes.{Route}
 use Rattle.dp_lpm.specs.declared.cell.Entry.{Entry}
 use Rattle.dp_lpm.specs.declared.error.LpmError.TheVariants.{BadDepth, NoRule}
-use Rattle.dp_lpm.specs.declared.store.Store.{Store}
+use Rattle.dp_lpm.specs.declared.ruled_table.RuledTable.{RuledTable}
 use Rattle.dp_lpm.specs.Cells.{IsStorable}
 use Rattle.dp_lpm.specs.Faults.{delete_fault}
 use Rattle.dp_lpm.specs.Routes.{IsRoute, Drops, ChangesAt, prefix_of, is_at, route_at, deepest_within}
@@ -48,77 +48,77 @@ entry_fits routes (suc n) ip all =
 fault_depth : (depth : ℕ) → 1 ≤ depth → depth ≤ 32 → (nat_lt depth 1 || nat_lt 32 depth) ≡ false
 fault_depth depth some most = ap (λ b. b || nat_lt 32 depth) (le-ltb depth 1 some) ∙ le-ltb 32 depth most
 
-pub delete_told : (s : Store) (ip depth : ℕ) → 1 ≤ depth → depth ≤ 32 → delete_fault (shown s) ip depth
+pub delete_fault_is : (s : RuledTable) (ip depth : ℕ) → 1 ≤ depth → depth ≤ 32 → delete_fault (shown s) ip depth
     ≡ (if is_some (route_at (routes_in s) (prefix_of ip depth) depth) then None else Some NoRule)
-delete_told s ip depth some most = ap (λ b. if b then Some BadDepth else if is_some (route_at (routes_in s) (prefix_of ip depth) depth) then None
+delete_fault_is s ip depth some most = ap (λ b. if b then Some BadDepth else if is_some (route_at (routes_in s) (prefix_of ip depth) depth) then None
     else Some NoRule) (fault_depth depth some most)
 
-pub delete_none : (s : Store) (ip depth place : ℕ) → 1 ≤ depth → depth ≤ 32 → IsMissing s.rules.items depth (prefix_of ip depth) place →
+pub delete_none : (s : RuledTable) (ip depth index : ℕ) → 1 ≤ depth → depth ≤ 32 → IsMissing s.rules.items depth (prefix_of ip depth) index →
     delete_fault (shown s) ip depth ≡ Some NoRule
-delete_none s ip depth place some most missing =
-    delete_told s ip depth some most ∙ ap (λ o. if is_some o then None else Some NoRule) (missing_at s.rules.items depth (prefix_of ip depth) place missing)
+delete_none s ip depth index some most missing =
+    delete_fault_is s ip depth some most ∙ ap (λ o. if is_some o then None else Some NoRule) (missing_at s.rules.items depth (prefix_of ip depth) index missing)
 
-pub delete_found : (s : Store) (ip depth place : ℕ) → 1 ≤ depth → depth ≤ 32 → IsFound s.rules.items depth (prefix_of ip depth) place →
+pub delete_found : (s : RuledTable) (ip depth index : ℕ) → 1 ≤ depth → depth ≤ 32 → IsFound s.rules.items depth (prefix_of ip depth) index →
     delete_fault (shown s) ip depth ≡ None
-delete_found s ip depth place some most found =
-    delete_told s ip depth some most ∙ ap (λ o. if is_some o then None else Some NoRule) (found_at s.rules.items depth (prefix_of ip depth) place found)
+delete_found s ip depth index some most found =
+    delete_fault_is s ip depth some most ∙ ap (λ o. if is_some o then None else Some NoRule) (found_at s.rules.items depth (prefix_of ip depth) index found)
 
 -- a deep rule has a group
-pub deep_group : (s : Store) (ip depth place : ℕ) → IsKept s → depth ≤ 32 → IsFound s.rules.items depth (prefix_of ip depth) place → 24 < depth →
+pub deep_group : (s : RuledTable) (ip depth index : ℕ) → IsKept s → depth ≤ 32 → IsFound s.rules.items depth (prefix_of ip depth) index → 24 < depth →
     (g : ℕ) × (group_at s.table (ip / 256) ≡ Some g)
-deep_group s ip depth place kept most found deep = either_group (group_at s.table (ip / 256))
+deep_group s ip depth index kept most found deep = either_group (group_at s.table (ip / 256))
     (λ none. absurd (omega (
       arith,
       kept.plain (ip / 256) none,
       found_counts (routes_in s) (prefix_of ip depth) depth (ip / 256) _
-          (found_at s.rules.items depth (prefix_of ip depth) place found) deep (deep_first ip depth deep most),
+          (found_at s.rules.items depth (prefix_of ip depth) index found) deep (deep_first ip depth deep most),
     )))
     (λ g named. (g, named))
 
 -- ---- what is left
 
-module _ (old mid new : Store) (place ip depth : ℕ) (to : Entry) (kept : IsKept old) (found : IsFound old.rules.items depth (prefix_of ip depth) place)
-    (some : 1 ≤ depth) (most : depth ≤ 32) (rules : mid.rules.items ≡ take place old.rules.items
-    ++ drop (suc place) old.rules.items) (room : vec_capacity mid.rules ≡ vec_capacity old.rules) (max : mid.max_rules ≡ old.max_rules) (table : mid.table
+module _ (old mid new : RuledTable) (index ip depth : ℕ) (to : Entry) (kept : IsKept old) (found : IsFound old.rules.items depth (prefix_of ip depth) index)
+    (some : 1 ≤ depth) (most : depth ≤ 32) (rules : mid.rules.items ≡ take index old.rules.items
+    ++ drop (suc index) old.rules.items) (room : vec_capacity mid.rules ≡ vec_capacity old.rules) (max : mid.max_rules ≡ old.max_rules) (table : mid.table
     ≡ old.table) (next : to ≡ entry_of (deepest_within (depth - 1) (routes_in old) ip))
     (settled : Settled (start_of ip depth) (2 ^ (32 - depth)) depth to mid.table new.table) (same_rules : new.rules ≡ mid.rules) (same_max : new.max_rules
     ≡ mid.max_rules) where
-  pub now_left : new.rules.items ≡ take place old.rules.items ++ drop (suc place) old.rules.items
+  pub now_left : new.rules.items ≡ take index old.rules.items ++ drop (suc index) old.rules.items
   now_left = ap (λ v. v.items) same_rules ∙ rules
 
   pub deleted : Keeps (routes_in new) (routes_in old) new
   deleted =
       settled_keeps (routes_in old) (routes_in old) mid new ip depth None
-      (removed old place (prefix_of ip depth) depth found mid kept rules room max table)
+      (removed old index (prefix_of ip depth) depth found mid kept rules room max table)
       (subst (λ rs. ChangesAt (routes_in old) (routes_of rs) (prefix_of ip depth) depth None) (sym rules)
-      (removed_changes old place (prefix_of ip depth) depth found))
+      (removed_changes old index (prefix_of ip depth) depth found))
       some most (subst (λ e. Settled (start_of ip depth) (2 ^ (32 - depth)) depth e mid.table new.table) next settled) same_rules same_max
 
   pub count_shallow : (i : ℕ) → depth ≤ 24 → deep_count (routes_in new) i ≡ deep_count (routes_in old) i
-  count_shallow i shallow = ap (λ rs. deep_count (routes_of rs) i) now_left ∙ left_shallow old place (prefix_of ip depth) depth found i shallow
+  count_shallow i shallow = ap (λ rs. deep_count (routes_of rs) i) now_left ∙ left_shallow old index (prefix_of ip depth) depth found i shallow
 
   pub count_here : 24 < depth → deep_count (routes_in old) (ip / 256) ≡ deep_count (routes_in new) (ip / 256) + 1
   count_here deep =
-      left_here old place (prefix_of ip depth) depth found (ip / 256) deep (deep_first ip depth deep most)
+      left_here old index (prefix_of ip depth) depth found (ip / 256) deep (deep_first ip depth deep most)
       ∙ ap (λ rs. deep_count (routes_of rs) (ip / 256) + 1) (sym now_left)
 
   pub count_others : (i : ℕ) → 24 < depth → i ≢ ip / 256 → deep_count (routes_in new) i ≡ deep_count (routes_in old) i
   count_others i deep other =
       ap (λ rs. deep_count (routes_of rs) i) now_left
-      ∙ left_others old place (prefix_of ip depth) depth found (ip / 256) i deep (deep_first ip depth deep most) other
+      ∙ left_others old index (prefix_of ip depth) depth found (ip / 256) i deep (deep_first ip depth deep most) other
 
   -- the rule is out, but for its group
   pub taken_out : TakesOut old new ip depth
   taken_out = record {
     kept = deleted;
-    drops = dropped old place (prefix_of ip depth) depth found new now_left (same_max ∙ max) (ap length settled.counts ∙ ap (λ t. length t.counts.items) table);
+    drops = dropped old index (prefix_of ip depth) depth found new now_left (same_max ∙ max) (ap length settled.counts ∙ ap (λ t. length t.counts.items) table);
     shallow = λ le i. count_shallow i le;
     here = count_here;
     others = λ deep i. count_others i deep;
   }
 
 -- what the table is seen as does not change as a group is closed
-pub closed_drops : (old s new : Store) (ip depth : ℕ) → Drops (shown old) (shown s) (prefix_of ip depth) depth → new.rules ≡ s.rules →
+pub closed_drops : (old s new : RuledTable) (ip depth : ℕ) → Drops (shown old) (shown s) (prefix_of ip depth) depth → new.rules ≡ s.rules →
     new.max_rules ≡ s.max_rules → Closed (ip / 256) s.table new.table → Drops (shown old) (shown new) (prefix_of ip depth) depth
 closed_drops old s new ip depth drops rules max closed = record {
   changes = subst (λ v. ChangesAt (routes_in old) (routes_of v.items) (prefix_of ip depth) depth None) (sym rules) drops.changes;

@@ -50,7 +50,7 @@ unnamed_group (Group g) other = absurd (other g refl)
 pub group_fits : (t : Table) (i g low : ℕ) → IsTable t → group_at t i ≡ Some g → low < 256 → g * 256 + low < length t.cells.items
 group_fits t i g low table named lt = let there = table.named i g named in omega (arith, there, table.cells, lt)
 
--- what stands at a place, whatever is taken where there is none
+-- what stands at an index, whatever is taken where there is none
 pub item_at : (cells : List Cell) (k : ℕ) (c : Cell) → k < length cells → c ≡ slice_index_or cells k c → slice_index_or cells k (record { bits = 0 }) ≡ c
 item_at [] k c there is = absurd (omega (arith, there))
 item_at (x ∷ cells) zero c there is = sym is

@@ -9,7 +9,7 @@ use Rattle.std.proofs.lemmas.Nat.{shr_below}
 use Rattle.dp_model.specs.Prefixes.{Route}
 use Rattle.dp_lpm.specs.declared.error.LpmError.TheVariants.{RulesFull, GroupsFull}
 use Rattle.dp_lpm.specs.declared.rule.Rule.{Rule}
-use Rattle.dp_lpm.specs.declared.store.Store.{Store}
+use Rattle.dp_lpm.specs.declared.ruled_table.RuledTable.{RuledTable}
 use Rattle.dp_lpm.specs.declared.table.Table.{Table}
 use Rattle.dp_lpm.specs.Faults.{new_fault}
 use Rattle.dp_lpm.specs.Routes.{IsRoute, is_deep_in, route_at, groups_needed, ChangesAt}
@@ -40,7 +40,7 @@ first_small r is deep =
     shr_below r.prefix 24 (r.depth - 24) (subst (λ n. r.prefix < 2 ^ n) bits is.prefix)
 
 -- what the groups of a table are
-pub groups_of : (s : Store) → IsKept s → Grouped s.table (routes_in s)
+pub groups_of : (s : RuledTable) → IsKept s → Grouped s.table (routes_in s)
 groups_of s kept = record { grouped = kept.grouped; plain = kept.plain; needed = kept.needed }
 
 -- the one rule of a list is its route
@@ -55,35 +55,35 @@ found_route r =
 abbrev pub Makes : Rule → Table → Table → Type 0
 Makes r old new = ((r.depth ≤ 24) × (new ≡ old)) ⊎ ((24 < r.depth) × Opened (first_of (route_of r)) old new)
 
-put_count : (rules : List Rule) (place i : ℕ) (r : Rule) → IsMissing rules r.depth r.prefix place →
-    deep_count (routes_of (take place rules ++ r ∷ drop place rules)) i ≡ deep_count (routes_of rules) i + one_if (is_deep_in i (route_of r))
-put_count rules place i r missing =
-    let e = spliced_count rules (take place rules ++ r ∷ drop place rules) r.prefix r.depth i (put_splice rules place r missing) in
+put_count : (rules : List Rule) (index i : ℕ) (r : Rule) → IsMissing rules r.depth r.prefix index →
+    deep_count (routes_of (take index rules ++ r ∷ drop index rules)) i ≡ deep_count (routes_of rules) i + one_if (is_deep_in i (route_of r))
+put_count rules index i r missing =
+    let e = spliced_count rules (take index rules ++ r ∷ drop index rules) r.prefix r.depth i (put_splice rules index r missing) in
     omega (arith, e)
 
-pub grown : (old new : Store) (place : ℕ) (r : Rule) → IsKept old → IsRoute (route_of r) → IsMissing old.rules.items r.depth r.prefix place →
-    length old.rules.items < old.max_rules → new.rules.items ≡ take place old.rules.items ++ r ∷ drop place old.rules.items →
+pub grown : (old new : RuledTable) (index : ℕ) (r : Rule) → IsKept old → IsRoute (route_of r) → IsMissing old.rules.items r.depth r.prefix index →
+    length old.rules.items < old.max_rules → new.rules.items ≡ take index old.rules.items ++ r ∷ drop index old.rules.items →
     vec_capacity old.rules ≤ vec_capacity new.rules → new.max_rules ≡ old.max_rules → Makes r old.table new.table → TakesIn old new (route_of r)
     × (new_fault (shown old) (route_of r) ≡ None)
-grown old new place r kept is missing few rules room max makes = (
+grown old new index r kept is missing few rules room max makes = (
   record {
     kept = record {
-      order = subst IsOrdered (sym rules) (ordered_put old.rules.items place r kept.order missing.parts);
+      order = subst IsOrdered (sym rules) (ordered_put old.rules.items index r kept.order missing.parts);
       each = subst (λ rs. AllByRecursion IsRoute (routes_of rs)) (sym rules)
-          (all_routes IsRoute (take place old.rules.items ++ r ∷ drop place old.rules.items)
-          (all_put (λ q. IsRoute (route_of q)) old.rules.items place r (all_rules IsRoute old.rules.items kept.each) is));
+          (all_routes IsRoute (take index old.rules.items ++ r ∷ drop index old.rules.items)
+          (all_put (λ q. IsRoute (route_of q)) old.rules.items index r (all_rules IsRoute old.rules.items kept.each) is));
       table = table makes;
       answers = λ ip. same makes ip ∙ kept.answers ip;
       grouped = (groups makes).grouped;
       plain = (groups makes).plain;
       needed = (groups makes).needed;
-      few = omega (arith, ap length rules, length_put old.rules.items place r, max, few);
+      few = omega (arith, ap length rules, length_put old.rules.items index r, max, few);
       most = omega (arith, max, kept.most);
       room = omega (arith, max, kept.room, room);
     };
     puts = record {
       changes = subst (λ rs. ChangesAt (routes_in old) (routes_of rs) r.prefix r.depth (Some (route_of r))) (sym rules) changes;
-      count = length-map new.rules.items route_of ∙ (ap length rules ∙ (length_put old.rules.items place r
+      count = length-map new.rules.items route_of ∙ (ap length rules ∙ (length_put old.rules.items index r
           ∙ (ap (λ n. n + 1) (sym (length-map old.rules.items route_of)) ∙ ap (λ o. length (routes_in old) + (if is_some o then 0 else 1)) (sym absent))));
       max_rules = max;
       groups = lengths makes;
@@ -94,15 +94,15 @@ grown old new place r kept is missing few rules room max makes = (
 )
   where
     absent : route_at (routes_in old) r.prefix r.depth ≡ None
-    absent = missing_at old.rules.items r.depth r.prefix place missing
+    absent = missing_at old.rules.items r.depth r.prefix index missing
 
-    changes : ChangesAt (routes_in old) (routes_of (take place old.rules.items ++ r ∷ drop place old.rules.items)) r.prefix r.depth (Some (route_of r))
-    changes = subst (ChangesAt (routes_in old) (routes_of (take place old.rules.items ++ r ∷ drop place old.rules.items)) r.prefix r.depth) (found_route r)
-        (splice_changes old.rules.items (take place old.rules.items ++ r ∷ drop place old.rules.items) r.prefix r.depth
-        (put_splice old.rules.items place r missing))
+    changes : ChangesAt (routes_in old) (routes_of (take index old.rules.items ++ r ∷ drop index old.rules.items)) r.prefix r.depth (Some (route_of r))
+    changes = subst (ChangesAt (routes_in old) (routes_of (take index old.rules.items ++ r ∷ drop index old.rules.items)) r.prefix r.depth) (found_route r)
+        (splice_changes old.rules.items (take index old.rules.items ++ r ∷ drop index old.rules.items) r.prefix r.depth
+        (put_splice old.rules.items index r missing))
 
     counted : (i : ℕ) → deep_count (routes_in new) i ≡ deep_count (routes_in old) i + one_if (is_deep_in i (route_of r))
-    counted i = ap (λ rs. deep_count (routes_of rs) i) rules ∙ put_count old.rules.items place i r missing
+    counted i = ap (λ rs. deep_count (routes_of rs) i) rules ∙ put_count old.rules.items index i r missing
 
     table : Makes r old.table new.table → IsTable new.table
     table (inl (shallow, e)) = subst IsTable (sym e) kept.table
@@ -144,7 +144,7 @@ grown old new place r kept is missing few rules room max makes = (
         ∙ ap (λ b. if b then Some GroupsFull else None) (fits makes)
 
 -- no group is left for a deep rule
-pub full : (s : Store) (t : Table) (r : Rule) → IsKept s → IsRoute (route_of r) → length s.rules.items < s.max_rules → 24 < r.depth →
+pub full : (s : RuledTable) (t : Table) (r : Rule) → IsKept s → IsRoute (route_of r) → length s.rules.items < s.max_rules → 24 < r.depth →
     IsFull (first_of (route_of r)) s.table t → new_fault (shown s) (route_of r) ≡ Some GroupsFull
 full s t r kept is few deep none =
     let first = first_of (route_of r) in

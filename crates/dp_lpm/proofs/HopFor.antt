@@ -37,16 +37,16 @@ hop_is routes ip (suc depth) =
     go (Some r) p = refl
 
 -- an entry that is the deepest route's tells the hop
-pub hop_told : (routes : List Route) (ip hop depth : ℕ) → Hop hop depth ≡ entry_of (deepest_within 32 routes ip) → hop_for routes ip ≡ Some hop
-hop_told routes ip hop depth is = hop_is routes ip 32 ∙ go (deepest_within 32 routes ip) is
+pub hop_answered : (routes : List Route) (ip hop depth : ℕ) → Hop hop depth ≡ entry_of (deepest_within 32 routes ip) → hop_for routes ip ≡ Some hop
+hop_answered routes ip hop depth is = hop_is routes ip 32 ∙ go (deepest_within 32 routes ip) is
   where
     go : (o : Option Route) → Hop hop depth ≡ entry_of o → option_map (λ r. r.hop) o ≡ Some hop
     go None e = cc
     go (Some r) e = cc
 
-pub none_told : (routes : List Route) (ip : ℕ) (e : Entry) → ((hop depth : ℕ) → e ≡ Hop hop depth → ⊥) → e ≡ entry_of (deepest_within 32 routes ip) →
+pub none_answered : (routes : List Route) (ip : ℕ) (e : Entry) → ((hop depth : ℕ) → e ≡ Hop hop depth → ⊥) → e ≡ entry_of (deepest_within 32 routes ip) →
     hop_for routes ip ≡ None
-none_told routes ip e other is = hop_is routes ip 32 ∙ go (deepest_within 32 routes ip) is
+none_answered routes ip e other is = hop_is routes ip 32 ∙ go (deepest_within 32 routes ip) is
   where
     go : (o : Option Route) → e ≡ entry_of o → option_map (λ r. r.hop) o ≡ None
     go None e = refl

@@ -1,3 +1,4 @@
+-- The lemma files.
 pub mod Adding
 pub mod Answering
 pub mod Blocks

@@ -11,7 +11,7 @@ use Rattle.dp_lpm.specs.declared.rule.Rule.{Rule}
 use Rattle.dp_lpm.specs.Routes.{prefix_of, is_at, route_at, deepest_within, IsRoute, AreOnce, IsTableOfRoutes}
 use Rattle.dp_lpm.specs.Rules.{rank, route_of, routes_of, IsOrdered}
 use Rattle.dp_lpm.proofs.Within.{within_zero, within_suc}
-use Rattle.dp_lpm.specs.declared.store.Store.{Store}
+use Rattle.dp_lpm.specs.declared.ruled_table.RuledTable.{RuledTable}
 use Rattle.dp_lpm.specs.Kept.{shown, IsKept}
 use Rattle.std.proofs.lemmas.List.{length-map}
 use Rattle.dp_lpm.proofs.Counting.{used_few}
@@ -127,13 +127,13 @@ looks_up routes ip all = subst (LooksUp routes ip) (sym (hop_is routes ip 32)) (
       refl,
     )
 
--- rules in their order are each of another place
+-- rules in their order are each of another index
 pub ordered_once : (rules : List Rule) → IsOrdered rules → AreOnce (routes_of rules)
 ordered_once [] ordered = tt
 ordered_once (r ∷ rules) ordered = (misses_none rules r.prefix r.depth (all_above rules (rank r.depth r.prefix) ordered.0), ordered_once rules ordered.1)
 
 -- what a caller may know of a table
-pub is_table : (s : Store) → IsKept s → IsTableOfRoutes (shown s)
+pub is_table : (s : RuledTable) → IsKept s → IsTableOfRoutes (shown s)
 is_table s kept = record {
   each = kept.each;
   once = ordered_once s.rules.items kept.order;

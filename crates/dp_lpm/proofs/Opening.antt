@@ -16,7 +16,7 @@ use Rattle.dp_lpm.proofs.Filling.{FilledUpTo}
 use Rattle.dp_lpm.proofs.Entries.{entry_grouped, entry_plain, entry_same}
 use Rattle.dp_lpm.proofs.Groups.{index_set_same, index_set_other}
 
--- what the first place is, from a place on
+-- what the first index is, from an index on
 first_zero : (xs : List ℕ) (i k : ℕ) → position_from (λ n. n == 0) i xs ≡ Some k → (i ≤ k) × (k < i + length xs) × (slice_index xs (k - i) ≡ 0)
 first_zero [] i k e = absurd cc
 first_zero (x ∷ xs) i k e = go (x == 0) refl e (first_zero xs (i + 1) k)
@@ -33,8 +33,8 @@ first_zero (x ∷ xs) i k e = go (x == 0) refl e (first_zero xs (i + 1) k)
         let next : k - i ≡ suc (k - (i + 1)) = omega (arith, after) in
         (omega (arith, after), omega (arith, before), ap (slice_index (x ∷ xs)) next ∙ zero_there)
 
-pub free_place : (xs : List ℕ) (k : ℕ) → position (λ n. n == 0) xs ≡ Some k → (k < length xs) × (slice_index xs k ≡ 0)
-free_place xs k e =
+pub free_index : (xs : List ℕ) (k : ℕ) → position (λ n. n == 0) xs ≡ Some k → (k < length xs) × (slice_index xs k ≡ 0)
+free_index xs k e =
     let (after, before, none) = first_zero xs 0 k (sym (position_from-zero (λ n. n == 0) xs) ∙ e) in
     let same : k - 0 ≡ k = omega arith in
     (omega (arith, before), ap (slice_index xs) (sym same) ∙ none)

@@ -1,11 +1,11 @@
--- Rules in their order, place by place.
+-- Rules in their order, index by index.
 use Rattle.std.proofs.Common.{◌≡◌, ◌≢◌, ℕ, zero, suc, ◌+◌, ◌<◌, ◌≤◌, List, [], ◌∷◌, length, take, drop, ap, arith, ⊎_elim}
 use Rattle.std.specs.List.{AllByRecursion}
 use Rattle.std.proofs.lemmas.Bool.{cases_eq}
 use Rattle.dp_lpm.specs.declared.rule.Rule.{Rule}
 use Rattle.dp_lpm.specs.Rules.{rank, rank_of, rule_at, IsOrdered, IsLowerBound, IsFound, IsMissing}
 
--- what holds at each place holds of the list
+-- what holds at each index holds of the list
 all_here : (P : Rule → Type 0) (rules : List Rule) → ((k : ℕ) → k < length rules → P (rule_at rules k)) → AllByRecursion P rules
 all_here P [] each = tt
 all_here P (r ∷ rules) each = (each 0 (omega arith), all_here P rules (λ k lt. each (suc k) (omega (arith, lt))))
@@ -36,74 +36,47 @@ rises (r ∷ rules) zero (suc j) ordered lt there = all_at (λ q. rank_of r < ra
 rises (r ∷ rules) (suc i) zero ordered lt there = absurd (omega (arith, lt))
 rises (r ∷ rules) (suc i) (suc j) ordered lt there = rises rules i j ordered.1 (omega (arith, lt)) (omega (arith, there))
 
--- the rules before low are below the rank, and those from high on are not
-pub record IsBetween (rules : List Rule) (key low high : ℕ) : Type 0 where
-  pub order : low ≤ high
-  pub bound : high ≤ length rules
-  pub below : (k : ℕ) → k < low → rank_of (rule_at rules k) < key
-  pub above : (k : ℕ) → high ≤ k → k < length rules → key ≤ rank_of (rule_at rules k)
-
--- a rule between is below, so are those before it; it is not, nor are those behind it
-pub between_above : (rules : List Rule) (key low high middle : ℕ) → IsOrdered rules → IsBetween rules key low high → middle < high →
-    rank_of (rule_at rules middle) < key → IsBetween rules key (middle + 1) high
-between_above rules key low high middle ordered b lt is = record {
-  order = omega (arith, lt);
-  bound = b.bound;
-  below = λ k before. ⊎_elim
-      (λ (e : k ≡ middle). let same : rank_of (rule_at rules k) ≡ rank_of (rule_at rules middle) = ap (λ n. rank_of (rule_at rules n)) e in
-      omega (arith, same, is))
-      (λ (other : k ≢ middle). omega (arith, is, rises rules k middle ordered (omega (arith, before, other)) (omega (arith, lt, b.bound))))
-      (cases_eq k middle);
-  above = b.above;
-}
-
-pub between_below : (rules : List Rule) (key low high middle : ℕ) → IsOrdered rules → IsBetween rules key low high → low ≤ middle → middle < high →
-    key ≤ rank_of (rule_at rules middle) → IsBetween rules key low middle
-between_below rules key low high middle ordered b le lt is = record {
-  order = le;
-  bound = omega (arith, lt, b.bound);
-  below = b.below;
-  above = λ k behind there. ⊎_elim
-      (λ (e : k ≡ middle). let same : rank_of (rule_at rules k) ≡ rank_of (rule_at rules middle) = ap (λ n. rank_of (rule_at rules n)) e in
-      omega (arith, same, is))
-      (λ (other : k ≢ middle). omega (arith, is, rises rules middle k ordered (omega (arith, behind, other)) there))
-      (cases_eq k middle);
-}
+-- a rule further on is no lower
+pub never_falls : (rules : List Rule) → IsOrdered rules → (i j : ℕ) → i ≤ j → j < length rules → rank_of (rule_at rules i) ≤ rank_of (rule_at rules j)
+never_falls rules ordered i j le there = ⊎_elim
+    (λ (e : i ≡ j). let same : rank_of (rule_at rules i) ≡ rank_of (rule_at rules j) = ap (λ n. rank_of (rule_at rules n)) e in omega (arith, same))
+    (λ (other : i ≢ j). omega (arith, rises rules i j ordered (omega (arith, le, other)) there))
+    (cases_eq i j)
 
 -- ---- what a search finds
 
-pub found_parts : (rules : List Rule) (depth prefix place : ℕ) → IsOrdered rules → IsLowerBound rules (rank depth prefix) place → place < length rules →
-    (rule_at rules place).depth ≡ depth → (rule_at rules place).prefix ≡ prefix → IsFound rules depth prefix place
-found_parts rules depth prefix place ordered lower there is_depth is_prefix =
-    let key : rank_of (rule_at rules place) ≡ rank depth prefix = omega (arith, is_depth, is_prefix) in
+pub found_parts : (rules : List Rule) (depth prefix index : ℕ) → IsOrdered rules → IsLowerBound rules (rank depth prefix) index → index < length rules →
+    (rule_at rules index).depth ≡ depth → (rule_at rules index).prefix ≡ prefix → IsFound rules depth prefix index
+found_parts rules depth prefix index ordered lower there is_depth is_prefix =
+    let key : rank_of (rule_at rules index) ≡ rank depth prefix = omega (arith, is_depth, is_prefix) in
     record {
       there = there;
       depth_is = is_depth;
       prefix_is = is_prefix;
       parts = record {
-        lower = all_front (λ r. rank_of r < rank depth prefix) rules place (λ k lt here. lower.below k lt);
-        upper = all_back (λ r. rank depth prefix < rank_of r) rules (suc place)
-            (λ k le here. omega (arith, key, rises rules place k ordered (omega (arith, le)) here));
+        lower = all_front (λ r. rank_of r < rank depth prefix) rules index (λ k lt here. lower.below k lt);
+        upper = all_back (λ r. rank depth prefix < rank_of r) rules (suc index)
+            (λ k le here. omega (arith, key, rises rules index k ordered (omega (arith, le)) here));
       };
     }
 
-pub missing_parts : (rules : List Rule) (depth prefix place : ℕ) → IsOrdered rules → IsLowerBound rules (rank depth prefix) place →
-    (place < length rules → rank_of (rule_at rules place) ≢ rank depth prefix) → IsMissing rules depth prefix place
-missing_parts rules depth prefix place ordered lower other = record {
+pub missing_parts : (rules : List Rule) (depth prefix index : ℕ) → IsOrdered rules → IsLowerBound rules (rank depth prefix) index →
+    (index < length rules → rank_of (rule_at rules index) ≢ rank depth prefix) → IsMissing rules depth prefix index
+missing_parts rules depth prefix index ordered lower other = record {
   bound = lower.bound;
   parts = record {
-    lower = all_front (λ r. rank_of r < rank depth prefix) rules place (λ k lt here. lower.below k lt);
-    upper = all_back (λ r. rank depth prefix < rank_of r) rules place (λ k le here. above k le here);
+    lower = all_front (λ r. rank_of r < rank depth prefix) rules index (λ k lt here. lower.below k lt);
+    upper = all_back (λ r. rank depth prefix < rank_of r) rules index (λ k le here. above k le here);
   };
 }
   where
-    above : (k : ℕ) → place ≤ k → k < length rules → rank depth prefix < rank_of (rule_at rules k)
+    above : (k : ℕ) → index ≤ k → k < length rules → rank depth prefix < rank_of (rule_at rules k)
     above k le here = ⊎_elim
-        (λ (e : k ≡ place). let same : rank_of (rule_at rules k) ≡ rank_of (rule_at rules place) = ap (λ n. rank_of (rule_at rules n)) e in
+        (λ (e : k ≡ index). let same : rank_of (rule_at rules k) ≡ rank_of (rule_at rules index) = ap (λ n. rank_of (rule_at rules n)) e in
         omega (arith, same, lower.above k le here, other (omega (arith, e, here))))
-        (λ (behind : k ≢ place). omega (
+        (λ (behind : k ≢ index). omega (
           arith,
-          lower.above place (omega arith) (omega (arith, le, here)),
-          rises rules place k ordered (omega (arith, le, behind)) here,
+          lower.above index (omega arith) (omega (arith, le, here)),
+          rises rules index k ordered (omega (arith, le, behind)) here,
         ))
-        (cases_eq k place)
+        (cases_eq k index)

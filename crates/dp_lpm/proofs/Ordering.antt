@@ -8,59 +8,59 @@ use Rattle.dp_lpm.specs.Rules.{rank_of, rule_at, route_of, routes_of, IsOrdered,
 use Rattle.dp_lpm.proofs.Order.{all_at}
 
 -- what all elements have, and one more
-pub all_put : (P : Rule → Type 0) (rules : List Rule) (place : ℕ) (r : Rule) → AllByRecursion P rules → P r →
-    AllByRecursion P (take place rules ++ r ∷ drop place rules)
+pub all_put : (P : Rule → Type 0) (rules : List Rule) (index : ℕ) (r : Rule) → AllByRecursion P rules → P r →
+    AllByRecursion P (take index rules ++ r ∷ drop index rules)
 all_put P rules zero r all one = (one, all)
-all_put P [] (suc place) r all one = (one, tt)
-all_put P (x ∷ rules) (suc place) r all one = (all.0, all_put P rules place r all.1 one)
+all_put P [] (suc index) r all one = (one, tt)
+all_put P (x ∷ rules) (suc index) r all one = (all.0, all_put P rules index r all.1 one)
 
-pub all_set : (P : Rule → Type 0) (rules : List Rule) (place : ℕ) (r : Rule) → AllByRecursion P rules → P r → AllByRecursion P (slice_set rules place r)
-all_set P [] place r all one = tt
+pub all_set : (P : Rule → Type 0) (rules : List Rule) (index : ℕ) (r : Rule) → AllByRecursion P rules → P r → AllByRecursion P (slice_set rules index r)
+all_set P [] index r all one = tt
 all_set P (x ∷ rules) zero r all one = (one, all.1)
-all_set P (x ∷ rules) (suc place) r all one = (all.0, all_set P rules place r all.1 one)
+all_set P (x ∷ rules) (suc index) r all one = (all.0, all_set P rules index r all.1 one)
 
-pub all_remove : (P : Rule → Type 0) (rules : List Rule) (place : ℕ) → AllByRecursion P rules → AllByRecursion P (take place rules ++ drop (suc place) rules)
+pub all_remove : (P : Rule → Type 0) (rules : List Rule) (index : ℕ) → AllByRecursion P rules → AllByRecursion P (take index rules ++ drop (suc index) rules)
 all_remove P [] zero all = tt
-all_remove P [] (suc place) all = tt
+all_remove P [] (suc index) all = tt
 all_remove P (x ∷ rules) zero all = all.1
-all_remove P (x ∷ rules) (suc place) all = (all.0, all_remove P rules place all.1)
+all_remove P (x ∷ rules) (suc index) all = (all.0, all_remove P rules index all.1)
 
-pub ordered_put : (rules : List Rule) (place : ℕ) (r : Rule) → IsOrdered rules → Parts (take place rules) (drop place rules) (rank_of r) →
-    IsOrdered (take place rules ++ r ∷ drop place rules)
+pub ordered_put : (rules : List Rule) (index : ℕ) (r : Rule) → IsOrdered rules → Parts (take index rules) (drop index rules) (rank_of r) →
+    IsOrdered (take index rules ++ r ∷ drop index rules)
 ordered_put rules zero r ordered parts = (parts.upper, ordered)
-ordered_put [] (suc place) r ordered parts = (tt, tt)
-ordered_put (x ∷ rules) (suc place) r ordered parts = (
-  all_put (λ q. rank_of x < rank_of q) rules place r ordered.0 parts.lower.0,
-  ordered_put rules place r ordered.1 (record { lower = parts.lower.1; upper = parts.upper }),
+ordered_put [] (suc index) r ordered parts = (tt, tt)
+ordered_put (x ∷ rules) (suc index) r ordered parts = (
+  all_put (λ q. rank_of x < rank_of q) rules index r ordered.0 parts.lower.0,
+  ordered_put rules index r ordered.1 (record { lower = parts.lower.1; upper = parts.upper }),
 )
 
-pub ordered_set : (rules : List Rule) (place : ℕ) (r : Rule) → IsOrdered rules → place < length rules → rank_of (rule_at rules place) ≡ rank_of r →
-    IsOrdered (slice_set rules place r)
-ordered_set [] place r ordered there same = tt
+pub ordered_set : (rules : List Rule) (index : ℕ) (r : Rule) → IsOrdered rules → index < length rules → rank_of (rule_at rules index) ≡ rank_of r →
+    IsOrdered (slice_set rules index r)
+ordered_set [] index r ordered there same = tt
 ordered_set (x ∷ rules) zero r ordered there same = (subst (λ n. AllByRecursion (λ q. n < rank_of q) rules) same ordered.0, ordered.1)
-ordered_set (x ∷ rules) (suc place) r ordered there same = (
-  all_set (λ q. rank_of x < rank_of q) rules place r ordered.0 (subst
-      (λ n. rank_of x < n) same (all_at (λ q. rank_of x < rank_of q) rules place ordered.0 (omega (arith, there)))),
-  ordered_set rules place r ordered.1 (omega (arith, there)) same,
+ordered_set (x ∷ rules) (suc index) r ordered there same = (
+  all_set (λ q. rank_of x < rank_of q) rules index r ordered.0 (subst
+      (λ n. rank_of x < n) same (all_at (λ q. rank_of x < rank_of q) rules index ordered.0 (omega (arith, there)))),
+  ordered_set rules index r ordered.1 (omega (arith, there)) same,
 )
 
-pub ordered_remove : (rules : List Rule) (place : ℕ) → IsOrdered rules → IsOrdered (take place rules ++ drop (suc place) rules)
+pub ordered_remove : (rules : List Rule) (index : ℕ) → IsOrdered rules → IsOrdered (take index rules ++ drop (suc index) rules)
 ordered_remove [] zero ordered = tt
-ordered_remove [] (suc place) ordered = tt
+ordered_remove [] (suc index) ordered = tt
 ordered_remove (x ∷ rules) zero ordered = ordered.1
-ordered_remove (x ∷ rules) (suc place) ordered = (all_remove (λ q. rank_of x < rank_of q) rules place ordered.0, ordered_remove rules place ordered.1)
+ordered_remove (x ∷ rules) (suc index) ordered = (all_remove (λ q. rank_of x < rank_of q) rules index ordered.0, ordered_remove rules index ordered.1)
 
 -- ---- how many
 
-pub length_put : (rules : List Rule) (place : ℕ) (r : Rule) → length (take place rules ++ r ∷ drop place rules) ≡ length rules + 1
+pub length_put : (rules : List Rule) (index : ℕ) (r : Rule) → length (take index rules ++ r ∷ drop index rules) ≡ length rules + 1
 length_put rules zero r = omega arith
-length_put [] (suc place) r = omega arith
-length_put (x ∷ rules) (suc place) r = omega (arith, length_put rules place r)
+length_put [] (suc index) r = omega arith
+length_put (x ∷ rules) (suc index) r = omega (arith, length_put rules index r)
 
-pub length_remove : (rules : List Rule) (place : ℕ) → place < length rules → length (take place rules ++ drop (suc place) rules) + 1 ≡ length rules
-length_remove [] place there = absurd (omega (arith, there))
+pub length_remove : (rules : List Rule) (index : ℕ) → index < length rules → length (take index rules ++ drop (suc index) rules) + 1 ≡ length rules
+length_remove [] index there = absurd (omega (arith, there))
 length_remove (x ∷ rules) zero there = omega arith
-length_remove (x ∷ rules) (suc place) there = omega (arith, length_remove rules place (omega (arith, there)))
+length_remove (x ∷ rules) (suc index) there = omega (arith, length_remove rules index (omega (arith, there)))
 
 -- ---- of rules, and of the routes that they are
 

@@ -1,4 +1,4 @@
--- A rule has been taken out where those behind it went one place down and the last place was let go.
+-- A rule has been taken out where those behind it went one index down and the last index was let go.
 use Rattle.std.proofs.Common.{◌≡◌, ℕ, suc, ◌+◌, ◌-◌, ◌<◌, List, ◌++◌, length, take, drop, sym, ◌∙◌, ap, arith, take_all, append_assoc, length-take}
 use Rattle.std.proofs.lemmas.List.{take-append-le, take-append-drop, take_at, drop_at, length-take-le, length-append, length-drop, drop-drop, drop-take}
 use Rattle.std.proofs.lemmas.Slice.{between_to_end}
@@ -6,35 +6,35 @@ use Rattle.std.proofs.Math.Seq.{paste, take-paste, drop-paste, take-add, take-ap
 use borrow.Rule.Slice.PartMut.{put_mid, mid_of, post_of}
 use Rattle.dp_lpm.specs.declared.rule.Rule.{Rule}
 
--- those from a place on
-from_place : (place : ℕ) (rules : List Rule) → mid_of place (length rules - place) rules ≡ drop place rules
-from_place place rules = between_to_end rules place (length rules) (omega arith)
+-- those from an index on
+from_index : (index : ℕ) (rules : List Rule) → mid_of index (length rules - index) rules ≡ drop index rules
+from_index index rules = between_to_end rules index (length rules) (omega arith)
 
-part_length : (place : ℕ) (rules part : List Rule) → place < length rules → length part ≡ length (mid_of place (length rules - place) rules) →
-    length part ≡ length rules - place
-part_length place rules part there size = size ∙ (ap length (from_place place rules) ∙ length-drop place rules)
+part_length : (index : ℕ) (rules part : List Rule) → index < length rules → length part ≡ length (mid_of index (length rules - index) rules) →
+    length part ≡ length rules - index
+part_length index rules part there size = size ∙ (ap length (from_index index rules) ∙ length-drop index rules)
 
--- the rules in front, and what stands from the place on now, but for the last
-pub left_out : (place : ℕ) (rules part : List Rule) → place < length rules → length part ≡ length (mid_of place (length rules - place) rules)
-    → take (length (mid_of place (length rules - place) rules) - 1) part ≡ drop 1 (mid_of place (length rules - place) rules)
-    → take (length rules - 1) (put_mid place (length rules - place) rules part) ≡ take place rules ++ drop (suc place) rules
-left_out place rules part there size moved =
-    let k = length rules - place in
-    let long = part_length place rules part there size in
-    let front : length (take place rules) ≡ place = length-take-le place rules (omega (arith, there)) in
-    let n : length rules - 1 ≡ length (take place rules) + (length part - 1) = omega (arith, there, long, front) in
-    let one : place + 1 ≡ suc place = omega arith in
-    let same : length part - 1 ≡ length (mid_of place k rules) - 1 = omega (arith, size) in
-    ap (λ i. take i (put_mid place k rules part)) n
-    ∙ (take-append-add (take place rules) (part ++ post_of place k rules) (length part - 1)
-    ∙ (ap (λ l. take place rules ++ l) (take-append-le (length part - 1) part (post_of place k rules) (omega arith))
-    ∙ (ap (λ i. take place rules ++ take i part) same
-    ∙ (ap (λ l. take place rules ++ l) (moved ∙ ap (drop 1) (from_place place rules))
-    ∙ ap (λ l. take place rules ++ l) (drop-drop 1 place rules ∙ ap (λ i. drop i rules) one)))))
+-- the rules in front, and what stands from the index on now, but for the last
+pub left_out : (index : ℕ) (rules part : List Rule) → index < length rules → length part ≡ length (mid_of index (length rules - index) rules)
+    → take (length (mid_of index (length rules - index) rules) - 1) part ≡ drop 1 (mid_of index (length rules - index) rules)
+    → take (length rules - 1) (put_mid index (length rules - index) rules part) ≡ take index rules ++ drop (suc index) rules
+left_out index rules part there size moved =
+    let k = length rules - index in
+    let long = part_length index rules part there size in
+    let front : length (take index rules) ≡ index = length-take-le index rules (omega (arith, there)) in
+    let n : length rules - 1 ≡ length (take index rules) + (length part - 1) = omega (arith, there, long, front) in
+    let one : index + 1 ≡ suc index = omega arith in
+    let same : length part - 1 ≡ length (mid_of index k rules) - 1 = omega (arith, size) in
+    ap (λ i. take i (put_mid index k rules part)) n
+    ∙ (take-append-add (take index rules) (part ++ post_of index k rules) (length part - 1)
+    ∙ (ap (λ l. take index rules ++ l) (take-append-le (length part - 1) part (post_of index k rules) (omega arith))
+    ∙ (ap (λ i. take index rules ++ take i part) same
+    ∙ (ap (λ l. take index rules ++ l) (moved ∙ ap (drop 1) (from_index index rules))
+    ∙ ap (λ l. take index rules ++ l) (drop-drop 1 index rules ∙ ap (λ i. drop i rules) one)))))
 
 -- ---- part by part
 
--- so many went one place down, and the others are as they were
+-- so many went one index down, and the others are as they were
 pub record GoneDown (old : List Rule) (at : ℕ) (rules : List Rule) : Type 0 where
   pub within : at < length old
   pub is : rules ≡ take at (drop 1 old) ++ drop at old

@@ -1,4 +1,4 @@
--- Entries that become another one, place by place.
+-- Entries that become another one, index by index.
 use Rattle.std.proofs.Common.{◌≡◌, ◌≢◌, ℕ, ◌+◌, ◌/◌, ◌%◌, ◌<◌, ◌≤◌, Bool, true, false, List, length, refl, sym, ◌∙◌, ap, subst, arith, ⊎_elim}
 use Rattle.std.specs.Prelude.{◌==◌, nat_lt, slice_set, slice_index_or, if◌then◌else◌}
 use Rattle.std.proofs.lemmas.Bool.{eqb-true, ltb-false, le-leb, lt-leb, cases_eq}
@@ -8,7 +8,7 @@ use Rattle.dp_lpm.specs.declared.cell.Entry.{Entry}
 use Rattle.dp_lpm.specs.declared.cell.Entry.TheVariants.{Empty, Hop, Group}
 use Rattle.dp_lpm.specs.Cells.{at, settled, depth_of, entry_in}
 
--- those from one place up to k are settled, and the others stay
+-- those from one index up to k are settled, and the others stay
 pub record SettledUpTo (from k depth : ℕ) (to : Entry) (old new : List Cell) : Type 0 where
   pub inside : (i : ℕ) → from ≤ i → i < k → at new i ≡ settled depth to (at old i)
   pub below : (i : ℕ) → i < from → at new i ≡ at old i

@@ -51,16 +51,16 @@ settled_group old new first low count depth g to table fits leaf named firsts co
     others : (i h j : ℕ) → group_at old i ≡ Some h → j < 256 → (i ≡ first → (j < low) ⊎ (low + count ≤ j)) → at new.cells.items (h * 256 + j)
         ≡ at old.cells.items (h * 256 + j)
     others i h j is lt outside = ⊎_elim
-        (λ (e : h ≡ g). place e (outside (table.apart i first g (is ∙ ap Some e) named)))
+        (λ (e : h ≡ g). index e (outside (table.apart i first g (is ∙ ap Some e) named)))
         (λ (e : h ≢ g). ⊎_elim
         (λ (under : h < g). so.below (h * 256 + j) (omega (arith, under, lt)))
         (λ (over : g ≤ h). so.above (h * 256 + j) (omega (arith, over, e, fits)))
         (cases_lt h g))
         (cases_eq h g)
       where
-        place : h ≡ g → (j < low) ⊎ (low + count ≤ j) → at new.cells.items (h * 256 + j) ≡ at old.cells.items (h * 256 + j)
-        place e (inl under) = so.below (h * 256 + j) (omega (arith, e, under))
-        place e (inr over) = so.above (h * 256 + j) (omega (arith, e, over))
+        index : h ≡ g → (j < low) ⊎ (low + count ≤ j) → at new.cells.items (h * 256 + j) ≡ at old.cells.items (h * 256 + j)
+        index e (inl under) = so.below (h * 256 + j) (omega (arith, e, under))
+        index e (inr over) = so.above (h * 256 + j) (omega (arith, e, over))
 
 -- the prefix has none: its one entry settles
 pub settled_plain : (old new : Table) (first depth : ℕ) (to : Entry) → IsTable old → depth ≤ 32 → group_in to ≡ None → group_at old first ≡ None →

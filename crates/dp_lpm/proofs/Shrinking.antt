@@ -5,7 +5,7 @@ use Rattle.std.specs.List.{AllByRecursion}
 use Rattle.std.proofs.lemmas.List.{length-map}
 use Rattle.dp_model.specs.Prefixes.{Route}
 use Rattle.dp_lpm.specs.declared.rule.Rule.{Rule}
-use Rattle.dp_lpm.specs.declared.store.Store.{Store}
+use Rattle.dp_lpm.specs.declared.ruled_table.RuledTable.{RuledTable}
 use Rattle.dp_lpm.specs.Cells.{at}
 use Rattle.dp_lpm.specs.Routes.{IsRoute, Drops, ChangesAt, is_deep_in}
 use Rattle.dp_lpm.specs.Rules.{rule_at, route_of, routes_of, IsOrdered, IsFound, entry_of}
@@ -19,35 +19,35 @@ use Rattle.dp_lpm.proofs.Growing.{deep_yes, deep_other, deep_no}
 use Rattle.dp_lpm.proofs.Entries.{either_group, entry_grouped}
 use Rattle.dp_lpm.proofs.Blocks.{same_block}
 
-module _ (old : Store) (place prefix depth : ℕ) (found : IsFound old.rules.items depth prefix place) where
+module _ (old : RuledTable) (index prefix depth : ℕ) (found : IsFound old.rules.items depth prefix index) where
   abbrev pub left : List Rule
-  left = take place old.rules.items ++ drop (suc place) old.rules.items
+  left = take index old.rules.items ++ drop (suc index) old.rules.items
 
-  -- the routes change at the place of the rule alone
+  -- the routes change at the index of the rule alone
   pub removed_changes : ChangesAt (routes_in old) (routes_of left) prefix depth None
-  removed_changes = splice_changes old.rules.items left prefix depth (remove_splice old.rules.items place prefix depth found)
+  removed_changes = splice_changes old.rules.items left prefix depth (remove_splice old.rules.items index prefix depth found)
 
-  pub removed_count : (i : ℕ) → deep_count (routes_of left) i + one_if (is_deep_in i (route_of (rule_at old.rules.items place))) ≡ deep_count (routes_in old) i
-  removed_count i = omega (arith, spliced_count old.rules.items left prefix depth i (remove_splice old.rules.items place prefix depth found))
+  pub removed_count : (i : ℕ) → deep_count (routes_of left) i + one_if (is_deep_in i (route_of (rule_at old.rules.items index))) ≡ deep_count (routes_in old) i
+  removed_count i = omega (arith, spliced_count old.rules.items left prefix depth i (remove_splice old.rules.items index prefix depth found))
 
   -- the rule is out, and the entries are as before
-  pub removed : (new : Store) → IsKept old → new.rules.items ≡ left → vec_capacity new.rules ≡ vec_capacity old.rules → new.max_rules ≡ old.max_rules →
+  pub removed : (new : RuledTable) → IsKept old → new.rules.items ≡ left → vec_capacity new.rules ≡ vec_capacity old.rules → new.max_rules ≡ old.max_rules →
       new.table ≡ old.table → Keeps (routes_in old) (routes_in old) new
   removed new kept rules room max table = record {
-    order = subst IsOrdered (sym rules) (ordered_remove old.rules.items place kept.order);
+    order = subst IsOrdered (sym rules) (ordered_remove old.rules.items index kept.order);
     each = subst (λ rs. AllByRecursion IsRoute (routes_of rs)) (sym rules)
-        (all_routes IsRoute left (all_remove (λ q. IsRoute (route_of q)) old.rules.items place (all_rules IsRoute old.rules.items kept.each)));
+        (all_routes IsRoute left (all_remove (λ q. IsRoute (route_of q)) old.rules.items index (all_rules IsRoute old.rules.items kept.each)));
     table = subst IsTable (sym table) kept.table;
     answers = λ ip. ap (λ t. entry_for t ip) table ∙ kept.answers ip;
     grouped = subst (λ t. (i g : ℕ) → group_at t i ≡ Some g → slice_index t.counts.items g ≡ deep_count (routes_in old) i) (sym table) kept.grouped;
     plain = subst (λ t. (i : ℕ) → group_at t i ≡ None → deep_count (routes_in old) i ≡ 0) (sym table) kept.plain;
     needed = ap (λ t. used_count t.counts.items) table ∙ kept.needed;
-    few = omega (arith, ap length rules, length_remove old.rules.items place found.there, max, kept.few);
+    few = omega (arith, ap length rules, length_remove old.rules.items index found.there, max, kept.few);
     most = omega (arith, max, kept.most);
     room = omega (arith, max, kept.room, room);
   }
 
-  pub dropped : (new : Store) → new.rules.items ≡ left → new.max_rules ≡ old.max_rules → length new.table.counts.items ≡ length old.table.counts.items →
+  pub dropped : (new : RuledTable) → new.rules.items ≡ left → new.max_rules ≡ old.max_rules → length new.table.counts.items ≡ length old.table.counts.items →
       Drops (shown old) (shown new) prefix depth
   dropped new rules max groups = record {
     changes = subst (λ rs. ChangesAt (routes_in old) (routes_of rs) prefix depth None) (sym rules) removed_changes;
@@ -55,7 +55,7 @@ module _ (old : Store) (place prefix depth : ℕ) (found : IsFound old.rules.ite
       arith,
       length-map new.rules.items route_of,
       ap length rules,
-      length_remove old.rules.items place found.there,
+      length_remove old.rules.items index found.there,
       length-map old.rules.items route_of,
     );
     max_rules = max;
@@ -65,27 +65,27 @@ module _ (old : Store) (place prefix depth : ℕ) (found : IsFound old.rules.ite
   -- the deep routes of first bits
   pub left_shallow : (i : ℕ) → depth ≤ 24 → deep_count (routes_of left) i ≡ deep_count (routes_in old) i
   left_shallow i shallow =
-      let no = deep_no (route_of (rule_at old.rules.items place)) i (omega (arith, found.depth_is, shallow)) in
+      let no = deep_no (route_of (rule_at old.rules.items index)) i (omega (arith, found.depth_is, shallow)) in
       omega (arith, removed_count i, no)
 
-  first_is : 24 < depth → first_of (route_of (rule_at old.rules.items place)) ≡ prefix / 2 ^ (depth - 24)
-  first_is deep = ap (λ d. (rule_at old.rules.items place).prefix / 2 ^ (d - 24)) found.depth_is ∙ ap (λ p. p / 2 ^ (depth - 24)) found.prefix_is
+  first_is : 24 < depth → first_of (route_of (rule_at old.rules.items index)) ≡ prefix / 2 ^ (depth - 24)
+  first_is deep = ap (λ d. (rule_at old.rules.items index).prefix / 2 ^ (d - 24)) found.depth_is ∙ ap (λ p. p / 2 ^ (depth - 24)) found.prefix_is
 
   pub left_here : (first : ℕ) → 24 < depth → prefix / 2 ^ (depth - 24) ≡ first → deep_count (routes_in old) first ≡ deep_count (routes_of left) first + 1
   left_here first deep is =
       let same = first_is deep ∙ is in
-      let one : one_if (is_deep_in first (route_of (rule_at old.rules.items place))) ≡ 1 =
-      ap (λ i. one_if (is_deep_in i (route_of (rule_at old.rules.items place)))) (sym same)
-      ∙ deep_yes (route_of (rule_at old.rules.items place)) (omega (arith, found.depth_is, deep)) in
+      let one : one_if (is_deep_in first (route_of (rule_at old.rules.items index))) ≡ 1 =
+      ap (λ i. one_if (is_deep_in i (route_of (rule_at old.rules.items index)))) (sym same)
+      ∙ deep_yes (route_of (rule_at old.rules.items index)) (omega (arith, found.depth_is, deep)) in
       omega (arith, removed_count first, one)
 
   pub left_others : (first i : ℕ) → 24 < depth → prefix / 2 ^ (depth - 24) ≡ first → i ≢ first → deep_count (routes_of left) i ≡ deep_count (routes_in old) i
   left_others first i deep is other =
-      let no = deep_other (route_of (rule_at old.rules.items place)) i (omega (arith, found.depth_is, deep)) (λ e. other (e ∙ (first_is deep ∙ is))) in
+      let no = deep_other (route_of (rule_at old.rules.items index)) i (omega (arith, found.depth_is, deep)) (λ e. other (e ∙ (first_is deep ∙ is))) in
       omega (arith, removed_count i, no)
 
 -- the groups may be closed: if the last deep route of first bits went, their entries are all the same
-pub can_close : (s : Store) (counted : List Route) (first : ℕ) → Keeps (routes_in s) counted s → deep_count counted first
+pub can_close : (s : RuledTable) (counted : List Route) (first : ℕ) → Keeps (routes_in s) counted s → deep_count counted first
     ≡ deep_count (routes_in s) first + 1 → CanClose first s.table
 can_close s counted first kept more = either_group (group_at s.table first)
     (λ none. absurd (omega (arith, kept.plain first none, more)))
@@ -110,7 +110,7 @@ can_close s counted first kept more = either_group (group_at s.table first)
     })
 
 -- closed, the groups are those of the routes that are left
-pub closed_keeps : (s new : Store) (counted : List Route) (first : ℕ) → Keeps (routes_in s) counted s → deep_count counted first
+pub closed_keeps : (s new : RuledTable) (counted : List Route) (first : ℕ) → Keeps (routes_in s) counted s → deep_count counted first
     ≡ deep_count (routes_in s) first + 1 → ((i : ℕ) → i ≢ first → deep_count (routes_in s) i ≡ deep_count counted i) → first < 16777216 →
     Closed first s.table new.table → new.rules ≡ s.rules → new.max_rules ≡ s.max_rules → IsKept new
 closed_keeps s new counted first kept more others small closed rules max =
@@ -131,7 +131,7 @@ closed_keeps s new counted first kept more others small closed rules max =
     subst (λ v. Keeps (routes_of v.items) (routes_of v.items) (record new { rules = v })) (sym rules) all
 
 -- where no deep route went, the groups are as they were
-pub shallow_keeps : (s : Store) (counted : List Route) → Keeps (routes_in s) counted s → ((i : ℕ) → deep_count (routes_in s) i ≡ deep_count counted i) →
+pub shallow_keeps : (s : RuledTable) (counted : List Route) → Keeps (routes_in s) counted s → ((i : ℕ) → deep_count (routes_in s) i ≡ deep_count counted i) →
     IsKept s
 shallow_keeps s counted kept same =
     let groups = grouped_same s.table counted (routes_in s) (record { grouped = kept.grouped; plain = kept.plain; needed = kept.needed }) same in

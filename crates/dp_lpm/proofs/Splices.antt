@@ -46,7 +46,7 @@ misses_none [] prefix depth misses = refl
 misses_none (r ∷ rules) prefix depth misses =
     ap (λ b. cond b (Some (route_of r)) (route_at (routes_of rules) prefix depth)) (not_at r prefix depth misses.0) ∙ misses_none rules prefix depth misses.1
 
--- rules of one place are of no other
+-- rules of one index are of no other
 others_none : (rules : List Rule) (prefix depth p d : ℕ) → AreAt prefix depth rules → ((d == depth) && (p == prefix)) ≡ false → route_at (routes_of rules) p d
     ≡ None
 others_none [] prefix depth p d there other = refl
@@ -74,7 +74,7 @@ or_none : {X : Type 0} (o : Option X) → option_or o None ≡ o
 or_none None = refl
 or_none (Some x) = refl
 
--- where the lists in front and behind have no rule of the place, the one between has it
+-- where the lists in front and behind have no rule of the index, the one between has it
 pub here_at : (first middle last : List Rule) (prefix depth : ℕ) → Misses (rank depth prefix) first → Misses (rank depth prefix) last →
     route_at (routes_of (first ++ (middle ++ last))) prefix depth ≡ route_at (routes_of middle) prefix depth
 here_at first middle last prefix depth front behind =
@@ -84,7 +84,7 @@ here_at first middle last prefix depth front behind =
     ∙ (ap (option_or (route_at (routes_of middle) prefix depth)) (misses_none last prefix depth behind)
     ∙ or_none (route_at (routes_of middle) prefix depth)))
 
--- a splice changes the routes at its place
+-- a splice changes the routes at its index
 pub splice_changes : (old new : List Rule) (prefix depth : ℕ) (s : Splice old new prefix depth) →
     ChangesAt (routes_of old) (routes_of new) prefix depth (route_at (routes_of s.into) prefix depth)
 splice_changes old new prefix depth s = record {
@@ -107,58 +107,58 @@ pub all_above : (rules : List Rule) (key : ℕ) → AllByRecursion (λ r. key < 
 all_above [] key all = tt
 all_above (r ∷ rules) key all = ((λ e. absurd (omega (arith, e, all.0))), all_above rules key all.1)
 
--- the list in front of a place, the rule there, and the list behind
-pub at_place : (rules : List Rule) (place : ℕ) → place < length rules → rules ≡ take place rules ++ (rule_at rules place ∷ drop (suc place) rules)
-at_place [] place there = absurd (omega (arith, there))
-at_place (r ∷ rules) zero there = refl
-at_place (r ∷ rules) (suc place) there = ap (λ rs. r ∷ rs) (at_place rules place (omega (arith, there)))
+-- the list in front of an index, the rule there, and the list behind
+pub at_index : (rules : List Rule) (index : ℕ) → index < length rules → rules ≡ take index rules ++ (rule_at rules index ∷ drop (suc index) rules)
+at_index [] index there = absurd (omega (arith, there))
+at_index (r ∷ rules) zero there = refl
+at_index (r ∷ rules) (suc index) there = ap (λ rs. r ∷ rs) (at_index rules index (omega (arith, there)))
 
-pub set_place : (rules : List Rule) (place : ℕ) (r : Rule) → place < length rules → slice_set rules place r ≡ take place rules ++ (r ∷ drop (suc place) rules)
-set_place [] place r there = absurd (omega (arith, there))
-set_place (q ∷ rules) zero r there = refl
-set_place (q ∷ rules) (suc place) r there = ap (λ rs. q ∷ rs) (set_place rules place r (omega (arith, there)))
+pub set_index : (rules : List Rule) (index : ℕ) (r : Rule) → index < length rules → slice_set rules index r ≡ take index rules ++ (r ∷ drop (suc index) rules)
+set_index [] index r there = absurd (omega (arith, there))
+set_index (q ∷ rules) zero r there = refl
+set_index (q ∷ rules) (suc index) r there = ap (λ rs. q ∷ rs) (set_index rules index r (omega (arith, there)))
 
-abbrev pub put_splice : (rules : List Rule) (place : ℕ) (r : Rule) → IsMissing rules r.depth r.prefix place →
-    Splice rules (take place rules ++ r ∷ drop place rules) r.prefix r.depth
-put_splice rules place r missing = record {
-  first = take place rules;
-  last = drop place rules;
+abbrev pub put_splice : (rules : List Rule) (index : ℕ) (r : Rule) → IsMissing rules r.depth r.prefix index →
+    Splice rules (take index rules ++ r ∷ drop index rules) r.prefix r.depth
+put_splice rules index r missing = record {
+  first = take index rules;
+  last = drop index rules;
   out = [];
   into = r ∷ [];
-  old_is = sym (take-append-drop place rules);
+  old_is = sym (take-append-drop index rules);
   new_is = refl;
-  first_misses = all_below (take place rules) (rank r.depth r.prefix) missing.parts.lower;
-  last_misses = all_above (drop place rules) (rank r.depth r.prefix) missing.parts.upper;
+  first_misses = all_below (take index rules) (rank r.depth r.prefix) missing.parts.lower;
+  last_misses = all_above (drop index rules) (rank r.depth r.prefix) missing.parts.upper;
   out_there = tt;
   into_there = ((refl, refl), tt);
 }
 
-abbrev pub replace_splice : (rules : List Rule) (place : ℕ) (r : Rule) → IsFound rules r.depth r.prefix place →
-    Splice rules (slice_set rules place r) r.prefix r.depth
-replace_splice rules place r found = record {
-  first = take place rules;
-  last = drop (suc place) rules;
-  out = rule_at rules place ∷ [];
+abbrev pub replace_splice : (rules : List Rule) (index : ℕ) (r : Rule) → IsFound rules r.depth r.prefix index →
+    Splice rules (slice_set rules index r) r.prefix r.depth
+replace_splice rules index r found = record {
+  first = take index rules;
+  last = drop (suc index) rules;
+  out = rule_at rules index ∷ [];
   into = r ∷ [];
-  old_is = at_place rules place found.there;
-  new_is = set_place rules place r found.there;
-  first_misses = all_below (take place rules) (rank r.depth r.prefix) found.parts.lower;
-  last_misses = all_above (drop (suc place) rules) (rank r.depth r.prefix) found.parts.upper;
+  old_is = at_index rules index found.there;
+  new_is = set_index rules index r found.there;
+  first_misses = all_below (take index rules) (rank r.depth r.prefix) found.parts.lower;
+  last_misses = all_above (drop (suc index) rules) (rank r.depth r.prefix) found.parts.upper;
   out_there = ((found.depth_is, found.prefix_is), tt);
   into_there = ((refl, refl), tt);
 }
 
-abbrev pub remove_splice : (rules : List Rule) (place prefix depth : ℕ) → IsFound rules depth prefix place →
-    Splice rules (take place rules ++ drop (suc place) rules) prefix depth
-remove_splice rules place prefix depth found = record {
-  first = take place rules;
-  last = drop (suc place) rules;
-  out = rule_at rules place ∷ [];
+abbrev pub remove_splice : (rules : List Rule) (index prefix depth : ℕ) → IsFound rules depth prefix index →
+    Splice rules (take index rules ++ drop (suc index) rules) prefix depth
+remove_splice rules index prefix depth found = record {
+  first = take index rules;
+  last = drop (suc index) rules;
+  out = rule_at rules index ∷ [];
   into = [];
-  old_is = at_place rules place found.there;
+  old_is = at_index rules index found.there;
   new_is = refl;
-  first_misses = all_below (take place rules) (rank depth prefix) found.parts.lower;
-  last_misses = all_above (drop (suc place) rules) (rank depth prefix) found.parts.upper;
+  first_misses = all_below (take index rules) (rank depth prefix) found.parts.lower;
+  last_misses = all_above (drop (suc index) rules) (rank depth prefix) found.parts.upper;
   out_there = ((found.depth_is, found.prefix_is), tt);
   into_there = tt;
 }

@@ -2,7 +2,7 @@
 use Rattle.std.proofs.Common.{◌≡◌, ℕ, zero, suc, ◌≤◌, [], length, replicate, None, refl, sym, ◌∙◌, ap, subst, arith}
 use Rattle.std.specs.Prelude.{nat_lt, vec_capacity}
 use Rattle.std.specs.List.{AllByRecursion}
-use Rattle.dp_lpm.specs.declared.store.Store.{Store}
+use Rattle.dp_lpm.specs.declared.ruled_table.RuledTable.{RuledTable}
 use Rattle.dp_lpm.specs.Routes.{IsRoute, deepest_within, groups_below}
 use Rattle.dp_lpm.specs.Rules.{IsOrdered, routes_of, entry_of}
 use Rattle.dp_lpm.specs.Tables.{IsEmptyTable}
@@ -22,7 +22,7 @@ used_none : (n : ℕ) → used_count (replicate n 0) ≡ 0
 used_none zero = refl
 used_none (suc n) = omega (arith, used_none n)
 
-pub begun : (s : Store) (groups : ℕ) → IsEmptyTable groups s.table → s.rules.items ≡ [] → s.max_rules ≤ 65536 → s.max_rules ≤ vec_capacity s.rules → IsKept s
+pub begun : (s : RuledTable) (groups : ℕ) → IsEmptyTable groups s.table → s.rules.items ≡ [] → s.max_rules ≤ 65536 → s.max_rules ≤ vec_capacity s.rules → IsKept s
 begun s groups empty none most room = record {
   order = subst IsOrdered (sym none) tt;
   each = subst (λ rs. AllByRecursion IsRoute (routes_of rs)) (sym none) tt;

@@ -9,7 +9,7 @@ use Rattle.dp_lpm.specs.Routes.{prefix_of, route_at, deepest_within}
 use Rattle.dp_lpm.specs.Rules.{rank, rule_at, route_of, routes_of, entry_of, IsFound, IsMissing}
 use Rattle.std.proofs.lemmas.Bool.{eq-eqb}
 use Rattle.std.proofs.lemmas.List.{take-append-drop}
-use Rattle.dp_lpm.proofs.Splices.{here_at, all_below, all_above, at_place}
+use Rattle.dp_lpm.proofs.Splices.{here_at, all_below, all_above, at_index}
 
 pub within_zero : (routes : List Route) (ip : ℕ) → deepest_within 0 routes ip ≡ None
 unfolding deepest_within
@@ -20,39 +20,39 @@ pub within_suc : (depth : ℕ) (routes : List Route) (ip : ℕ) → deepest_with
 unfolding deepest_within
 within_suc depth routes ip = refl
 
--- a rule that is found is the route of its place
-pub found_at : (rules : List Rule) (depth prefix place : ℕ) → IsFound rules depth prefix place → route_at (routes_of rules) prefix depth
-    ≡ Some (route_of (rule_at rules place))
-found_at rules depth prefix place found =
-    let r = rule_at rules place in
-    let front = all_below (take place rules) (rank depth prefix) found.parts.lower in
-    let behind = all_above (drop (suc place) rules) (rank depth prefix) found.parts.upper in
-    ap (λ rs. route_at (routes_of rs) prefix depth) (at_place rules place found.there)
-    ∙ (here_at (take place rules) (r ∷ []) (drop (suc place) rules) prefix depth front behind
+-- a rule that is found is the route of its index
+pub found_at : (rules : List Rule) (depth prefix index : ℕ) → IsFound rules depth prefix index → route_at (routes_of rules) prefix depth
+    ≡ Some (route_of (rule_at rules index))
+found_at rules depth prefix index found =
+    let r = rule_at rules index in
+    let front = all_below (take index rules) (rank depth prefix) found.parts.lower in
+    let behind = all_above (drop (suc index) rules) (rank depth prefix) found.parts.upper in
+    ap (λ rs. route_at (routes_of rs) prefix depth) (at_index rules index found.there)
+    ∙ (here_at (take index rules) (r ∷ []) (drop (suc index) rules) prefix depth front behind
     ∙ (ap (λ b. cond (b && (r.prefix == prefix)) (Some (route_of r)) None) (eq-eqb r.depth depth found.depth_is)
     ∙ ap (λ b. cond b (Some (route_of r)) None) (eq-eqb r.prefix prefix found.prefix_is)))
 
-pub missing_at : (rules : List Rule) (depth prefix place : ℕ) → IsMissing rules depth prefix place → route_at (routes_of rules) prefix depth ≡ None
-missing_at rules depth prefix place missing =
-    ap (λ rs. route_at (routes_of rs) prefix depth) (sym (take-append-drop place rules))
-    ∙ here_at (take place rules) [] (drop place rules) prefix depth
-    (all_below (take place rules) (rank depth prefix) missing.parts.lower)
-    (all_above (drop place rules) (rank depth prefix) missing.parts.upper)
+pub missing_at : (rules : List Rule) (depth prefix index : ℕ) → IsMissing rules depth prefix index → route_at (routes_of rules) prefix depth ≡ None
+missing_at rules depth prefix index missing =
+    ap (λ rs. route_at (routes_of rs) prefix depth) (sym (take-append-drop index rules))
+    ∙ here_at (take index rules) [] (drop index rules) prefix depth
+    (all_below (take index rules) (rank depth prefix) missing.parts.lower)
+    (all_above (drop index rules) (rank depth prefix) missing.parts.upper)
 
 -- the entry where a rule of the depth is found, and where it is not
-pub entry_found : (rules : List Rule) (ip depth place : ℕ) → 0 < depth → IsFound rules depth (prefix_of ip depth) place → Hop (rule_at rules place).hop depth
+pub entry_found : (rules : List Rule) (ip depth index : ℕ) → 0 < depth → IsFound rules depth (prefix_of ip depth) index → Hop (rule_at rules index).hop depth
     ≡ entry_of (deepest_within depth (routes_of rules) ip)
-entry_found rules ip zero place some found = absurd (omega (arith, some))
-entry_found rules ip (suc depth) place some found =
-    ap (Hop (rule_at rules place).hop) (sym found.depth_is)
+entry_found rules ip zero index some found = absurd (omega (arith, some))
+entry_found rules ip (suc depth) index some found =
+    ap (Hop (rule_at rules index).hop) (sym found.depth_is)
     ∙ ap entry_of (sym (within_suc depth (routes_of rules) ip ∙ ap (λ o. option_or o (deepest_within depth (routes_of rules) ip))
-    (found_at rules (suc depth) (prefix_of ip (suc depth)) place found)))
+    (found_at rules (suc depth) (prefix_of ip (suc depth)) index found)))
 
-pub entry_missing : (rules : List Rule) (ip depth place : ℕ) → 0 < depth → IsMissing rules depth (prefix_of ip depth) place →
+pub entry_missing : (rules : List Rule) (ip depth index : ℕ) → 0 < depth → IsMissing rules depth (prefix_of ip depth) index →
     deepest_within depth (routes_of rules) ip ≡ deepest_within (depth - 1) (routes_of rules) ip
-entry_missing rules ip zero place some missing = absurd (omega (arith, some))
-entry_missing rules ip (suc depth) place some missing =
+entry_missing rules ip zero index some missing = absurd (omega (arith, some))
+entry_missing rules ip (suc depth) index some missing =
     let e : suc depth - 1 ≡ depth = omega arith in
     within_suc depth (routes_of rules) ip
-    ∙ (ap (λ o. option_or o (deepest_within depth (routes_of rules) ip)) (missing_at rules (suc depth) (prefix_of ip (suc depth)) place missing)
+    ∙ (ap (λ o. option_or o (deepest_within depth (routes_of rules) ip)) (missing_at rules (suc depth) (prefix_of ip (suc depth)) index missing)
     ∙ ap (λ n. deepest_within n (routes_of rules) ip) (sym e))

@@ -1,5 +1,6 @@
 -- Entries of tables, and the four bytes that each takes.
 use Rattle.std.specs.Prelude.{ℕ, ◌/◌, ◌%◌, ◌<◌, ◌≤◌, ◌==◌, nat_le, nat_lt, if◌then◌else◌, List, Option, Some, None, slice_index_or}
+use Rattle.dp_lpm.specs.declared.limits.TheConstants.{FIRST_GROUP, GROUP_DEPTH, HOPS, MAX_DEPTH, MAX_GROUPS}
 use Rattle.dp_lpm.specs.declared.cell.Entry.{Entry}
 use Rattle.dp_lpm.specs.declared.cell.Entry.TheVariants.{Empty, Hop, Group}
 use Rattle.dp_lpm.specs.declared.cell.Cell.{Cell}
@@ -8,24 +9,24 @@ use Rattle.dp_lpm.specs.declared.cell.Cell.{Cell}
 abbrev pub entry_in : Cell → Entry
 entry_in c =
     if c.bits == 0 then Empty
-    else if nat_lt c.bits 2147483648 then Hop (c.bits % 16777216) (c.bits / 16777216)
-    else Group (c.bits % 256)
+    else if nat_lt c.bits FIRST_GROUP then Hop (c.bits % HOPS) (c.bits / HOPS)
+    else Group (c.bits % MAX_GROUPS)
 
 -- whether four bytes can hold it
 abbrev pub IsStorable : Entry → Type 0
 IsStorable Empty = Unit {0}
-IsStorable (Hop hop depth) = (hop < 16777216) × (1 ≤ depth) × (depth ≤ 32)
+IsStorable (Hop hop depth) = (hop < HOPS) × (1 ≤ depth) × (depth ≤ MAX_DEPTH)
 IsStorable (Group g) = Unit {0}
 
--- the entry at a place
+-- the entry at an index
 abbrev pub at : List Cell → ℕ → Entry
 at cells k = entry_in (slice_index_or cells k (record { bits = 0 }))
 
--- how deep the rule of an entry is, 255 for a group
+-- how deep the rule of an entry is; a group is deeper than all
 abbrev pub depth_of : Entry → ℕ
 depth_of Empty = 0
 depth_of (Hop hop depth) = depth
-depth_of (Group g) = 255
+depth_of (Group g) = GROUP_DEPTH
 
 -- an entry that is at most so deep becomes another
 abbrev pub settled : ℕ → Entry → Entry → Entry

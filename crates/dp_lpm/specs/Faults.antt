@@ -1,6 +1,7 @@
 -- What a table refuses, in this order.
 use Rattle.std.specs.Prelude.{ℕ, ◌&&◌, ◌||◌, nat_lt, nat_le, if◌then◌else◌, ◌∷◌, length, Option, Some, None, is_some}
 use Rattle.dp_model.specs.Prefixes.{Route}
+use Rattle.dp_lpm.specs.declared.limits.TheConstants.{FIRST_BITS, MAX_DEPTH, MAX_HOP}
 use Rattle.dp_lpm.specs.declared.error.LpmError.{LpmError}
 use Rattle.dp_lpm.specs.declared.error.LpmError.TheVariants.{BadDepth, BadHop, RulesFull, GroupsFull, NoRule}
 use Rattle.dp_lpm.specs.Routes.{RouteTable, prefix_of, route_at, groups_needed}
@@ -20,7 +21,7 @@ added ip depth hop = record { prefix = prefix_of ip depth; depth = depth; hop = 
 abbrev pub new_fault : RouteTable → Route → Option LpmError
 new_fault t route =
     if nat_le t.max_rules (length t.routes) then Some RulesFull
-    else if nat_lt 24 route.depth && nat_lt t.groups (groups_needed (route ∷ t.routes)) then Some GroupsFull
+    else if nat_lt FIRST_BITS route.depth && nat_lt t.groups (groups_needed (route ∷ t.routes)) then Some GroupsFull
     else None
 
 -- why a route is refused
@@ -30,13 +31,13 @@ route_fault t route = if is_some (route_at t.routes route.prefix route.depth) th
 -- why an add is refused
 abbrev pub add_fault : RouteTable → ℕ → ℕ → ℕ → Option LpmError
 add_fault t ip depth hop =
-    if nat_lt depth 1 || nat_lt 32 depth then Some BadDepth
-    else if nat_lt 16777215 hop then Some BadHop
+    if nat_lt depth 1 || nat_lt MAX_DEPTH depth then Some BadDepth
+    else if nat_lt MAX_HOP hop then Some BadHop
     else route_fault t (added ip depth hop)
 
 -- why a delete is refused
 abbrev pub delete_fault : RouteTable → ℕ → ℕ → Option LpmError
 delete_fault t ip depth =
-    if nat_lt depth 1 || nat_lt 32 depth then Some BadDepth
+    if nat_lt depth 1 || nat_lt MAX_DEPTH depth then Some BadDepth
     else if is_some (route_at t.routes (prefix_of ip depth) depth) then None
     else Some NoRule

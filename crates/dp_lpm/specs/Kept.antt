@@ -3,7 +3,8 @@ use Rattle.std.specs.Prelude.{◌≡◌, ◌≢◌, ℕ, ◌+◌, ◌-◌, ◌/�
 use Rattle.std.specs.Prelude.{slice_index}
 use Rattle.std.specs.List.{AllByRecursion}
 use Rattle.dp_model.specs.Prefixes.{Route}
-use Rattle.dp_lpm.specs.declared.store.Store.{Store}
+use Rattle.dp_lpm.specs.declared.limits.TheConstants.{FIRST_BITS, GROUP_ENTRIES, MAX_DEPTH, MAX_RULES}
+use Rattle.dp_lpm.specs.declared.ruled_table.RuledTable.{RuledTable}
 use Rattle.dp_lpm.specs.Routes.{RouteTable, deepest_within, is_deep_in, groups_needed, IsRoute, Puts, Drops, prefix_of}
 use Rattle.dp_lpm.specs.Rules.{routes_of, entry_of, IsOrdered}
 use Rattle.dp_lpm.specs.Tables.{IsTable, group_at, entry_for}
@@ -21,47 +22,47 @@ abbrev pub used_count : List ℕ → ℕ
 used_count [] = 0
 used_count (count ∷ counts) = one_if (nat_lt 0 count) + used_count counts
 
-abbrev pub routes_in : Store → List Route
+abbrev pub routes_in : RuledTable → List Route
 routes_in s = routes_of s.rules.items
 
 -- what a caller sees
-abbrev pub shown : Store → RouteTable
+abbrev pub shown : RuledTable → RouteTable
 shown s = record { routes = routes_in s; max_rules = s.max_rules; groups = length s.table.counts.items }
 
 -- The entries answer as the first routes do, and the groups are those of the others. Between calls both are the
 -- table's own
-pub record Keeps (answered counted : List Route) (s : Store) : Type 0 where
+pub record Keeps (answered counted : List Route) (s : RuledTable) : Type 0 where
   pub order : IsOrdered s.rules.items
   pub each : AllByRecursion IsRoute (routes_in s)
   pub table : IsTable s.table
   -- each address has the entry of its deepest route
-  pub answers : (ip : ℕ) → entry_for s.table ip ≡ entry_of (deepest_within 32 answered ip)
+  pub answers : (ip : ℕ) → entry_for s.table ip ≡ entry_of (deepest_within MAX_DEPTH answered ip)
   -- first bits have a group where a deep route begins with them
   pub grouped : (i g : ℕ) → group_at s.table i ≡ Some g → slice_index s.table.counts.items g ≡ deep_count counted i
   pub plain : (i : ℕ) → group_at s.table i ≡ None → deep_count counted i ≡ 0
   pub needed : used_count s.table.counts.items ≡ groups_needed counted
   -- there is room for all rules
   pub few : length s.rules.items ≤ s.max_rules
-  pub most : s.max_rules ≤ 65536
+  pub most : s.max_rules ≤ MAX_RULES
   pub room : s.max_rules ≤ vec_capacity s.rules
 
-abbrev pub IsKept : Store → Type 0
+abbrev pub IsKept : RuledTable → Type 0
 IsKept s = Keeps (routes_in s) (routes_in s) s
 
 -- the first 24 bits of a deep route
 abbrev pub first_of : Route → ℕ
-first_of route = route.prefix / 2 ^ (route.depth - 24)
+first_of route = route.prefix / 2 ^ (route.depth - FIRST_BITS)
 
 -- the route is in, and has a group if it is deep; the entries are as before
-pub record TakesIn (old new : Store) (route : Route) : Type 0 where
+pub record TakesIn (old new : RuledTable) (route : Route) : Type 0 where
   pub kept : Keeps (routes_in old) (routes_in new) new
   pub puts : Puts (shown old) (shown new) route
-  pub group : 24 < route.depth → (g : ℕ) × (group_at new.table (first_of route) ≡ Some g)
+  pub group : FIRST_BITS < route.depth → (g : ℕ) × (group_at new.table (first_of route) ≡ Some g)
 
 -- the route of the prefix is out, and the entries are those of the routes that are left; its group still counts it
-pub record TakesOut (old new : Store) (ip depth : ℕ) : Type 0 where
+pub record TakesOut (old new : RuledTable) (ip depth : ℕ) : Type 0 where
   pub kept : Keeps (routes_in new) (routes_in old) new
   pub drops : Drops (shown old) (shown new) (prefix_of ip depth) depth
-  pub shallow : depth ≤ 24 → (i : ℕ) → deep_count (routes_in new) i ≡ deep_count (routes_in old) i
-  pub here : 24 < depth → deep_count (routes_in old) (ip / 256) ≡ deep_count (routes_in new) (ip / 256) + 1
-  pub others : 24 < depth → (i : ℕ) → i ≢ ip / 256 → deep_count (routes_in new) i ≡ deep_count (routes_in old) i
+  pub shallow : depth ≤ FIRST_BITS → (i : ℕ) → deep_count (routes_in new) i ≡ deep_count (routes_in old) i
+  pub here : FIRST_BITS < depth → deep_count (routes_in old) (ip / GROUP_ENTRIES) ≡ deep_count (routes_in new) (ip / GROUP_ENTRIES) + 1
+  pub others : FIRST_BITS < depth → (i : ℕ) → i ≢ ip / GROUP_ENTRIES → deep_count (routes_in new) i ≡ deep_count (routes_in old) i

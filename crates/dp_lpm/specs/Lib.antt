@@ -1,3 +1,4 @@
+-- What the contracts of tables name.
 pub mod Cells
 pub mod Faults
 pub mod Kept

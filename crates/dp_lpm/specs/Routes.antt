@@ -4,6 +4,7 @@ use Rattle.std.specs.Prelude.{Some, None, is_some, find}
 use Rattle.std.specs.List.{list_any, AllByRecursion}
 use Rattle.std.specs.Option.{option_or}
 use Rattle.dp_model.specs.Prefixes.{Route}
+use Rattle.dp_lpm.specs.declared.limits.TheConstants.{FIRST_BITS, FIRST_ENTRIES, MAX_DEPTH, MAX_HOP}
 
 -- a table: its routes, how many it can hold, and how many groups it has for routes deeper than 24 bits
 pub record RouteTable : Type 0 where
@@ -13,7 +14,7 @@ pub record RouteTable : Type 0 where
 
 -- the first bits of an address
 abbrev pub prefix_of : ℕ → ℕ → ℕ
-prefix_of ip depth = ip / 2 ^ (32 - depth)
+prefix_of ip depth = ip / 2 ^ (MAX_DEPTH - depth)
 
 abbrev pub is_at : ℕ → ℕ → Route → Bool
 is_at prefix depth route = (route.depth == depth) && (route.prefix == prefix)
@@ -49,7 +50,7 @@ deepest_within (suc depth) routes ip =
 
 -- the route is deeper than 24 bits, and these are its first 24
 abbrev pub is_deep_in : ℕ → Route → Bool
-is_deep_in first route = nat_lt 24 route.depth && (route.prefix / 2 ^ (route.depth - 24) == first)
+is_deep_in first route = nat_lt FIRST_BITS route.depth && (route.prefix / 2 ^ (route.depth - FIRST_BITS) == first)
 
 -- how many of the prefixes of 24 bits below n are those of deeper routes
 unfoldable pub groups_below : ℕ → List Route → ℕ
@@ -58,14 +59,14 @@ groups_below (suc n) routes = groups_below n routes + (if list_any (is_deep_in n
 
 -- how many groups the routes need
 abbrev pub groups_needed : List Route → ℕ
-groups_needed routes = groups_below 16777216 routes
+groups_needed routes = groups_below FIRST_ENTRIES routes
 
 -- a route of a table
 pub record IsRoute (route : Route) : Type 0 where
   pub some : 1 ≤ route.depth
-  pub most : route.depth ≤ 32
+  pub most : route.depth ≤ MAX_DEPTH
   pub prefix : route.prefix < 2 ^ route.depth
-  pub hop : route.hop ≤ 16777215
+  pub hop : route.hop ≤ MAX_HOP
 
 -- each prefix and depth has one route at most
 abbrev pub AreOnce : List Route → Type 0

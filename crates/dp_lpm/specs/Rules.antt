@@ -2,6 +2,7 @@
 use Rattle.std.specs.Prelude.{◌≡◌, ℕ, suc, ◌+◌, ◌*◌, ◌<◌, ◌≤◌, List, [], ◌∷◌, length, take, drop, map, Option, Some, None, slice_index_or}
 use Rattle.std.specs.List.{AllByRecursion}
 use Rattle.dp_model.specs.Prefixes.{Route}
+use Rattle.dp_lpm.specs.declared.limits.TheConstants.{ADDRESSES}
 use Rattle.dp_lpm.specs.declared.cell.Entry.{Entry}
 use Rattle.dp_lpm.specs.declared.cell.Entry.TheVariants.{Empty, Hop}
 use Rattle.dp_lpm.specs.declared.rule.Rule.{Rule}
@@ -18,9 +19,9 @@ abbrev pub entry_of : Option Route → Entry
 entry_of None = Empty
 entry_of (Some route) = Hop route.hop route.depth
 
--- the place in the order: by depth, then by prefix
+-- the rank in the order: by depth, then by prefix
 abbrev pub rank : ℕ → ℕ → ℕ
-rank depth prefix = depth * 4294967296 + prefix
+rank depth prefix = depth * ADDRESSES + prefix
 
 abbrev pub rank_of : Rule → ℕ
 rank_of r = rank r.depth r.prefix
@@ -30,29 +31,29 @@ abbrev pub IsOrdered : List Rule → Type 0
 IsOrdered [] = Unit {0}
 IsOrdered (r ∷ rules) = AllByRecursion (λ q. rank_of r < rank_of q) rules × IsOrdered rules
 
--- the rule at a place
+-- the rule at an index
 abbrev pub rule_at : List Rule → ℕ → Rule
-rule_at rules place = slice_index_or rules place (record { prefix = 0; depth = 0; hop = 0 })
+rule_at rules index = slice_index_or rules index (record { prefix = 0; depth = 0; hop = 0 })
 
--- the rules before the place are below the rank, and the others are not
-pub record IsLowerBound (rules : List Rule) (key place : ℕ) : Type 0 where
-  pub bound : place ≤ length rules
-  pub below : (k : ℕ) → k < place → rank_of (rule_at rules k) < key
-  pub above : (k : ℕ) → place ≤ k → k < length rules → key ≤ rank_of (rule_at rules k)
+-- the rules before the index are below the rank, and the others are not
+pub record IsLowerBound (rules : List Rule) (key index : ℕ) : Type 0 where
+  pub bound : index ≤ length rules
+  pub below : (k : ℕ) → k < index → rank_of (rule_at rules k) < key
+  pub above : (k : ℕ) → index ≤ k → k < length rules → key ≤ rank_of (rule_at rules k)
 
 -- the rules in front are below the rank, and those behind are above it
 pub record Parts (front back : List Rule) (key : ℕ) : Type 0 where
   pub lower : AllByRecursion (λ r. rank_of r < key) front
   pub upper : AllByRecursion (λ r. key < rank_of r) back
 
--- the rule of the depth and the prefix stands at the place
-pub record IsFound (rules : List Rule) (depth prefix place : ℕ) : Type 0 where
-  pub there : place < length rules
-  pub depth_is : (rule_at rules place).depth ≡ depth
-  pub prefix_is : (rule_at rules place).prefix ≡ prefix
-  pub parts : Parts (take place rules) (drop (suc place) rules) (rank depth prefix)
+-- the rule of the depth and the prefix stands at the index
+pub record IsFound (rules : List Rule) (depth prefix index : ℕ) : Type 0 where
+  pub there : index < length rules
+  pub depth_is : (rule_at rules index).depth ≡ depth
+  pub prefix_is : (rule_at rules index).prefix ≡ prefix
+  pub parts : Parts (take index rules) (drop (suc index) rules) (rank depth prefix)
 
--- there is no such rule, and it would go to the place
-pub record IsMissing (rules : List Rule) (depth prefix place : ℕ) : Type 0 where
-  pub bound : place ≤ length rules
-  pub parts : Parts (take place rules) (drop place rules) (rank depth prefix)
+-- there is no such rule, and it would go to the index
+pub record IsMissing (rules : List Rule) (depth prefix index : ℕ) : Type 0 where
+  pub bound : index ≤ length rules
+  pub parts : Parts (take index rules) (drop index rules) (rank depth prefix)

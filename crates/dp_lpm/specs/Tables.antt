@@ -2,6 +2,7 @@
 use Rattle.std.specs.Prelude.{◌≡◌, ◌≢◌, ℕ, ◌+◌, ◌-◌, ◌*◌, ◌/◌, ◌%◌, ◌^◌, ◌<◌, ◌≤◌, ◌==◌, ◌⊎◌, length, replicate, position, Option, Some, None, slice_index}
 use Rattle.std.specs.Prelude.{slice_set}
 use Rattle.std.specs.Option.{option_map_or}
+use Rattle.dp_lpm.specs.declared.limits.TheConstants.{ADDRESSES, FIRST_ENTRIES, GROUP_ENTRIES, MAX_DEPTH, MAX_GROUPS}
 use Rattle.dp_lpm.specs.declared.cell.Entry.{Entry}
 use Rattle.dp_lpm.specs.declared.cell.Entry.TheVariants.{Empty}
 use Rattle.dp_lpm.specs.declared.table.Table.{Table}
@@ -18,13 +19,13 @@ group_at t i = group_in (first_at t i)
 -- the entry for an address
 abbrev pub entry_for : Table → ℕ → Entry
 entry_for t ip =
-    option_map_or (λ g. at t.cells.items (g * 256 + ip % 256)) (group_at t (ip / 256)) (first_at t (ip / 256))
+    option_map_or (λ g. at t.cells.items (g * GROUP_ENTRIES + ip % GROUP_ENTRIES)) (group_at t (ip / GROUP_ENTRIES)) (first_at t (ip / GROUP_ENTRIES))
 
 -- each group that is named belongs to one prefix of 24 bits, has rules, and has 256 entries, of which none is a group
 pub record IsTable (t : Table) : Type 0 where
-  pub first : length t.first.items ≡ 16777216
-  pub cells : length t.cells.items ≡ length t.counts.items * 256
-  pub few : length t.counts.items ≤ 256
+  pub first : length t.first.items ≡ FIRST_ENTRIES
+  pub cells : length t.cells.items ≡ length t.counts.items * GROUP_ENTRIES
+  pub few : length t.counts.items ≤ MAX_GROUPS
   pub named : (i g : ℕ) → group_at t i ≡ Some g → g < length t.counts.items
   pub used : (i g : ℕ) → group_at t i ≡ Some g → 1 ≤ slice_index t.counts.items g
   pub apart : (i j g : ℕ) → group_at t i ≡ Some g → group_at t j ≡ Some g → i ≡ j
@@ -32,13 +33,13 @@ pub record IsTable (t : Table) : Type 0 where
 
 -- where the addresses of a prefix begin
 abbrev pub start_of : ℕ → ℕ → ℕ
-start_of ip depth = prefix_of ip depth * 2 ^ (32 - depth)
+start_of ip depth = prefix_of ip depth * 2 ^ (MAX_DEPTH - depth)
 
 -- a range of addresses that is part of one group's, or is made of whole ones
 pub record IsEven (start size : ℕ) : Type 0 where
-  pub bound : start + size ≤ 4294967296
-  pub part : size < 256 → start % 256 + size ≤ 256
-  pub whole : 256 ≤ size → (start % 256 ≡ 0) × (size % 256 ≡ 0)
+  pub bound : start + size ≤ ADDRESSES
+  pub part : size < GROUP_ENTRIES → start % GROUP_ENTRIES + size ≤ GROUP_ENTRIES
+  pub whole : GROUP_ENTRIES ≤ size → (start % GROUP_ENTRIES ≡ 0) × (size % GROUP_ENTRIES ≡ 0)
 
 -- the entries of these addresses that are at most so deep have become another one
 pub record Settled (start size depth : ℕ) (to : Entry) (old new : Table) : Type 0 where
@@ -70,7 +71,7 @@ pub record CanClose (first : ℕ) (t : Table) : Type 0 where
   pub group : ℕ
   pub named : group_at t first ≡ Some group
   pub some : 1 ≤ slice_index t.counts.items group
-  pub even : slice_index t.counts.items group ≡ 1 → (j : ℕ) → j < 256 → at t.cells.items (group * 256 + j) ≡ at t.cells.items (group * 256)
+  pub even : slice_index t.counts.items group ≡ 1 → (j : ℕ) → j < GROUP_ENTRIES → at t.cells.items (group * GROUP_ENTRIES + j) ≡ at t.cells.items (group * GROUP_ENTRIES)
 
 -- the first bits' group has one rule fewer, and is free if it has none; no entry has changed
 pub record Closed (first : ℕ) (old new : Table) : Type 0 where

@@ -3,7 +3,9 @@
 ghost use Rattle.std.specs.Prelude.{◌≡◌, ℕ, ◌/◌, ◌<◌, ◌≤◌, length, slice_index_or};
 ghost use Rattle.dp_lpm.specs.Cells.{entry_in, IsStorable, at, settled};
 
-/// What an entry says of its addresses.
+use crate::limits::{FIRST_GROUP, GROUP_DEPTH, HOPS, MAX_DEPTH, MAX_GROUPS};
+
+/// What an entry knows of its addresses.
 #[derive(Clone, Copy, Debug, PartialEq, Eq)]
 pub enum Entry {
     /// No rule has them.
@@ -13,9 +15,6 @@ pub enum Entry {
     /// Each of them has an entry of its own, in this group.
     Group(u8),
 }
-
-/// Four bytes from this number on name a group: their highest bit is set, which one test tells.
-const FIRST_GROUP: u32 = 0x8000_0000;
 
 /// An entry in four bytes: 0 where there is none, or a hop or a group in the lower three, and a depth or 255 for a group in the highest.
 #[derive(Clone, Copy, Debug)]
@@ -31,8 +30,8 @@ impl Cell {
     {
         let bits = match entry {
             Entry::Empty => 0,
-            Entry::Hop { hop, depth } => depth as u32 * 0x100_0000 + hop,
-            Entry::Group(group) => 255 * 0x100_0000 + group as u32,
+            Entry::Hop { hop, depth } => u32::from(depth) * HOPS + hop,
+            Entry::Group(group) => GROUP_DEPTH * HOPS + u32::from(group),
         };
         Cell { bits }
     }
@@ -43,29 +42,29 @@ impl Cell {
     {
         if self.bits != 0 && self.bits < FIRST_GROUP {
             return Entry::Hop {
-                hop: self.bits % 0x100_0000,
-                depth: (self.bits / 0x100_0000) as u8,
+                hop: self.bits % HOPS,
+                depth: (self.bits / HOPS) as u8,
             };
         }
         if self.bits == 0 {
             return Entry::Empty;
         }
-        Entry::Group((self.bits % 256) as u8)
+        Entry::Group((self.bits % MAX_GROUPS) as u8)
     }
 
     /// The depth of its rule, 0 where there is none, and at least 128 for a group.
     pub fn depth(self) -> u8
-        ensures { result ≡ self.bits / 16777216 }
+        ensures { result ≡ self.bits / HOPS }
     {
-        (self.bits / 0x100_0000) as u8
+        (self.bits / HOPS) as u8
     }
 }
 
-/// The entries from one place up to another that are at most so deep become another one.
+/// The entries from one index up to another that are at most so deep become another one.
 pub fn settle(cells: &mut [Cell], from: usize, end: usize, depth: u8, to: Cell)
     requires order { from ≤ end }
     requires there { end ≤ length cells.old }
-    requires depth { depth ≤ 32 }
+    requires depth { depth ≤ MAX_DEPTH }
     ensures len { length cells.new ≡ length cells.old }
     ensures inside { (k : ℕ) → from ≤ k → k < end → at cells.new k ≡ settled depth (entry_in to) (at cells.old k) }
     ensures below { (k : ℕ) → k < from → at cells.new k ≡ at cells.old k }
@@ -78,7 +77,7 @@ pub fn settle(cells: &mut [Cell], from: usize, end: usize, depth: u8, to: Cell)
     }
 }
 
-/// The entries from one place up to another become this one.
+/// The entries from one index up to another become this one.
 pub fn fill(cells: &mut [Cell], from: usize, end: usize, to: Cell)
     requires order { from ≤ end }
     requires there { end ≤ length cells.old }
@@ -87,7 +86,5 @@ pub fn fill(cells: &mut [Cell], from: usize, end: usize, to: Cell)
     ensures below { (k : ℕ) → k < from → at cells.new k ≡ at cells.old k }
     ensures above { (k : ℕ) → end ≤ k → at cells.new k ≡ at cells.old k }
 {
-    for k in from..end {
-        cells[k] = to;
-    }
+    cells[from..end].fill(to);
 }

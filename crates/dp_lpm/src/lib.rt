@@ -3,10 +3,12 @@
 
 mod cell;
 mod error;
+mod limits;
 mod lpm;
 mod rule;
-mod store;
+mod ruled_table;
 mod table;
 
 pub use error::{LpmError, Memory};
+pub use limits::{MAX_GROUPS, MAX_HOP, MAX_RULES};
 pub use lpm::Lpm;

@@ -7,7 +7,8 @@ ghost use Rattle.std.specs.List.{AllByRecursion};
 ghost use Rattle.dp_lpm.specs.Faults.{added, add_fault, delete_fault};
 
 use crate::error::{LpmError, Memory};
-use crate::store::Store;
+use crate::limits::{MAX_GROUPS, MAX_HOP, MAX_RULES};
+use crate::ruled_table::RuledTable;
 use std::alloc::Global;
 use std::marker::Model;
 
@@ -15,7 +16,7 @@ use std::marker::Model;
 /// or to that of a deeper rule (DPDK Programmer's Guide, LPM library). All its memory is taken as it is made.
 #[derive(Drop)]
 pub struct Lpm {
-    store: Store,
+    ruled: RuledTable,
 }
 
 impl Model for Lpm {
@@ -25,20 +26,20 @@ impl Model for Lpm {
 
     ghost use Rattle.dp_lpm.specs.Kept.{IsKept, shown};
 
-    ghost view = { λ a. shown a.store };
+    ghost view = { λ a. shown a.ruled };
 
-    ghost invariant = { λ a. IsKept a.store };
+    ghost invariant = { λ a. IsKept a.ruled };
 }
 
 impl Lpm {
-    /// A table without rules, for at most 65,536 rules and at most 256 prefixes of 24 bits with rules deeper than 24.
+    /// A table without rules, for at most so many rules and so many prefixes of 24 bits with rules deeper than 24.
     pub fn new(alloc: Global, max_rules: u32, groups: u32) -> Result<Lpm, Memory>
-        requires rules { max_rules ≤ 65536 }
-        requires groups { groups ≤ 256 }
+        requires rules { max_rules ≤ MAX_RULES }
+        requires groups { groups ≤ MAX_GROUPS }
         ensures { IfOk result (λ t. t ≡ record { routes = []; max_rules = max_rules; groups = groups }) }
     {
         Ok(Lpm {
-            store: Store::new(alloc, max_rules, groups)?,
+            ruled: RuledTable::new(alloc, max_rules, groups)?,
         })
     }
 
@@ -50,7 +51,7 @@ impl Lpm {
         ensures fault { IfErr result (λ e. add_fault self.old ip depth hop ≡ Some e) }
         ensures err { OnErr result (self.new ≡ self.old) }
     {
-        self.store.add(ip, depth, hop)
+        self.ruled.add(ip, depth, hop)
     }
 
     /// Takes a rule out. Bits of `ip` below the depth are ignored.
@@ -60,25 +61,25 @@ impl Lpm {
         ensures fault { IfErr result (λ e. delete_fault self.old ip depth ≡ Some e) }
         ensures err { OnErr result (self.new ≡ self.old) }
     {
-        self.store.delete(ip, depth)
+        self.ruled.delete(ip, depth)
     }
 
-    /// The hop of the deepest rule whose prefix the address begins with. No hop is above 16,777,215.
+    /// The hop of the deepest rule whose prefix the address begins with. No hop is above `MAX_HOP`.
     pub fn lookup(&self, ip: u32) -> Option<u32>
         ensures value { result ≡ hop_for self.now.routes ip }
         ensures deepest { LooksUp self.now.routes ip result }
-        ensures low { IfSome result (λ hop. hop ≤ 16777215) }
+        ensures low { IfSome result (λ hop. hop ≤ MAX_HOP) }
     {
-        self.store.lookup(ip)
+        self.ruled.lookup(ip)
     }
 
     /// How many rules there are.
     pub fn len(&self) -> usize
         ensures len { result ≡ length self.now.routes }
         ensures table { IsTableOfRoutes self.now }
-        ensures hops { AllByRecursion (λ route. route.hop ≤ 16777215) self.now.routes }
+        ensures hops { AllByRecursion (λ route. route.hop ≤ MAX_HOP) self.now.routes }
     {
-        self.store.len()
+        self.ruled.len()
     }
 
     /// Whether there is no rule.

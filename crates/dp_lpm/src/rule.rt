@@ -6,6 +6,7 @@ ghost use Rattle.dp_lpm.specs.Rules.{rank, rank_of, IsOrdered, IsLowerBound, IsF
 ghost use Rattle.dp_lpm.specs.Routes.{prefix_of, deepest_within};
 
 use crate::cell::Entry;
+use crate::limits::MAX_DEPTH;
 
 /// How many rules go down at once: `memmove` is slow on a long run that goes down by a few bytes.
 const PART: usize = 512;
@@ -21,69 +22,59 @@ pub struct Rule {
 /// The first bits of an address.
 pub fn prefix_of(ip: u32, depth: u8) -> u32
     requires some { 1 ≤ depth }
-    requires most { depth ≤ 32 }
+    requires most { depth ≤ MAX_DEPTH }
     ensures { result ≡ prefix_of ip depth }
 {
-    ip >> (32 - depth)
+    ip >> (MAX_DEPTH - depth)
 }
 
-/// Whether a rule comes before the place of a depth and a prefix.
+/// Whether a rule comes before those of a depth and a prefix.
 fn is_before(rule: Rule, depth: u8, prefix: u32) -> bool
     ensures { result ≡ nat_lt (rank_of rule) (rank depth prefix) }
 {
     rule.depth < depth || rule.depth == depth && rule.prefix < prefix
 }
 
-/// How many rules come before the place of a depth and a prefix.
+/// How many rules come before those of a depth and a prefix.
 fn rules_before(rules: &[Rule], depth: u8, prefix: u32) -> usize
     requires { IsOrdered rules.now }
     ensures { IsLowerBound rules.now (rank depth prefix) result }
 {
-    let mut low = 0;
-    let mut high = rules.len();
-    while low < high {
-        let middle = low + (high - low) / 2;
-        if is_before(rules[middle], depth, prefix) {
-            low = middle + 1;
-        } else {
-            high = middle;
-        }
-    }
-    low
+    rules.partition_point(|rule| is_before(*rule, depth, prefix))
 }
 
 /// Where the rule of a depth and a prefix stands, or else where it would go.
 pub fn search(rules: &[Rule], depth: u8, prefix: u32) -> Result<usize, usize>
     requires { IsOrdered rules.now }
-    ensures found { IfOk result (λ place. IsFound rules.now depth prefix place) }
-    ensures missing { IfErr result (λ place. IsMissing rules.now depth prefix place) }
+    ensures found { IfOk result (λ index. IsFound rules.now depth prefix index) }
+    ensures missing { IfErr result (λ index. IsMissing rules.now depth prefix index) }
 {
-    let place = rules_before(rules, depth, prefix);
-    if place < rules.len() && rules[place].prefix == prefix && rules[place].depth == depth {
-        return Ok(place);
+    let index = rules_before(rules, depth, prefix);
+    if index < rules.len() && rules[index].prefix == prefix && rules[index].depth == depth {
+        return Ok(index);
     }
-    Err(place)
+    Err(index)
 }
 
 /// The entry of the deepest rule for an address, of those that are at most so deep.
 pub fn entry_within(rules: &[Rule], ip: u32, depth: u8) -> Entry
     requires order { IsOrdered rules.now }
-    requires most { depth ≤ 32 }
+    requires most { depth ≤ MAX_DEPTH }
     ensures { result ≡ entry_of (deepest_within depth (routes_of rules.now) ip) }
 {
     if depth == 0 {
         return Entry::Empty;
     }
     match search(rules, depth, prefix_of(ip, depth)) {
-        Ok(place) => Entry::Hop {
-            hop: rules[place].hop,
+        Ok(index) => Entry::Hop {
+            hop: rules[index].hop,
             depth,
         },
         Err(_) => entry_within(rules, ip, depth - 1),
     }
 }
 
-/// The rules go one place up, the last one is let go, and a rule goes first.
+/// Each rule goes up by one index, the last one is let go, and a rule goes first.
 fn put_first(rules: &mut [Rule], rule: Rule)
     requires { 0 < length rules.old }
     ensures { rules.new ≡ rule ∷ take (length rules.old - 1) rules.old }
@@ -93,18 +84,18 @@ fn put_first(rules: &mut [Rule], rule: Rule)
     rules[0] = rule;
 }
 
-/// A rule goes in at a place. There is room for it.
-pub fn insert(rules: &mut Vec<Rule>, place: usize, rule: Rule)
-    requires place { place ≤ length rules.old.items }
+/// A rule goes in at an index. There is room for it.
+pub fn insert(rules: &mut Vec<Rule>, index: usize, rule: Rule)
+    requires index { index ≤ length rules.old.items }
     requires room { length rules.old.items < vec_capacity rules.old }
-    ensures items { rules.new.items ≡ take place rules.old.items ++ rule ∷ drop place rules.old.items }
+    ensures items { rules.new.items ≡ take index rules.old.items ++ rule ∷ drop index rules.old.items }
     ensures capacity { vec_capacity rules.old ≤ vec_capacity rules.new }
 {
     let _ = rules.push(rule);
-    put_first(&mut rules[place..], rule);
+    put_first(&mut rules[index..], rule);
 }
 
-/// The first rule is let go, and the others go one place down; what stands in the last place stays there too. The range is one
+/// The first rule is let go, and the others go down by one index; what stands at the last index stays there too. The range is one
 /// that no other call here has, so that the compiler makes a `memmove` of this one.
 #[inline(never)]
 fn move_down(rules: &mut [Rule])
@@ -129,12 +120,12 @@ fn let_first_go(rules: &mut [Rule])
     }
 }
 
-/// The rule at a place goes out, and those behind it go one place down.
-pub fn remove(rules: &mut Vec<Rule>, place: usize)
-    requires { place < length rules.old.items }
-    ensures items { rules.new.items ≡ take place rules.old.items ++ drop (suc place) rules.old.items }
+/// The rule at an index goes out, and those behind it go down by one.
+pub fn remove(rules: &mut Vec<Rule>, index: usize)
+    requires { index < length rules.old.items }
+    ensures items { rules.new.items ≡ take index rules.old.items ++ drop (suc index) rules.old.items }
     ensures capacity { vec_capacity rules.new ≡ vec_capacity rules.old }
 {
-    let_first_go(&mut rules[place..]);
+    let_first_go(&mut rules[index..]);
     let _ = rules.pop();
 }

@@ -5,10 +5,8 @@ ghost use Rattle.dp_lpm.specs.Cells.{entry_in, group_in};
 
 use crate::cell::{Cell, Entry, fill, settle};
 use crate::error::Memory;
+use crate::limits::{FIRST_ENTRIES, GROUP_ENTRIES, MAX_DEPTH, MAX_GROUPS, MAX_RULES};
 use std::alloc::Global;
-
-/// How many entries there are for the first 24 bits.
-const FIRST_ENTRIES: usize = 0x100_0000;
 
 /// The entries of a table, and of each group how many rules are deeper than 24 bits in it: a group with none is free.
 #[derive(Drop)]
@@ -23,14 +21,14 @@ impl Table {
 
     /// A table without rules, of so many groups. It takes all its memory here.
     pub fn new(alloc: Global, groups: u32) -> Result<Table, Memory>
-        requires { groups ≤ 256 }
+        requires { groups ≤ MAX_GROUPS }
         ensures { IfOk result (λ t. IsEmptyTable groups t) }
     {
         let empty = Cell::of(Entry::Empty);
         let Ok(first) = Vec::from_elem(alloc, empty, FIRST_ENTRIES) else {
             return Err(Memory);
         };
-        let Ok(cells) = Vec::from_elem(alloc, empty, 256 * groups as usize) else {
+        let Ok(cells) = Vec::from_elem(alloc, empty, GROUP_ENTRIES * groups as usize) else {
             return Err(Memory);
         };
         let Ok(counts) = Vec::from_elem(alloc, 0u32, groups as usize) else {
@@ -48,27 +46,28 @@ impl Table {
         requires { IsTable self.now }
         ensures { result ≡ entry_for self.now ip }
     {
-        let entry = self.first[ip as usize / 256].entry();
+        let entry = self.first[ip as usize / GROUP_ENTRIES].entry();
         match entry {
-            Entry::Group(group) => self.cells[group as usize * 256 + ip as usize % 256].entry(),
+            Entry::Group(group) => self.cells[group as usize * GROUP_ENTRIES
+                + ip as usize % GROUP_ENTRIES].entry(),
             _ => entry,
         }
     }
 
-    /// Entries of the addresses with these first 24 bits, from the place low on, that are at most so deep become
+    /// Entries of the addresses with these first 24 bits, from low on among those, that are at most so deep become
     /// another one.
     fn settle_in(&mut self, first: usize, low: usize, count: usize, depth: u8, to: Cell)
         requires table { IsTable self.old }
-        requires there { first < 16777216 }
-        requires order { low + count ≤ 256 }
-        requires whole { group_at self.old first ≡ None → (low ≡ 0) × (count ≡ 256) }
-        requires depth { depth ≤ 32 }
+        requires there { first < FIRST_ENTRIES }
+        requires order { low + count ≤ GROUP_ENTRIES }
+        requires whole { group_at self.old first ≡ None → (low ≡ 0) × (count ≡ GROUP_ENTRIES) }
+        requires depth { depth ≤ MAX_DEPTH }
         requires to { group_in (entry_in to) ≡ None }
-        ensures { Settled (first * 256 + low) count depth (entry_in to) self.old self.new }
+        ensures { Settled (first * GROUP_ENTRIES + low) count depth (entry_in to) self.old self.new }
     {
         match self.first[first].entry() {
             Entry::Group(group) => {
-                let from = group as usize * 256 + low;
+                let from = group as usize * GROUP_ENTRIES + low;
                 settle(&mut self.cells, from, from + count, depth, to);
             }
             _ => settle(&mut self.first, first, first + 1, depth, to),
@@ -79,18 +78,24 @@ impl Table {
     pub fn settle(&mut self, start: u32, size: u32, depth: u8, to: Cell)
         requires table { IsTable self.old }
         requires range { IsEven start size }
-        requires part { size < 256 → (g : ℕ) × (group_at self.old (start / 256) ≡ Some g) }
-        requires depth { depth ≤ 32 }
+        requires part { size < GROUP_ENTRIES → (g : ℕ) × (group_at self.old (start / GROUP_ENTRIES) ≡ Some g) }
+        requires depth { depth ≤ MAX_DEPTH }
         requires to { group_in (entry_in to) ≡ None }
         ensures { Settled start size depth (entry_in to) self.old self.new }
     {
-        let first = start as usize / 256;
-        if size < 256 {
-            self.settle_in(first, start as usize % 256, size as usize, depth, to);
+        let first = start as usize / GROUP_ENTRIES;
+        if (size as usize) < GROUP_ENTRIES {
+            self.settle_in(
+                first,
+                start as usize % GROUP_ENTRIES,
+                size as usize,
+                depth,
+                to,
+            );
             return;
         }
-        for k in 0..size as usize / 256 {
-            self.settle_in(first + k, 0, 256, depth, to);
+        for k in 0..size as usize / GROUP_ENTRIES {
+            self.settle_in(first + k, 0, GROUP_ENTRIES, depth, to);
         }
     }
 
@@ -98,8 +103,8 @@ impl Table {
     /// `false` where no group is free.
     pub fn open(&mut self, first: usize) -> bool
         requires table { IsTable self.old }
-        requires there { first < 16777216 }
-        requires room { (g : ℕ) → group_at self.old first ≡ Some g → slice_index self.old.counts.items g < 65536 }
+        requires there { first < FIRST_ENTRIES }
+        requires room { (g : ℕ) → group_at self.old first ≡ Some g → slice_index self.old.counts.items g < MAX_RULES }
         ensures { MatchBool result (Opened first self.old self.new) (IsFull first self.old self.new) }
     {
         let cell = self.first[first];
@@ -110,7 +115,8 @@ impl Table {
         let Some(group) = free_group(&self.counts) else {
             return false;
         };
-        fill(&mut self.cells, group * 256, group * 256 + 256, cell);
+        let start = group * GROUP_ENTRIES;
+        fill(&mut self.cells, start, start + GROUP_ENTRIES, cell);
         self.first[first] = Cell::of(Entry::Group(group as u8));
         self.counts[group] = 1;
         true
@@ -127,7 +133,7 @@ impl Table {
             let group = group as usize;
             self.counts[group] -= 1;
             if self.counts[group] == 0 {
-                self.first[first] = self.cells[group * 256];
+                self.first[first] = self.cells[group * GROUP_ENTRIES];
             }
         }
     }

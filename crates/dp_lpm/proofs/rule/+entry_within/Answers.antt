@@ -12,8 +12,8 @@ returns-then-depth-eq0 t c =
 
 pub returns-in-Ok : goal.returns-in-Ok
 returns-in-Ok t c =
-    entry_found c.args.rules.now c.args.ip c.args.depth c.in-Ok.place (omega arith)
-    (subst (λ p. IsFound c.args.rules.now c.args.depth p c.in-Ok.place) c.prefix_of.ensures c.in-Ok.ensures.found)
+    entry_found c.args.rules.now c.args.ip c.args.depth c.in-Ok.index (omega arith)
+    (subst (λ p. IsFound c.args.rules.now c.args.depth p c.in-Ok.index) c.prefix_of.ensures c.in-Ok.ensures.found)
 
 pub returns-in-Err : goal.returns-in-Err
 returns-in-Err t c =

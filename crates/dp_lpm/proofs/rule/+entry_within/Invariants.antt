@@ -1,3 +1,4 @@
+-- Each call looks one depth lower.
 use Rattle.dp_lpm.proofs.rule.+entry_within.Given as goal
 
 -- proposed from what the function passes where it calls itself

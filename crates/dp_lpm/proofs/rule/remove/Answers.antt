@@ -1,4 +1,4 @@
--- The rules in front, and those behind one place down.
+-- The rules in front, and those behind one index down.
 use Rattle.std.proofs.Common.{suc, ◌-◌, ◌++◌, ◌<◌, take, drop, length, ap, sym, ◌∙◌, arith}
 use Rattle.std.proofs.lemmas.List.{with_items_is}
 use borrow.Rule.Slice.PartMut.{put_mid, same_len_mid}
@@ -9,11 +9,11 @@ pub returns-clause-items : goal.returns-clause-items
 returns-clause-items c =
     let was = c.deref_mut.result.now in
     let part = c.let_first_go.new.rules in
-    let left = put_mid c.args.place (length was - c.args.place) was part in
-    let there : c.args.place < length was = omega (arith, c.requires, ap length c.deref_mut.ensures.value) in
+    let left = put_mid c.args.index (length was - c.args.index) was part in
+    let there : c.args.index < length was = omega (arith, c.requires, ap length c.deref_mut.ensures.value) in
     c.pop.ensures.rest
     ∙ (ap (take (c.args.rules.now.len - 1)) (with_items_is c.args.rules.now left
-    (same_len_mid c.args.place (length was - c.args.place) was part c.let_first_go.ensures.len ∙ c.deref_mut.ensures.len))
+    (same_len_mid c.args.index (length was - c.args.index) was part c.let_first_go.ensures.len ∙ c.deref_mut.ensures.len))
     ∙ (ap (λ n. take (n - 1) left) (sym c.deref_mut.ensures.len)
-    ∙ (left_out c.args.place was part there c.let_first_go.ensures.len c.let_first_go.ensures.front
-    ∙ ap (λ rules. take c.args.place rules ++ drop (suc c.args.place) rules) c.deref_mut.ensures.value)))
+    ∙ (left_out c.args.index was part there c.let_first_go.ensures.len c.let_first_go.ensures.front
+    ∙ ap (λ rules. take c.args.index rules ++ drop (suc c.args.index) rules) c.deref_mut.ensures.value)))

@@ -1,17 +1,20 @@
--- One step of the search.
-use Rattle.std.proofs.Common.{sym, ◌∙◌, arith}
+-- The rules that come before are those in front of the answer.
+use Rattle.std.proofs.Common.{arith, rules}
+use Rattle.std.specs.Prelude.{nat_lt}
 use Rattle.std.proofs.lemmas.Bool.{ltb-true, ltb-false}
-use Rattle.dp_lpm.specs.Rules.{rank}
-use Rattle.dp_lpm.proofs.Order.{between_above, between_below}
+use Rattle.std.proofs.lemmas.List.Sorted.{IsPartitionPoint-from_clause, IsPartitionedBy-ltb, IsNonDecreasingBy-from_default}
+use Rattle.dp_lpm.specs.Rules.{rank, rank_of}
+use Rattle.dp_lpm.proofs.Order.{never_falls}
 use Rattle.dp_lpm.proofs.rule.rules_before.Goals as goal
 
-pub loop-low-preserved-then-is_before : goal.loop-low-preserved-then-is_before
-loop-low-preserved-then-is_before c =
-    between_above c.args.rules.now (rank c.args.depth c.args.prefix) c.loop-low.low c.loop-low.high _ c.requires c.loop-low.invariant (omega arith)
-    (ltb-true _ _ (sym c.is_before.ensures ∙ c.if-is_before.true))
-
-pub loop-low-preserved : goal.loop-low-preserved
-loop-low-preserved c =
-    between_below c.args.rules.now (rank c.args.depth c.args.prefix) c.loop-low.low c.loop-low.high _ c.requires c.loop-low.invariant (omega arith)
-    (omega arith)
-    (ltb-false _ _ (sym c.is_before.ensures ∙ c.if-is_before.false))
+pub returns : goal.returns
+returns c =
+    let key = rank c.args.depth c.args.prefix in
+    let parted = IsPartitionedBy-ltb rank_of c.args.rules.now key
+    (IsNonDecreasingBy-from_default rank_of c.args.rules.now (record { prefix = 0; depth = 0; hop = 0 }) (never_falls c.args.rules.now c.requires)) in
+    let point = IsPartitionPoint-from_clause (λ r. nat_lt (rank_of r) key) _ _ c.partition_point.ensures.partitioned parted (λ a r q k. search rules) in
+    record {
+      bound = c.partition_point.ensures.bound;
+      below = λ k lt. ltb-true _ _ (point.0 k _ (omega arith) lt);
+      above = λ k le there. ltb-false _ _ (point.1 k _ le there);
+    }

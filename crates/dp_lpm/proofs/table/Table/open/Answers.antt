@@ -8,7 +8,7 @@ use Rattle.dp_lpm.specs.Cells.{entry_in}
 use Rattle.dp_lpm.proofs.Entries.{grouped_by, plain_by, number_at, entry_at}
 use Rattle.dp_lpm.proofs.Filling.{FilledUpTo, filled_between}
 use Rattle.dp_lpm.proofs.Groups.{opened_more}
-use Rattle.dp_lpm.proofs.Opening.{opened_new, free_place}
+use Rattle.dp_lpm.proofs.Opening.{opened_new, free_index}
 use Rattle.dp_lpm.proofs.table.Table.open.Goals as goal
 
 pub index_mut-requires : goal.index_mut-requires
@@ -43,7 +43,7 @@ returns c =
       counts = with_item old.counts g 1;
     } in
     let none = plain_by old c.args.first c.index-cell.result.now (omega arith) c.index-cell.ensures (λ h e. c.in_default.not-Group h (c.entry.ensures ∙ e)) in
-    let free = free_place old.counts.items g (ap (position (λ n. n == 0)) (sym c.deref.ensures.value) ∙ (sym c.free_group.ensures ∙ c.in-Some.is)) in
+    let free = free_index old.counts.items g (ap (position (λ n. n == 0)) (sym c.deref.ensures.value) ∙ (sym c.free_group.ensures ∙ c.in-Some.is)) in
     let now = with_items_is old.cells c.fill.new.cells (c.fill.ensures.len ∙ c.deref_mut.ensures.len) in
     let first = entry_at old.first.items c.args.first c.index-cell.result.now (omega arith) c.index-cell.ensures in
     let so : FilledUpTo (g * 256) (g * 256 + 256) (entry_in c.index-cell.result.now) c.deref_mut.result.now c.fill.new.cells =

@@ -13,7 +13,7 @@ settle_in-requires-in-loop-k-clause-table c = c.loop-k.invariant.table
 
 pub loop-k-preserved : goal.loop-k-preserved
 loop-k-preserved c =
-    let whole = (c.requires.range.whole c.if-size-lt256.false).0 in
+    let whole = (c.requires.range.whole c.if-size-lt-GROUP_ENTRIES.false).0 in
     let next : (c.args.start / 256 + c.loop-k.k) * 256 + 0 ≡ c.args.start + c.loop-k.k * 256 = omega (arith, whole) in
     let more : c.loop-k.k * 256 + 256 ≡ (c.loop-k.k + 1) * 256 = omega arith in
     subst (λ n. Settled c.args.start n c.args.depth (entry_in c.args.to) c.args.self.now c.settle_in-in-loop-k.new.self) more
@@ -23,5 +23,5 @@ loop-k-preserved c =
 
 pub returns : goal.returns
 returns c =
-    let whole = (c.requires.range.whole c.if-size-lt256.false).1 in
+    let whole = (c.requires.range.whole c.if-size-lt-GROUP_ENTRIES.false).1 in
     subst (λ n. Settled c.args.start n c.args.depth (entry_in c.args.to) c.args.self.now c.loop-k.self) (omega (arith, whole)) c.loop-k.invariant

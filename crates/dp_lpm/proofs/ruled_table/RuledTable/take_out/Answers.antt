@@ -1,15 +1,15 @@
 -- The rule is out, and the entries of its prefix are those of the next.
 use Rattle.std.proofs.Common.{◌-◌, refl, sym, ◌∙◌, ap, subst}
-use Rattle.dp_lpm.specs.declared.store.Store.{Store}
+use Rattle.dp_lpm.specs.declared.ruled_table.RuledTable.{RuledTable}
 use Rattle.dp_lpm.specs.Cells.{IsStorable}
 use Rattle.dp_lpm.specs.Routes.{deepest_within}
 use Rattle.dp_lpm.specs.Rules.{routes_of, entry_of}
 use Rattle.dp_lpm.specs.Kept.{routes_in}
 use Rattle.dp_lpm.proofs.Deleting.{entry_fits, deep_group, taken_out}
-use Rattle.dp_lpm.proofs.store.Store.take_out.Goals as goal
+use Rattle.dp_lpm.proofs.ruled_table.RuledTable.take_out.Goals as goal
 
 pub settle-requires-clause-deep : goal.settle-requires-clause-deep
-settle-requires-clause-deep c = deep_group c.args.self.now c.args.ip c.args.depth c.args.place c.requires.kept c.requires.most c.requires.found
+settle-requires-clause-deep c = deep_group c.args.self.now c.args.ip c.args.depth c.args.index c.requires.kept c.requires.most c.requires.found
 
 pub settle-requires-clause-storable : goal.settle-requires-clause-storable
 settle-requires-clause-storable c =
@@ -20,8 +20,8 @@ settle-requires-clause-storable c =
 pub returns : goal.returns
 returns c =
     let old = c.args.self.now in
-    let mid : Store = record old { rules = c.remove.new.rules } in
-    taken_out old mid c.settle.new.self c.args.place c.args.ip c.args.depth c.entry_within-next.result c.requires.kept c.requires.found c.requires.some
+    let mid : RuledTable = record old { rules = c.remove.new.rules } in
+    taken_out old mid c.settle.new.self c.args.index c.args.ip c.args.depth c.entry_within-next.result c.requires.kept c.requires.found c.requires.some
     c.requires.most c.remove.ensures.items c.remove.ensures.capacity refl refl
     (c.entry_within-next.ensures ∙ ap (λ rules. entry_of (deepest_within (c.args.depth - 1) (routes_of rules) c.args.ip)) c.deref.ensures.value)
     c.settle.ensures.settled c.settle.ensures.rules c.settle.ensures.max_rules

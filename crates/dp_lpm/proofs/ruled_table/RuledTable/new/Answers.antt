@@ -1,7 +1,7 @@
 -- No rules, and empty entries.
 use Rattle.std.proofs.Common.{arith}
 use Rattle.dp_lpm.proofs.Starting.{begun}
-use Rattle.dp_lpm.proofs.store.Store.new.Goals as goal
+use Rattle.dp_lpm.proofs.ruled_table.RuledTable.new.Goals as goal
 
 pub returns-clause-kept : goal.returns-clause-kept
 returns-clause-kept c =

@@ -3,7 +3,7 @@ use Rattle.std.proofs.Common.{◌≡◌, ◌-◌, ◌*◌, ◌/◌, ◌%◌, ◌
 use Rattle.std.proofs.lemmas.Nat.{one_shl}
 use Rattle.dp_lpm.specs.Tables.{group_at, start_of, IsEven, Settled}
 use Rattle.dp_lpm.proofs.Ranges.{range_even, range_is, size_large, start_first}
-use Rattle.dp_lpm.proofs.store.Store.settle.Goals as goal
+use Rattle.dp_lpm.proofs.ruled_table.RuledTable.settle.Goals as goal
 
 pub settle-requires-clause-range : goal.settle-requires-clause-range
 settle-requires-clause-range c =

@@ -1,4 +1,4 @@
-// A table of rules, and the entries of all addresses.
+// The rules of a table, and the entries that go by them.
 
 ghost use Rattle.std.specs.Prelude.{◌≡◌, ℕ, ◌<◌, ◌≤◌, [], length, Some, None, IfOk, IfSome, OnOk, OnErr, IfErr};
 ghost use Rattle.dp_model.specs.Prefixes.{hop_for, LooksUp};
@@ -6,22 +6,20 @@ ghost use Rattle.dp_lpm.specs.Faults.{add_fault, delete_fault, added};
 
 use crate::cell::{Cell, Entry};
 use crate::error::{LpmError, Memory};
+use crate::limits::{FIRST_BITS, GROUP_ENTRIES, MAX_DEPTH, MAX_GROUPS, MAX_HOP, MAX_RULES};
 use crate::rule::{Rule, entry_within, insert, prefix_of, remove, search};
 use crate::table::Table;
 use std::alloc::Global;
 
-/// The greatest hop.
-const MAX_HOP: u32 = 0xff_ffff;
-
 /// The rules in their order, and the entries that go by them.
 #[derive(Drop)]
-pub struct Store {
+pub struct RuledTable {
     pub rules: Vec<Rule>,
     pub table: Table,
     pub max_rules: u32,
 }
 
-impl Store {
+impl RuledTable {
     ghost use Rattle.std.specs.Prelude.{◌+◌, ◌-◌, ◌/◌, ◌^◌, MatchResult};
     ghost use Rattle.dp_lpm.specs.Cells.{IsStorable, group_in};
     ghost use Rattle.dp_lpm.specs.Faults.{route_fault, new_fault};
@@ -31,9 +29,9 @@ impl Store {
     ghost use Rattle.dp_lpm.specs.Tables.{IsTable, group_at, start_of, Settled};
 
     /// No rules. It takes all its memory here.
-    pub fn new(alloc: Global, max_rules: u32, groups: u32) -> Result<Store, Memory>
-        requires rules { max_rules ≤ 65536 }
-        requires groups { groups ≤ 256 }
+    pub fn new(alloc: Global, max_rules: u32, groups: u32) -> Result<RuledTable, Memory>
+        requires rules { max_rules ≤ MAX_RULES }
+        requires groups { groups ≤ MAX_GROUPS }
         ensures kept { IfOk result IsKept }
         ensures shown { IfOk result (λ s. shown s ≡ record { routes = []; max_rules = max_rules; groups = groups }) }
     {
@@ -41,7 +39,7 @@ impl Store {
         let Ok(rules) = Vec::with_capacity(alloc, max_rules as usize) else {
             return Err(Memory);
         };
-        Ok(Store {
+        Ok(RuledTable {
             rules,
             table,
             max_rules,
@@ -53,7 +51,7 @@ impl Store {
         requires { IsKept self.now }
         ensures value { result ≡ hop_for (routes_in self.now) ip }
         ensures deepest { LooksUp (routes_in self.now) ip result }
-        ensures low { IfSome result (λ hop. hop ≤ 16777215) }
+        ensures low { IfSome result (λ hop. hop ≤ MAX_HOP) }
     {
         match self.table.entry_for(ip) {
             Entry::Hop { hop, .. } => Some(hop),
@@ -74,33 +72,37 @@ impl Store {
     fn settle(&mut self, ip: u32, depth: u8, to: Entry)
         requires table { IsTable self.old.table }
         requires some { 1 ≤ depth }
-        requires most { depth ≤ 32 }
-        requires deep { 24 < depth → (g : ℕ) × (group_at self.old.table (ip / 256) ≡ Some g) }
+        requires most { depth ≤ MAX_DEPTH }
+        requires deep { FIRST_BITS < depth → (g : ℕ) × (group_at self.old.table (ip / GROUP_ENTRIES) ≡ Some g) }
         requires storable { IsStorable to }
         requires leaf { group_in to ≡ None }
-        ensures settled { Settled (start_of ip depth) (2 ^ (32 - depth)) depth to self.old.table self.new.table }
+        ensures settled { Settled (start_of ip depth) (2 ^ (MAX_DEPTH - depth)) depth to self.old.table self.new.table }
         ensures rules { self.new.rules ≡ self.old.rules }
         ensures max_rules { self.new.max_rules ≡ self.old.max_rules }
     {
-        let size = 1 << (32 - depth);
+        let size = 1 << (MAX_DEPTH - depth);
         self.table.settle(ip - ip % size, size, depth, Cell::of(to));
     }
 
-    /// Takes in a rule whose place is known, if there is room for it and for its group.
-    fn put(&mut self, place: usize, rule: Rule) -> Result<(), LpmError>
+    /// Takes in a rule whose index is known, if there is room for it and for its group.
+    fn put(&mut self, index: usize, rule: Rule) -> Result<(), LpmError>
         requires kept { IsKept self.old }
         requires rule { IsRoute (route_of rule) }
-        requires place { IsMissing self.old.rules.items rule.depth rule.prefix place }
+        requires index { IsMissing self.old.rules.items rule.depth rule.prefix index }
         ensures { MatchResult result (λ _. TakesIn self.old self.new (route_of rule) × (new_fault (shown self.old) (route_of rule) ≡ None))
             (λ e. (new_fault (shown self.old) (route_of rule) ≡ Some e) × (self.new ≡ self.old)) }
     {
         if self.rules.len() >= self.max_rules as usize {
             return Err(LpmError::RulesFull);
         }
-        if rule.depth > 24 && !self.table.open((rule.prefix >> (rule.depth - 24)) as usize) {
+        if rule.depth > FIRST_BITS
+            && !self
+                .table
+                .open((rule.prefix >> (rule.depth - FIRST_BITS)) as usize)
+        {
             return Err(LpmError::GroupsFull);
         }
-        insert(&mut self.rules, place, rule);
+        insert(&mut self.rules, index, rule);
         Ok(())
     }
 
@@ -112,24 +114,24 @@ impl Store {
             (λ e. (route_fault (shown self.old) (route_of rule) ≡ Some e) × (self.new ≡ self.old)) }
     {
         match search(&self.rules, rule.depth, rule.prefix) {
-            Ok(place) => {
-                self.rules[place] = rule;
+            Ok(index) => {
+                self.rules[index] = rule;
                 Ok(())
             }
-            Err(place) => self.put(place, rule),
+            Err(index) => self.put(index, rule),
         }
     }
 
-    /// Takes out the rule at a place: the entries of its prefix become those of the next rule.
-    fn take_out(&mut self, place: usize, ip: u32, depth: u8)
+    /// Takes out the rule at an index: the entries of its prefix become those of the next rule.
+    fn take_out(&mut self, index: usize, ip: u32, depth: u8)
         requires kept { IsKept self.old }
         requires some { 1 ≤ depth }
-        requires most { depth ≤ 32 }
-        requires found { IsFound self.old.rules.items depth (prefix_of ip depth) place }
+        requires most { depth ≤ MAX_DEPTH }
+        requires found { IsFound self.old.rules.items depth (prefix_of ip depth) index }
         ensures { TakesOut self.old self.new ip depth }
     {
         let next = entry_within(&self.rules, ip, depth - 1);
-        remove(&mut self.rules, place);
+        remove(&mut self.rules, index);
         self.settle(ip, depth, next);
     }
 
@@ -140,7 +142,7 @@ impl Store {
         ensures ok { OnOk result (Puts (shown self.old) (shown self.new) (added ip depth hop) × (add_fault (shown self.old) ip depth hop ≡ None)) }
         ensures err { IfErr result (λ e. (add_fault (shown self.old) ip depth hop ≡ Some e) × (self.new ≡ self.old)) }
     {
-        if depth < 1 || depth > 32 {
+        if depth < 1 || depth > MAX_DEPTH {
             return Err(LpmError::BadDepth);
         }
         if hop > MAX_HOP {
@@ -162,15 +164,15 @@ impl Store {
         ensures ok { OnOk result (Drops (shown self.old) (shown self.new) (prefix_of ip depth) depth × (delete_fault (shown self.old) ip depth ≡ None)) }
         ensures err { IfErr result (λ e. (delete_fault (shown self.old) ip depth ≡ Some e) × (self.new ≡ self.old)) }
     {
-        if depth < 1 || depth > 32 {
+        if depth < 1 || depth > MAX_DEPTH {
             return Err(LpmError::BadDepth);
         }
-        let Ok(place) = search(&self.rules, depth, prefix_of(ip, depth)) else {
+        let Ok(index) = search(&self.rules, depth, prefix_of(ip, depth)) else {
             return Err(LpmError::NoRule);
         };
-        self.take_out(place, ip, depth);
-        if depth > 24 {
-            self.table.close(ip as usize / 256);
+        self.take_out(index, ip, depth);
+        if depth > FIRST_BITS {
+            self.table.close(ip as usize / GROUP_ENTRIES);
         }
         Ok(())
     }
