@@ -35,7 +35,7 @@ rest_take xs p w =
     ap (take w) (take_all (length xs - p) (drop p xs) (omega (arith, length-drop p xs))) ∙ ap (λ n. take n (drop p xs)) e
 
 module _ (ps : List PoolView) (v : Store) (h : ℕ) (e : shown ps ≡ v) (sound : Sound ps) where
-  -- ---- the part of a buffer that the first header tells of
+  -- ---- the part of a buffer that the first header has
 
   pub record FirstPart (x : Header) (k : Packet) : Type 0 where
     pub seg : Segment
@@ -76,39 +76,39 @@ module _ (ps : List PoolView) (v : Store) (h : ℕ) (e : shown ps ≡ v) (sound 
         number = f.lies.number;
       }
 
-  pub at_first : (x : Header) (place w : ℕ) → x ≡ header_at ps (numbered h) → HasSome v h (λ k. place + w ≤ first_len k) →
-      (place + w ≤ x.len) × HasObject ps x.buffer × (x.offset + x.len ≤ room_at (specs_of ps) x.buffer.pool) × (room_at (specs_of ps) x.buffer.pool ≤ 4096)
-  at_first x place w ex r =
+  pub at_first : (x : Header) (mbuf w : ℕ) → x ≡ header_at ps (numbered h) → HasSome v h (λ k. mbuf + w ≤ first_len k) →
+      (mbuf + w ≤ x.len) × HasObject ps x.buffer × (x.offset + x.len ≤ room_at (specs_of ps) x.buffer.pool) × (room_at (specs_of ps) x.buffer.pool ≤ 4096)
+  at_first x mbuf w ex r =
       let f = first_part x r.0 ex r.1 in
       let fit = r.2 in
       let l : first_len r.0 ≡ f.seg.len = ap first_len f.is in
       let n = f.len in
       (omega (arith, fit, l, n), f.object, f.fits, f.small)
 
-  pub loaded_is : (x : Header) (place w : ℕ) (bytes : List ℕ) → x ≡ header_at ps (numbered h) →
+  pub loaded_is : (x : Header) (mbuf w : ℕ) (bytes : List ℕ) → x ≡ header_at ps (numbered h) →
       bytes ≡ slice_range (bytes_of (buffers_of ps) x.buffer) x.offset (x.offset + x.len) →
-      Of v h (λ k. spelled (slice_range bytes place (place + w)) ≡ loaded place w k v.buffers)
-  loaded_is x place w bytes ex eb k has =
+      Of v h (λ k. spelled (slice_range bytes mbuf (mbuf + w)) ≡ loaded mbuf w k v.buffers)
+  loaded_is x mbuf w bytes ex eb k has =
       let f = first_part x k ex has in
-      ap (λ y. spelled (slice_range y place (place + w))) eb
-      ∙ (ap (λ y. spelled (slice_range (slice_range (bytes_of (buffers_of ps) y) x.offset (x.offset + x.len)) place (place + w))) f.buffer
-      ∙ (ap (λ y. spelled (slice_range (slice_range (bytes_of (buffers_of ps) f.seg.buffer) y (y + x.len)) place (place + w))) f.offset
-      ∙ (ap (λ y. spelled (slice_range (slice_range (bytes_of (buffers_of ps) f.seg.buffer) f.seg.offset (f.seg.offset + y)) place (place + w))) f.len
-      ∙ (ap (λ s. loaded place w (f.seg ∷ f.rest) s.buffers) e ∙ ap (λ j. loaded place w j v.buffers) (sym f.is)))))
+      ap (λ y. spelled (slice_range y mbuf (mbuf + w))) eb
+      ∙ (ap (λ y. spelled (slice_range (slice_range (bytes_of (buffers_of ps) y) x.offset (x.offset + x.len)) mbuf (mbuf + w))) f.buffer
+      ∙ (ap (λ y. spelled (slice_range (slice_range (bytes_of (buffers_of ps) f.seg.buffer) y (y + x.len)) mbuf (mbuf + w))) f.offset
+      ∙ (ap (λ y. spelled (slice_range (slice_range (bytes_of (buffers_of ps) f.seg.buffer) f.seg.offset (f.seg.offset + y)) mbuf (mbuf + w))) f.len
+      ∙ (ap (λ s. loaded mbuf w (f.seg ∷ f.rest) s.buffers) e ∙ ap (λ j. loaded mbuf w j v.buffers) (sym f.is)))))
 
-  pub stored_done : (ps' : List PoolView) (x : Header) (place w n at : ℕ) (bytes : List ℕ) → x ≡ header_at ps (numbered h) → IsLive v h →
-      at ≡ x.offset + place → bytes ≡ big_endian w n → RoomWritten ps x.buffer at bytes ps' → Sound ps' × Becomes v (shown ps') h (λ k. k) (stored place w n)
-  stored_done ps' x place w n at bytes ex live ea eb done =
+  pub stored_done : (ps' : List PoolView) (x : Header) (mbuf w n at : ℕ) (bytes : List ℕ) → x ≡ header_at ps (numbered h) → IsLive v h →
+      at ≡ x.offset + mbuf → bytes ≡ big_endian w n → RoomWritten ps x.buffer at bytes ps' → Sound ps' × Becomes v (shown ps') h (λ k. k) (stored mbuf w n)
+  stored_done ps' x mbuf w n at bytes ex live ea eb done =
       let d = settled ps' (slots_of ps) (bytes_whole ps ps' [] (slots_of ps) x.buffer at bytes sound done) in (
         d.0,
         λ k has. let f = first_part x k ex has in
-            seen ps ps' v (stored place w n k v.buffers) (slice_set v.slots h (Some k)) e done.specs
+            seen ps ps' v (stored mbuf w n k v.buffers) (slice_set v.slots h (Some k)) e done.specs
             (done.buffers
             ∙ (ap (λ y. written (buffers_of ps) y at bytes) f.buffer
-            ∙ (ap (λ y. written (buffers_of ps) f.seg.buffer y bytes) (ea ∙ ap (λ y. y + place) f.offset)
-            ∙ (ap (λ y. written (buffers_of ps) f.seg.buffer (f.seg.offset + place) y) eb
-            ∙ (ap (λ s. written s.buffers f.seg.buffer (f.seg.offset + place) (big_endian w n)) e
-            ∙ ap (λ j. stored place w n j v.buffers) (sym f.is))))))
+            ∙ (ap (λ y. written (buffers_of ps) f.seg.buffer y bytes) (ea ∙ ap (λ y. y + mbuf) f.offset)
+            ∙ (ap (λ y. written (buffers_of ps) f.seg.buffer (f.seg.offset + mbuf) y) eb
+            ∙ (ap (λ s. written s.buffers f.seg.buffer (f.seg.offset + mbuf) (big_endian w n)) e
+            ∙ ap (λ j. stored mbuf w n j v.buffers) (sym f.is))))))
             (d.1 ∙ (ap (λ s. s.slots) e ∙ sym (set_same v.slots h (Some k) has))),
       )
 

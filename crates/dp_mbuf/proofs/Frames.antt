@@ -45,7 +45,7 @@ number_small ps n are h =
 pub same_length : (ps ps' : List PoolView) → specs_of ps' ≡ specs_of ps → length ps' ≡ length ps
 same_length ps ps' e = sym (length_specs ps') ∙ (ap length e ∙ length_specs ps)
 
--- ---- what a slot says
+-- ---- what a slot shows
 
 pub positive : (n : ℕ) → 1 ≤ n → is_positive n ≡ true
 positive zero h = absurd (omega arith)

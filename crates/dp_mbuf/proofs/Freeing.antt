@@ -12,11 +12,11 @@ use Rattle.dp_mbuf.proofs.Live.{opened, settled, store_eq}
 use Rattle.dp_mbuf.proofs.InHand.{can_release, release_done}
 
 -- the rest of the packet is in hand, and its slot is empty
-pub record Freeing (ps : List PoolView) (place : Number) (i many : ℕ) (v : Store) (h : ℕ) : Type 0 where
+pub record Freeing (ps : List PoolView) (mbuf : Number) (i many : ℕ) (v : Store) (h : ℕ) : Type 0 where
   pub rest : Packet
   pub left : length rest + i ≡ many
   pub whole : Whole ps rest (set v.slots h None)
-  pub links : Linked (header_at ps) place rest
+  pub links : Linked (header_at ps) mbuf rest
   pub specs : specs_of ps ≡ v.pools
   pub buffers : buffers_of ps ≡ v.buffers
 
@@ -35,23 +35,23 @@ freeing_start ps ps' v h e sound live done =
       buffers = done.buffers ∙ ap (λ s. s.buffers) e;
     }
 
-module _ (ps : List PoolView) (place : Number) (i many : ℕ) (v : Store) (h : ℕ) (f : Freeing ps place i many v h) where
-  pub freeing_can : i < many → CanRelease ps place (header_at ps place).buffer
+module _ (ps : List PoolView) (mbuf : Number) (i many : ℕ) (v : Store) (h : ℕ) (f : Freeing ps mbuf i many v h) where
+  pub freeing_can : i < many → CanRelease ps mbuf (header_at ps mbuf).buffer
   freeing_can b = by f.rest f.left f.whole f.links
     where
-      by : (rest : Packet) → length rest + i ≡ many → Whole ps rest (set v.slots h None) → Linked (header_at ps) place rest →
-          CanRelease ps place (header_at ps place).buffer
+      by : (rest : Packet) → length rest + i ≡ many → Whole ps rest (set v.slots h None) → Linked (header_at ps) mbuf rest →
+          CanRelease ps mbuf (header_at ps mbuf).buffer
       by [] e w l = absurd (omega (arith, e, b))
-      by (s ∷ rest) e w l = can_release ps (set v.slots h None) place s rest w l
+      by (s ∷ rest) e w l = can_release ps (set v.slots h None) mbuf s rest w l
 
-  pub freeing_step : (ps' : List PoolView) (next : Number) → i < many → Released ps place (header_at ps place).buffer ps' → next ≡ (header_at ps place).next →
+  pub freeing_step : (ps' : List PoolView) (next : Number) → i < many → Released ps mbuf (header_at ps mbuf).buffer ps' → next ≡ (header_at ps mbuf).next →
       Freeing ps' next (i + 1) many v h
   freeing_step ps' next b r n = by f.rest f.left f.whole f.links
     where
-      by : (rest : Packet) → length rest + i ≡ many → Whole ps rest (set v.slots h None) → Linked (header_at ps) place rest → Freeing ps' next (i + 1) many v h
+      by : (rest : Packet) → length rest + i ≡ many → Whole ps rest (set v.slots h None) → Linked (header_at ps) mbuf rest → Freeing ps' next (i + 1) many v h
       by [] e w l = absurd (omega (arith, e, b))
       by (s ∷ rest) e w l =
-          let d = release_done ps ps' (set v.slots h None) place s rest w l r in
+          let d = release_done ps ps' (set v.slots h None) mbuf s rest w l r in
           record {
             rest = rest;
             left = omega (arith, e);

@@ -6,11 +6,11 @@ use Rattle.std.proofs.lemmas.Bool.{ltb-true, ltb-false, cases_Bool}
 use Rattle.std.proofs.lemmas.List.{length-take-le, get_or_append_left, get_or-append_right, get_or-take, get_or-drop, ext_get_or}
 use Rattle.dp_model.specs.Buffers.{Number, overwritten}
 use Rattle.dp_mbuf.specs.declared.header.Header.{Header}
-use Rattle.dp_mbuf.specs.Headers.{header_of, header_bytes, word, place, then_word}
+use Rattle.dp_mbuf.specs.Headers.{header_of, header_bytes, word, mbuf_number, then_word}
 use Rattle.dp_pool.specs.Pools.{PoolView, object_in, with_written}
 use Rattle.dp_mbuf.specs.Objects.{pool_in, header_at, header_with, HasObject, ArePools, HeaderSet}
 use Rattle.dp_mbuf.proofs.PoolLemmas.{Small, length_overwritten}
-use Rattle.dp_mbuf.proofs.ObjectLemmas.{number_eq, header_eq, header_back, word_back, place_back, object_pool, object_long, front_set}
+use Rattle.dp_mbuf.proofs.ObjectLemmas.{number_eq, header_eq, header_back, word_back, mbuf_back, object_pool, object_long, front_set}
 
 -- ---- bytes written over others
 
@@ -49,11 +49,11 @@ module _ (old : List ℕ) (at : ℕ) (new : List ℕ) (fits : at + length new �
   word_behind : (a : ℕ) → at + length new ≤ a → word (overwritten old at new) a ≡ word old a
   word_behind a b = omega (arith, byte_behind a b, byte_behind (a + 1) (omega arith))
 
-  place_before : (a : ℕ) → a + 4 ≤ at → place (overwritten old at new) a ≡ place old a
-  place_before a b = number_eq _ _ (word_before a (omega arith)) (word_before (a + 2) (omega arith))
+  mbuf_before : (a : ℕ) → a + 4 ≤ at → mbuf_number (overwritten old at new) a ≡ mbuf_number old a
+  mbuf_before a b = number_eq _ _ (word_before a (omega arith)) (word_before (a + 2) (omega arith))
 
-  place_behind : (a : ℕ) → at + length new ≤ a → place (overwritten old at new) a ≡ place old a
-  place_behind a b = number_eq _ _ (word_behind a b) (word_behind (a + 2) (omega arith))
+  mbuf_behind : (a : ℕ) → at + length new ≤ a → mbuf_number (overwritten old at new) a ≡ mbuf_number old a
+  mbuf_behind a b = number_eq _ _ (word_behind a b) (word_behind (a + 2) (omega arith))
 
 -- ---- two numbers written, one behind the other
 
@@ -135,8 +135,8 @@ module _ (o : List ℕ) (long : 128 ≤ length o) where
       let fits : 0 + length new ≤ length o = omega arith in
       header_eq _ _ (word_in o 0 new fits 0 0 refl (omega arith) ∙ word_back x)
       (omega (arith, word_behind o 0 new fits 2 (omega arith), word_behind o 0 new fits 4 (omega arith))) (word_behind o 0 new fits 6 (omega arith))
-      (word_behind o 0 new fits 8 (omega arith)) (place_behind o 0 new fits 10 (omega arith)) (place_behind o 0 new fits 14 (omega arith))
-      (place_behind o 0 new fits 18 (omega arith))
+      (word_behind o 0 new fits 8 (omega arith)) (mbuf_behind o 0 new fits 10 (omega arith)) (mbuf_behind o 0 new fits 14 (omega arith))
+      (mbuf_behind o 0 new fits 18 (omega arith))
 
   refs_written : (x : ℕ) → header_of (overwritten o 2 (then_word (x % 65536) (then_word (x / 65536) []))) ≡ record (header_of o) { refs = x }
   unfolding header_of
@@ -150,8 +150,8 @@ module _ (o : List ℕ) (long : 128 ≤ length o) where
         word_back (x % 65536),
         word_back (x / 65536),
       )) (word_behind o 2 new fits 6 (omega arith))
-      (word_behind o 2 new fits 8 (omega arith)) (place_behind o 2 new fits 10 (omega arith)) (place_behind o 2 new fits 14 (omega arith))
-      (place_behind o 2 new fits 18 (omega arith))
+      (word_behind o 2 new fits 8 (omega arith)) (mbuf_behind o 2 new fits 10 (omega arith)) (mbuf_behind o 2 new fits 14 (omega arith))
+      (mbuf_behind o 2 new fits 18 (omega arith))
 
   bounds_written : (x y : ℕ) → header_of (overwritten o 6 (then_word x (then_word y []))) ≡ record (header_of o) { offset = x; len = y }
   unfolding header_of
@@ -163,8 +163,8 @@ module _ (o : List ℕ) (long : 128 ≤ length o) where
         word_before o 6 new fits 2 (omega arith),
         word_before o 6 new fits 4 (omega arith),
       )) (word_in o 6 new fits 6 0 refl (omega arith) ∙ word_back x) (word_in o 6 new fits 8 2 refl (omega arith)
-      ∙ word_back y) (place_behind o 6 new fits 10 (omega arith)) (place_behind o 6 new fits 14 (omega arith))
-      (place_behind o 6 new fits 18 (omega arith))
+      ∙ word_back y) (mbuf_behind o 6 new fits 10 (omega arith)) (mbuf_behind o 6 new fits 14 (omega arith))
+      (mbuf_behind o 6 new fits 18 (omega arith))
 
   next_written : (n : Number) → header_of (overwritten o 10 (then_word n.pool (then_word n.index []))) ≡ record (header_of o) { next = n }
   unfolding header_of
@@ -177,7 +177,7 @@ module _ (o : List ℕ) (long : 128 ≤ length o) where
         word_before o 10 new fits 4 (omega arith),
       )) (word_before o 10 new fits 6 (omega arith)) (word_before o 10 new fits 8 (omega arith))
       (number_eq _ _ (word_in o 10 new fits 10 0 refl (omega arith)) (word_in o 10 new fits 12 2 refl (omega arith))
-      ∙ place_back n) (place_behind o 10 new fits 14 (omega arith)) (place_behind o 10 new fits 18 (omega arith))
+      ∙ mbuf_back n) (mbuf_behind o 10 new fits 14 (omega arith)) (mbuf_behind o 10 new fits 18 (omega arith))
 
   last_written : (n : Number) → header_of (overwritten o 14 (then_word n.pool (then_word n.index []))) ≡ record (header_of o) { last = n }
   unfolding header_of
@@ -189,8 +189,8 @@ module _ (o : List ℕ) (long : 128 ≤ length o) where
         word_before o 14 new fits 2 (omega arith),
         word_before o 14 new fits 4 (omega arith),
       )) (word_before o 14 new fits 6 (omega arith)) (word_before o 14 new fits 8 (omega arith))
-      (place_before o 14 new fits 10 (omega arith)) (number_eq _ _ (word_in o 14 new fits 14 0 refl (omega arith))
-      (word_in o 14 new fits 16 2 refl (omega arith)) ∙ place_back n) (place_behind o 14 new fits 18 (omega arith))
+      (mbuf_before o 14 new fits 10 (omega arith)) (number_eq _ _ (word_in o 14 new fits 14 0 refl (omega arith))
+      (word_in o 14 new fits 16 2 refl (omega arith)) ∙ mbuf_back n) (mbuf_behind o 14 new fits 18 (omega arith))
 
 -- ---- what became of the header
 

@@ -4,7 +4,7 @@ use Rattle.std.proofs.lemmas.List.{get_or-set_same, set-set}
 use Rattle.dp_model.specs.Buffers.{Number, overwritten}
 use Rattle.dp_pool.specs.Pools.{PoolView, object_in, with_object, with_written}
 use Rattle.dp_mbuf.specs.Headers.{then_word, with_hook}
-use Rattle.dp_mbuf.specs.Objects.{present, pool_in, header_at, HasObject, ArePlaces, HeaderSet, SlotBecomes}
+use Rattle.dp_mbuf.specs.Objects.{present, pool_in, header_at, HasObject, ArePoolSlots, HeaderSet, SlotBecomes}
 use Rattle.dp_mbuf.proofs.ObjectLemmas.{object_pool, object_long, slot_is}
 use Rattle.dp_mbuf.proofs.ObjectCalls.{are, listed, front_done}
 use Rattle.dp_mbuf.proofs.HeaderFields.{small_word, small_words, segs_done, last_done, hooked_twice}
@@ -19,11 +19,11 @@ written_again p i a b x y there =
     (sym (ap (λ z. set (set p.objects i first) i (overwritten z b y)) (get_or-set_same p.objects i first [] there)
     ∙ set-set p.objects i first (overwritten first b y)))
 
-module _ (pools : List (Option PoolView)) (ps : List PoolView) (e : present pools ≡ ps) (inv : ArePlaces pools) where
+module _ (pools : List (Option PoolView)) (ps : List PoolView) (e : present pools ≡ ps) (inv : ArePoolSlots pools) where
   -- at the number of the object itself
   hooked_here : (n : Number) (segs : ℕ) (last : Number) (d o : Option PoolView) → segs < 65536 → last.pool < 65536 → last.index < 65536 → HasObject ps n
       → SlotBecomes (λ p. with_object p n.index (with_hook (object_in p n.index) segs last)) (get_or pools n.pool d) o
-      → ArePlaces (set pools n.pool o) × HeaderSet ps n (record (header_at ps n) { segs = segs; last = last }) (present (set pools n.pool o))
+      → ArePoolSlots (set pools n.pool o) × HeaderSet ps n (record (header_at ps n) { segs = segs; last = last }) (present (set pools n.pool o))
   hooked_here n segs last d o few pool index object b =
       let x : List ℕ = then_word segs [] in
       let y : List ℕ = then_word last.pool (then_word last.index []) in
@@ -46,15 +46,15 @@ module _ (pools : List (Option PoolView)) (ps : List PoolView) (e : present pool
       (subst (λ v. SlotBecomes (λ p. with_written p n.index 14 y) v o) (sym (get_or-set_same pools n.pool (Some q) d below)) again) in
       let second = last_done (present middle) (present (set middle n.pool o)) n (object_long (present middle) n first.are object') y last last.pool last.index
       refl refl refl g.1 in
-      subst (λ l. ArePlaces l × HeaderSet ps n (record (header_at ps n) { segs = segs; last = last }) (present l)) (set-set pools n.pool (Some q) o)
+      subst (λ l. ArePoolSlots l × HeaderSet ps n (record (header_at ps n) { segs = segs; last = last }) (present l)) (set-set pools n.pool (Some q) o)
       (g.0, hooked_twice ps (present middle) (present (set middle n.pool o)) n segs last first second)
 
   pub hook_done : (n : Number) (k i segs : ℕ) (last : Number) (d o : Option PoolView) → k ≡ n.pool → i ≡ n.index → segs < 65536 → last.pool < 65536 →
       last.index < 65536 → HasObject ps n
       → SlotBecomes (λ p. with_object p i (with_hook (object_in p i) segs last)) (get_or pools k d) o
-      → ArePlaces (set pools k o) × HeaderSet ps n (record (header_at ps n) { segs = segs; last = last }) (present (set pools k o))
+      → ArePoolSlots (set pools k o) × HeaderSet ps n (record (header_at ps n) { segs = segs; last = last }) (present (set pools k o))
   hook_done n k i segs last d o ek ei few pool index object b =
-      subst (λ j. ArePlaces (set pools j o) × HeaderSet ps n (record (header_at ps n) { segs = segs; last = last }) (present (set pools j o))) (sym ek)
+      subst (λ j. ArePoolSlots (set pools j o) × HeaderSet ps n (record (header_at ps n) { segs = segs; last = last }) (present (set pools j o))) (sym ek)
       (hooked_here n segs last d o few pool index object
       (subst (λ j. SlotBecomes (λ p. with_object p j (with_hook (object_in p j) segs last)) (get_or pools n.pool d) o) ei
       (subst (λ j. SlotBecomes (λ p. with_object p i (with_hook (object_in p i) segs last)) (get_or pools j d) o) ek b)))

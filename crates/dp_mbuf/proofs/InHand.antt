@@ -76,7 +76,7 @@ pub less_links : (ps ps' : List PoolView) (n : Number) (s : Segment) (more : Pac
 less_links ps ps' n s more l f =
     linked_kept (header_at ps) (header_at ps') (header_at ps n).next more (λ m _. (f.headers m).link) l.1
 
--- ---- what a segment in hand says
+-- ---- what a segment in hand has
 
 module _ (ps : List PoolView) (slots : List (Option Packet)) (s : Segment) (more : Packet) (w : Whole ps (s ∷ more) slots) where
   abbrev ss : List Segment

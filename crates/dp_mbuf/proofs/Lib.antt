@@ -1,3 +1,4 @@
+-- The lemma files.
 pub mod PoolLemmas
 pub mod Spelled
 pub mod ObjectLemmas

@@ -80,7 +80,7 @@ linked_join h h' n m (a ∷ b ∷ rest) t some once l lt e s nx =
           (λ x q. e x (omega (arith, q, mbufs-cons a (b ∷ rest) x))) s nx),
     )
 
--- ---- one segment changed in place
+-- ---- one segment changed in mbuf
 
 -- the header of each segment is at its mbuf
 pub linked_at : (h : Number → Header) (n : Number) (before : Packet) (s : Segment) (rest : Packet) → Linked h n (before ++ s ∷ rest) → segment_at h s.mbuf ≡ s

@@ -1,4 +1,4 @@
--- What the headers say of a live packet, and what a call leaves of the store.
+-- What the headers show of a live packet, and what a call leaves of the store.
 use Rattle.std.proofs.Common.{◌≡◌, ℕ, zero, suc, ◌+◌, ◌-◌, ◌<◌, ◌≤◌, List, [], ◌∷◌, ◌++◌, length, Option, Some, None, refl, sym, ◌∙◌, ap, subst, arith}
 use Rattle.std.proofs.Common.{⊎_elim, get_or, set}
 use Rattle.std.specs.Prelude.{slice_set, replicate}
@@ -155,7 +155,7 @@ module _ (s : Segment) where
   last_mbuf_is n [] = refl
   last_mbuf_is n (a ∷ before) = last_mbuf_is a.mbuf before
 
--- the header of the last segment, as the first one tells of it
+-- the header of the last segment, as the first one has it
 pub record LastAt (ps : List PoolView) (h : ℕ) (k : Packet) : Type 0 where
   pub before : Packet
   pub seg : Segment

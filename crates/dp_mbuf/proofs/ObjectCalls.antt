@@ -1,4 +1,4 @@
--- The calls on objects: what they ask of a place for a pool, and what they leave.
+-- The calls on objects: what they ask of a slot for a pool, and what they leave.
 use Rattle.std.proofs.Common.{◌≡◌, ℕ, zero, suc, ◌+◌, ◌<◌, ◌≤◌, Bool, true, false, List, [], ◌∷◌, length, Option, Some, None, refl, sym, ◌∙◌, ap, subst}
 use Rattle.std.proofs.Common.{arith, get_or, set}
 use Rattle.std.specs.Prelude.{slice_get, count_by, not}
@@ -8,7 +8,7 @@ use Rattle.std.specs.List.{AllByRecursion}
 use Rattle.dp_model.specs.Environments.{room_at}
 use Rattle.dp_model.specs.Buffers.{Number}
 use Rattle.dp_pool.specs.Pools.{PoolView, with_written, got, put_back}
-use Rattle.dp_mbuf.specs.Objects.{present, pool_in, header_with, is_out, count_in, specs_of, HasObject, HasRooms, PoolsFirst, objects_in_all, ArePlaces}
+use Rattle.dp_mbuf.specs.Objects.{present, pool_in, header_with, is_out, count_in, specs_of, HasObject, HasRooms, PoolsFirst, objects_in_all, ArePoolSlots}
 use Rattle.dp_mbuf.specs.Objects.{ArePools, HeaderSet, RoomWritten, Taken, Given, SlotHas, SlotFits, SlotIsOut, SlotBecomes, SlotGives, slot_count, no_pool}
 use Rattle.dp_mbuf.proofs.PoolLemmas.{Small, pool_out}
 use Rattle.dp_mbuf.proofs.ObjectLemmas.{are_pools, object_pool, room_is, front_set, room_written, rooms_written, taken, given, slot_is, slot_below, slot_set}
@@ -25,7 +25,7 @@ out_pool [] k i e = cc
 out_pool (p ∷ ps) zero i e = omega arith
 out_pool (p ∷ ps) (suc k) i e = let q = out_pool ps k i e in omega (arith, q)
 
--- a pool of as many objects in the place of another changes no sum
+-- a pool of as many objects for another changes no sum
 as_many : (ps : List PoolView) (k : ℕ) (p : PoolView) → length p.objects ≡ length (pool_in ps k).objects → objects_in_all (set ps k p) ≡ objects_in_all ps
 as_many [] k p many = refl
 as_many (q ∷ ps) zero p many = omega (arith, many, sum_by-cons (λ (x : PoolView). length x.objects) p ps, sum_by-cons (λ (x : PoolView). length x.objects) q ps)
@@ -37,7 +37,7 @@ as_many (q ∷ ps) (suc k) p many =
       sum_by-cons (λ (x : PoolView). length x.objects) q ps,
     )
 
-module _ (pools : List (Option PoolView)) (ps : List PoolView) (e : present pools ≡ ps) (inv : ArePlaces pools) where
+module _ (pools : List (Option PoolView)) (ps : List PoolView) (e : present pools ≡ ps) (inv : ArePoolSlots pools) where
   pub are : ArePools ps
   are = subst ArePools e (are_pools pools inv.0 inv.1)
 
@@ -63,13 +63,13 @@ module _ (pools : List (Option PoolView)) (ps : List PoolView) (e : present pool
       (subst (λ o. SlotIsOut o n.index) (sym (slot_is pools ps n.pool d e (out_pool ps n.pool n.index out)))
       (out_there (pool_in ps n.pool).out n.index out)))
 
-  -- what is left at the place
+  -- what is left at the slot
   becomes : (k : ℕ) (d o : Option PoolView) (f : PoolView → PoolView) → k < length ps → SlotBecomes f (get_or pools k d) o → o ≡ Some (f (pool_in ps k))
   becomes k d o f h b = subst (λ x. SlotBecomes f x o) (slot_is pools ps k d e h) b
 
   -- the pools with one of them replaced
   replaced : (k : ℕ) (o : Option PoolView) (p : PoolView) → k < length ps → o ≡ Some p → HasRooms p → length p.objects ≡ length (pool_in ps k).objects →
-      ArePlaces (set pools k o) × (present (set pools k o) ≡ set ps k p)
+      ArePoolSlots (set pools k o) × (present (set pools k o) ≡ set ps k p)
   replaced k o p h eo rooms many =
       let is = slot_set pools ps k o p e h eo in (
         (
@@ -85,7 +85,7 @@ module _ (pools : List (Option PoolView)) (ps : List PoolView) (e : present pool
       omega (arith, front, (are.rooms n.pool (object_pool ps n object)).header)
 
   pub front_done : (n : Number) (k i at : ℕ) (bytes : List ℕ) (d o : Option PoolView) → k ≡ n.pool → i ≡ n.index → Small bytes → HasObject ps n →
-      at + length bytes ≤ 128 → SlotBecomes (λ p. with_written p i at bytes) (get_or pools k d) o → ArePlaces (set pools k o)
+      at + length bytes ≤ 128 → SlotBecomes (λ p. with_written p i at bytes) (get_or pools k d) o → ArePoolSlots (set pools k o)
       × HeaderSet ps n (header_with ps n at bytes) (present (set pools k o))
   front_done n k i at bytes d o ek ei small object front b =
       let there : n.pool < length ps = object_pool ps n object in
@@ -96,7 +96,7 @@ module _ (pools : List (Option PoolView)) (ps : List PoolView) (e : present pool
       (becomes k d o (λ p. with_written p i at bytes) (subst (λ j. j < length ps) (sym ek) there) b)) in
       let r = replaced n.pool o (with_written (pool_in ps n.pool) n.index at bytes) there left (rooms_written ps n are object at bytes small fit)
       (length-set (pool_in ps n.pool).objects n.index _) in
-      subst (λ j. ArePlaces (set pools j o) × HeaderSet ps n (header_with ps n at bytes) (present (set pools j o))) (sym ek)
+      subst (λ j. ArePoolSlots (set pools j o) × HeaderSet ps n (header_with ps n at bytes) (present (set pools j o))) (sym ek)
       (r.0, subst (HeaderSet ps n (header_with ps n at bytes)) (sym r.1) (front_set ps n at bytes are object small front fit))
 
   pub room_fits : (n : Number) (at m : ℕ) → HasObject ps n → at + m ≤ room_at (specs_of ps) n.pool → 128 + at + m ≤ (pool_in ps n.pool).size
@@ -108,7 +108,7 @@ module _ (pools : List (Option PoolView)) (ps : List PoolView) (e : present pool
 
   pub room_done : (n : Number) (k i at : ℕ) (bytes : List ℕ) (d o : Option PoolView) → k ≡ n.pool → i ≡ n.index → Small bytes → HasObject ps n →
       128 + at + length bytes ≤ (pool_in ps n.pool).size → SlotBecomes (λ p. with_written p i (128 + at) bytes) (get_or pools k d) o →
-      ArePlaces (set pools k o) × RoomWritten ps n at bytes (present (set pools k o))
+      ArePoolSlots (set pools k o) × RoomWritten ps n at bytes (present (set pools k o))
   room_done n k i at bytes d o ek ei small object fit b =
       let there : n.pool < length ps = object_pool ps n object in
       let left : o ≡ Some (with_written (pool_in ps n.pool) n.index (128 + at) bytes) =
@@ -117,11 +117,11 @@ module _ (pools : List (Option PoolView)) (ps : List PoolView) (e : present pool
       (becomes k d o (λ p. with_written p i (128 + at) bytes) (subst (λ j. j < length ps) (sym ek) there) b)) in
       let r = replaced n.pool o (with_written (pool_in ps n.pool) n.index (128 + at) bytes) there left
       (rooms_written ps n are object (128 + at) bytes small fit) (length-set (pool_in ps n.pool).objects n.index _) in
-      subst (λ j. ArePlaces (set pools j o) × RoomWritten ps n at bytes (present (set pools j o))) (sym ek)
+      subst (λ j. ArePoolSlots (set pools j o) × RoomWritten ps n at bytes (present (set pools j o))) (sym ek)
       (r.0, subst (RoomWritten ps n at bytes) (sym r.1) (room_written ps n at bytes are object small fit))
 
   pub give_done : (n : Number) (k i : ℕ) (d o : Option PoolView) → k ≡ n.pool → i ≡ n.index → is_out ps n ≡ true →
-      SlotBecomes (λ p. put_back p i) (get_or pools k d) o → ArePlaces (set pools k o) × Given ps n (present (set pools k o))
+      SlotBecomes (λ p. put_back p i) (get_or pools k d) o → ArePoolSlots (set pools k o) × Given ps n (present (set pools k o))
   give_done n k i d o ek ei out b =
       let there : n.pool < length ps = out_pool ps n.pool n.index out in
       let rooms = are.rooms n.pool there in
@@ -134,11 +134,11 @@ module _ (pools : List (Option PoolView)) (ps : List PoolView) (e : present pool
         header = rooms.header;
         room = rooms.room;
       }) refl in
-      subst (λ j. ArePlaces (set pools j o) × Given ps n (present (set pools j o))) (sym ek)
+      subst (λ j. ArePoolSlots (set pools j o) × Given ps n (present (set pools j o))) (sym ek)
       (r.0, subst (Given ps n) (sym r.1) (given ps n are there (out_there (pool_in ps n.pool).out n.index out)))
 
   -- an object handed out
-  pub take_some : (k i : ℕ) (d o : Option PoolView) → k < length ps → SlotGives (get_or pools k d) (Some i) o → ArePlaces (set pools k o)
+  pub take_some : (k i : ℕ) (d o : Option PoolView) → k < length ps → SlotGives (get_or pools k d) (Some i) o → ArePoolSlots (set pools k o)
       × Taken ps (record { pool = k; index = i }) (present (set pools k o))
   take_some k i d o there b =
       let rooms = are.rooms k there in
@@ -151,7 +151,7 @@ module _ (pools : List (Option PoolView)) (ps : List PoolView) (e : present pool
       }) refl in
       (r.0, subst (Taken ps (record { pool = k; index = i })) (sym r.1) (taken ps (record { pool = k; index = i }) are there g.0))
 
-  pub take_none : (k : ℕ) (d o : Option PoolView) → k < length ps → SlotGives (get_or pools k d) None o → ArePlaces (set pools k o) × (count_in ps k ≡ 0)
+  pub take_none : (k : ℕ) (d o : Option PoolView) → k < length ps → SlotGives (get_or pools k d) None o → ArePoolSlots (set pools k o) × (count_in ps k ≡ 0)
       × (present (set pools k o) ≡ ps)
   take_none k d o there b =
       let g : (count_by not (pool_in ps k).out ≡ 0) × (o ≡ Some (pool_in ps k)) =
@@ -180,13 +180,13 @@ slot_count_is (None ∷ pools) (suc k) d first h = no_slot pools k d first (omeg
 slot_count_is (Some p ∷ pools) zero d first h = refl
 slot_count_is (Some p ∷ pools) (suc k) d first h = slot_count_is pools k d first.1 (omega arith)
 
-pub counted : (pools : List (Option PoolView)) (ps : List PoolView) (k j : ℕ) (d : Option PoolView) → present pools ≡ ps → ArePlaces pools → k ≡ j → j < 8 →
+pub counted : (pools : List (Option PoolView)) (ps : List PoolView) (k j : ℕ) (d : Option PoolView) → present pools ≡ ps → ArePoolSlots pools → k ≡ j → j < 8 →
     slot_count (get_or pools k d) ≡ length (pool_in ps j).objects
 counted pools ps k j d e inv ek h =
     ap (λ i. slot_count (get_or pools i d)) ek
     ∙ (slot_count_is pools j d inv.1 (omega (arith, h, inv.0)) ∙ ap (λ q. length (pool_in q j).objects) e)
 
-pub counted_none : (pools : List (Option PoolView)) (ps : List PoolView) (j : ℕ) → present pools ≡ ps → ArePlaces pools → 8 ≤ j →
+pub counted_none : (pools : List (Option PoolView)) (ps : List PoolView) (j : ℕ) → present pools ≡ ps → ArePoolSlots pools → 8 ≤ j →
     length (pool_in ps j).objects ≡ 0
 counted_none pools ps j e inv h =
     let few = (are pools ps e inv).few in

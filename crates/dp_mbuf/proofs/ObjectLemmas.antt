@@ -11,7 +11,7 @@ use Rattle.dp_model.specs.declared.env.PoolSpec.{PoolSpec}
 use Rattle.dp_model.specs.Environments.{room_at, count_at}
 use Rattle.dp_model.specs.Buffers.{Number, same_number, bytes_of, overwritten}
 use Rattle.dp_mbuf.specs.declared.header.Header.{Header}
-use Rattle.dp_mbuf.specs.Headers.{header_of, header_bytes, word, place}
+use Rattle.dp_mbuf.specs.Headers.{header_of, header_bytes, word, mbuf_number}
 use Rattle.dp_pool.specs.Pools.{PoolView, IsPool, object_in, with_written, got, put_back}
 use Rattle.dp_mbuf.specs.Objects.{present, no_pool, pool_in, header_at, header_with, is_out, count_in, spec_of, specs_of, rooms_of, buffers_of, zones_of}
 use Rattle.dp_mbuf.specs.Objects.{HasObject, HasRooms, HeadersFirst, PoolsFirst, ArePools, HeaderSet, RoomWritten, Taken, Given}
@@ -65,20 +65,20 @@ header_eq g h a b c d e f i =
 pub word_back : (x : ℕ) → x % 256 + (x / 256) * 256 ≡ x
 word_back x = omega arith
 
-pub place_back : (n : Number) → record { pool = n.pool % 256 + (n.pool / 256) * 256; index = n.index % 256 + (n.index / 256) * 256 } ≡ n
-place_back n = number_eq _ n (word_back n.pool) (word_back n.index)
+pub mbuf_back : (n : Number) → record { pool = n.pool % 256 + (n.pool / 256) * 256; index = n.index % 256 + (n.index / 256) * 256 } ≡ n
+mbuf_back n = number_eq _ n (word_back n.pool) (word_back n.index)
 
 pub header_back : (h : Header) (rest : List ℕ) → header_of (header_bytes h ++ rest) ≡ h
 unfolding header_of
 header_back h rest =
     header_eq _ h (word_back h.segs) (omega (arith, word_back (h.refs % 65536), word_back (h.refs / 65536))) (word_back h.offset) (word_back h.len)
-    (place_back h.next) (place_back h.last) (place_back h.buffer)
+    (mbuf_back h.next) (mbuf_back h.last) (mbuf_back h.buffer)
 
 word_same : (xs ys : List ℕ) (a : ℕ) → ((k : ℕ) → k < 128 → get_or xs k 0 ≡ get_or ys k 0) → a + 1 < 128 → word xs a ≡ word ys a
 word_same xs ys a e h = omega (arith, e a (omega arith), e (a + 1) h)
 
-place_same : (xs ys : List ℕ) (a : ℕ) → ((k : ℕ) → k < 128 → get_or xs k 0 ≡ get_or ys k 0) → a + 3 < 128 → place xs a ≡ place ys a
-place_same xs ys a e h = number_eq _ _ (word_same xs ys a e (omega arith)) (word_same xs ys (a + 2) e (omega arith))
+mbuf_same : (xs ys : List ℕ) (a : ℕ) → ((k : ℕ) → k < 128 → get_or xs k 0 ≡ get_or ys k 0) → a + 3 < 128 → mbuf_number xs a ≡ mbuf_number ys a
+mbuf_same xs ys a e h = number_eq _ _ (word_same xs ys a e (omega arith)) (word_same xs ys (a + 2) e (omega arith))
 
 -- a header depends on the first bytes alone
 pub header_same : (xs ys : List ℕ) → ((k : ℕ) → k < 128 → get_or xs k 0 ≡ get_or ys k 0) → header_of xs ≡ header_of ys
@@ -86,7 +86,7 @@ unfolding header_of
 header_same xs ys e =
     header_eq (header_of xs) (header_of ys) (word_same xs ys 0 e (omega arith))
     (omega (arith, word_same xs ys 2 e (omega arith), word_same xs ys 4 e (omega arith))) (word_same xs ys 6 e (omega arith))
-    (word_same xs ys 8 e (omega arith)) (place_same xs ys 10 e (omega arith)) (place_same xs ys 14 e (omega arith)) (place_same xs ys 18 e (omega arith))
+    (word_same xs ys 8 e (omega arith)) (mbuf_same xs ys 10 e (omega arith)) (mbuf_same xs ys 14 e (omega arith)) (mbuf_same xs ys 18 e (omega arith))
 
 -- ---- tables
 
@@ -122,21 +122,21 @@ present_set (Some q ∷ pools) zero p h = refl
 present_set (Some q ∷ pools) (suc k) p h = ap (λ ps. q ∷ ps) (present_set pools k p (omega arith))
 
 -- pools with room for a header are pools of mbufs
-pub places_first : (pools : List (Option PoolView)) → HeadersFirst pools → ((k : ℕ) (p : PoolView) → slice_get pools k ≡ Some (Some p) → IsPool p) →
+pub slots_first : (pools : List (Option PoolView)) → HeadersFirst pools → ((k : ℕ) (p : PoolView) → slice_get pools k ≡ Some (Some p) → IsPool p) →
     PoolsFirst pools
-places_first [] first known = tt
-places_first (None ∷ pools) first known = first
-places_first (Some p ∷ pools) first known =
+slots_first [] first known = tt
+slots_first (None ∷ pools) first known = first
+slots_first (Some p ∷ pools) first known =
     let pool = known 0 p refl in (
       record { pool = pool; header = first.0; room = pool.size.1 },
-      places_first pools first.1 (λ k. known (suc k)),
+      slots_first pools first.1 (λ k. known (suc k)),
     )
 
--- what is known of the pools before a place, and of the place's, is known up to there
-pub told_more : (pools : List (Option PoolView)) (i : ℕ) (o : Option PoolView) → o ≡ get_or pools i o → IfSome o IsPool →
+-- what is known of the pools before a mbuf, and of the mbuf's, is known up to there
+pub law_of_more : (pools : List (Option PoolView)) (i : ℕ) (o : Option PoolView) → o ≡ get_or pools i o → IfSome o IsPool →
     ((k : ℕ) (p : PoolView) → k < i → slice_get pools k ≡ Some (Some p) → IsPool p)
     → (k : ℕ) (p : PoolView) → k < i + 1 → slice_get pools k ≡ Some (Some p) → IsPool p
-told_more pools i o is known before k p low at = ⊎_elim
+law_of_more pools i o is known before k p low at = ⊎_elim
     (λ (e : k ≡ i). subst (λ x. IfSome x IsPool) (is ∙ get_some pools i (Some p) o (ap (slice_get pools) (sym e) ∙ at)) known)
     (λ ne. before k p (omega (arith, low, ne)) at)
     (cases_eq k i)
@@ -436,7 +436,7 @@ given ps n are there is = record {
   others = others_moved ps n are there false true is (put_back (pool_in ps n.pool) n.index).cached;
 }
 
--- ---- places for pools
+-- ---- slots for pools
 
 pub slot_is : (pools : List (Option PoolView)) (ps : List PoolView) (k : ℕ) (d : Option PoolView) → present pools ≡ ps → k < length ps →
     get_or pools k d ≡ Some (pool_in ps k)

@@ -19,18 +19,18 @@ use Rattle.dp_mbuf.proofs.Cloning.{source_at, drop_some, all_drop}
 
 -- ---- along the links
 
-pub walk_object : (ps : List PoolView) (first place : Number) (k i : ℕ) (w : HasWalk ps first k) → Linked (header_at ps) place (drop i w.0) → i < k →
-    HasObject ps place
-walk_object ps first place k i w l b =
+pub walk_object : (ps : List PoolView) (first mbuf : Number) (k i : ℕ) (w : HasWalk ps first k) → Linked (header_at ps) mbuf (drop i w.0) → i < k →
+    HasObject ps mbuf
+walk_object ps first mbuf k i w l b =
     let d = drop_some i w.0 (let q = w.3 in omega (arith, b, q)) in
     let n = subst (AllByRecursion (λ s. IsNumber (specs_of ps) s.mbuf)) d.2 (all_drop (λ s. IsNumber (specs_of ps) s.mbuf) i w.0 w.2) in
-    subst (HasObject ps) (first_mbuf (header_at ps) place d.0 d.1 (subst (Linked (header_at ps) place) d.2 l)) (object_of ps d.0.mbuf n.0)
+    subst (HasObject ps) (first_mbuf (header_at ps) mbuf d.0 d.1 (subst (Linked (header_at ps) mbuf) d.2 l)) (object_of ps d.0.mbuf n.0)
 
-pub walk_next : (h : Number → Header) (place : Number) (i : ℕ) (p : Packet) → i < length p → Linked h place (drop i p) →
-    Linked h (h place).next (drop (i + 1) p)
-walk_next h place i p b l =
+pub walk_next : (h : Number → Header) (mbuf : Number) (i : ℕ) (p : Packet) → i < length p → Linked h mbuf (drop i p) →
+    Linked h (h mbuf).next (drop (i + 1) p)
+walk_next h mbuf i p b l =
     let d = drop_some i p b in
-    subst (Linked h (h place).next) (sym d.3) (subst (Linked h place) d.2 l).1
+    subst (Linked h (h mbuf).next) (sym d.3) (subst (Linked h mbuf) d.2 l).1
 
 -- ---- one segment
 

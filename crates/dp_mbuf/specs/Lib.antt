@@ -1,3 +1,4 @@
+-- What the contracts of mbufs name.
 pub mod Headers
 pub mod Objects
 pub mod Mbufs

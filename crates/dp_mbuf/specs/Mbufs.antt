@@ -7,6 +7,7 @@ use Rattle.dp_model.specs.Buffers.{Number, same_number, IsNumber}
 use Rattle.dp_model.specs.Packets.{Segment, Packet, refs, Lies}
 use Rattle.dp_model.specs.Machine.{segments_held}
 use Rattle.dp_model.specs.Stores.{Store}
+use Rattle.dp_mbuf.specs.declared.limits.TheConstants.{MAX_MBUFS, MAX_POOLS, MAX_SEGMENTS, POOL_HANDLES}
 use Rattle.dp_mbuf.specs.declared.header.Header.{Header}
 use Rattle.dp_pool.specs.Pools.{PoolZones, PoolView}
 use Rattle.dp_mbuf.specs.Objects.{header_at, is_out, specs_of, buffers_of, zones_of, present, objects_in_all, HeadersFirst, PoolsFirst, ArePools, AreAllIn}
@@ -14,17 +15,17 @@ use Rattle.dp_mbuf.specs.Objects.{header_at, is_out, specs_of, buffers_of, zones
 -- ---- what contracts see: a packet's handle is the number of its first mbuf
 
 abbrev pub handle : Number → ℕ
-handle n = n.pool * 65536 + n.index
+handle n = n.pool * POOL_HANDLES + n.index
 
 abbrev pub numbered : ℕ → Number
-numbered h = record { pool = h / 65536; index = h % 65536 }
+numbered h = record { pool = h / POOL_HANDLES; index = h % POOL_HANDLES }
 
 -- whether there is one at all
 abbrev pub is_positive : ℕ → Bool
 is_positive zero = false
 is_positive (suc n) = true
 
--- the segment that a header tells of
+-- the segment of a header
 abbrev pub segment_at : (Number → Header) → Number → Segment
 segment_at h n = record { mbuf = n; buffer = (h n).buffer; offset = (h n).offset; len = (h n).len }
 
@@ -46,7 +47,7 @@ slots_from ps h zero = []
 slots_from ps h (suc k) = packet_at ps (numbered h) ∷ slots_from ps (suc h) k
 
 unfoldable pub slots_of : List PoolView → List (Option Packet)
-slots_of ps = slots_from ps 0 (65536 * length ps)
+slots_of ps = slots_from ps 0 (POOL_HANDLES * length ps)
 
 abbrev pub shown : List PoolView → Store
 shown ps = record { pools = specs_of ps; buffers = buffers_of ps; slots = slots_of ps }
@@ -71,11 +72,11 @@ abbrev pub last_mbuf : Number → Packet → Number
 last_mbuf n [] = n
 last_mbuf n (s ∷ rest) = last_mbuf s.mbuf rest
 
--- the first header tells how many segments there are and which is the last
+-- the first header has how many segments there are and which is the last
 pub record Stands (ps : List PoolView) (n : Number) (k : Packet) : Type 0 where
   pub out : is_out ps n ≡ true
   pub some : 1 ≤ length k
-  pub few : length k ≤ 64
+  pub few : length k ≤ MAX_SEGMENTS
   pub segs : (header_at ps n).segs ≡ length k
   pub last : (header_at ps n).last ≡ last_mbuf n k
   pub links : Linked (header_at ps) n k
@@ -84,9 +85,9 @@ abbrev pub StandsAt : List PoolView → Number → Option Packet → Type 0
 StandsAt ps n None = is_head ps n ≡ false
 StandsAt ps n (Some k) = Stands ps n k
 
--- the headers tell of these packets, and of no others
+-- the headers are those of these packets, and of no others
 pub record Shows (ps : List PoolView) (slots : List (Option Packet)) : Type 0 where
-  pub many : length slots ≡ 65536 * length ps
+  pub many : length slots ≡ POOL_HANDLES * length ps
   pub each : (h : ℕ) → StandsAt ps (numbered h) (slice_index_or slots h None)
 
 -- the links from n on reach a k-th mbuf, and each mbuf before it is an object
@@ -129,12 +130,12 @@ mbufs_in_all pools = sum_by (λ p. p.count) pools
 
 -- ---- making and unmaking
 
--- one to eight pools whose objects have room for a header, of at most 65,535 objects in all, all of them in
+-- one to `MAX_POOLS` pools whose objects have room for a header, of at most `MAX_MBUFS` objects in all, all of them in
 pub record AreReady (pools : List (Option PoolView)) : Type 0 where
   pub first : HeadersFirst pools
   pub some : 1 ≤ length (present pools)
-  pub few : length (present pools) ≤ 8
-  pub mbufs : objects_in_all (present pools) ≤ 65535
+  pub few : length (present pools) ≤ MAX_POOLS
+  pub mbufs : objects_in_all (present pools) ≤ MAX_MBUFS
   pub all_in : AreAllIn (present pools)
 
 -- over these pools, with the bytes that stand behind the headers, and no packet
@@ -142,7 +143,7 @@ pub record IsNew (pools : List (Option PoolView)) (m : MbufsView) : Type 0 where
   pub pools_are : m.store.pools ≡ specs_of (present pools)
   pub buffers : m.store.buffers ≡ buffers_of (present pools)
   pub zones : m.zones ≡ zones_of (present pools)
-  pub empty : m.store.slots ≡ replicate (65536 * length m.store.pools) None
+  pub empty : m.store.slots ≡ replicate (POOL_HANDLES * length m.store.pools) None
 
 -- no packet, live or parked
 abbrev pub HasNone : Store → Type 0

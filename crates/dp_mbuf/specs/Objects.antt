@@ -4,6 +4,7 @@ use Rattle.std.specs.Prelude.{slice_index_or}
 use Rattle.std.specs.List.{AllByRecursion}
 use Rattle.dp_model.specs.declared.env.PoolSpec.{PoolSpec}
 use Rattle.dp_model.specs.Buffers.{Number, same_number, Buffers, overwritten, written}
+use Rattle.dp_mbuf.specs.declared.limits.TheConstants.{HEADER_SIZE, MAX_MBUFS, MAX_OBJECT_SIZE, MAX_POOLS}
 use Rattle.dp_mbuf.specs.declared.header.Header.{Header}
 use Rattle.dp_pool.specs.Pools.{PoolZones, PoolView, IsPool, object_in, got}
 use Rattle.dp_pool.specs.Queues.{in_count}
@@ -11,7 +12,7 @@ use Rattle.dp_mbuf.specs.Headers.{header_of}
 
 -- ---- what is read of pools
 
--- the pools of a list of places for pools, of which the first are filled
+-- the pools of a list of slots for pools, of which the first are filled
 abbrev pub present : List (Option PoolView) → List PoolView
 present [] = []
 present (None ∷ pools) = []
@@ -34,7 +35,7 @@ pool_in pools k = slice_index_or pools k no_pool
 abbrev pub header_at : List PoolView → Number → Header
 header_at pools n = header_of (object_in (pool_in pools n.pool) n.index)
 
--- and after these bytes have been written over its first ones, from a place on
+-- and after these bytes have been written over its first ones, from an offset on
 abbrev pub header_with : List PoolView → Number → ℕ → List ℕ → Header
 header_with pools n at bytes =
     header_of (overwritten (object_in (pool_in pools n.pool) n.index) at bytes)
@@ -47,16 +48,16 @@ is_out pools n = slice_index_or (pool_in pools n.pool).out n.index false
 abbrev pub count_in : List PoolView → ℕ → ℕ
 count_in pools k = in_count (pool_in pools k).out
 
--- an object is a header of 128 bytes and a data room
+-- an object is a header and a data room
 abbrev pub spec_of : PoolView → PoolSpec
-spec_of p = record { count = length p.objects; cache = p.cache; room = p.size - 128 }
+spec_of p = record { count = length p.objects; cache = p.cache; room = p.size - HEADER_SIZE }
 
 abbrev pub specs_of : List PoolView → List PoolSpec
 specs_of pools = map spec_of pools
 
 -- the bytes behind the headers
 abbrev pub rooms_of : PoolView → List (List ℕ)
-rooms_of p = map (drop 128) p.objects
+rooms_of p = map (drop HEADER_SIZE) p.objects
 
 abbrev pub buffers_of : List PoolView → Buffers
 buffers_of pools = map rooms_of pools
@@ -78,32 +79,32 @@ HasObject pools n = n.index < length (pool_in pools n.pool).objects
 -- a pool of objects with room for a header, and at most 4,096 bytes behind it
 pub record HasRooms (p : PoolView) : Type 0 where
   pub pool : IsPool p
-  pub header : 128 ≤ p.size
-  pub room : p.size ≤ 4224
+  pub header : HEADER_SIZE ≤ p.size
+  pub room : p.size ≤ MAX_OBJECT_SIZE
 
--- the filled places come first
+-- the filled slots come first
 abbrev pub PoolsFirst : List (Option PoolView) → Type 0
 PoolsFirst [] = Unit {0}
 PoolsFirst (None ∷ pools) = AllByRecursion (λ o. o ≡ None) pools
 PoolsFirst (Some p ∷ pools) = HasRooms p × PoolsFirst pools
 
--- the filled places come first, and their pools' objects have room for a header
+-- the filled slots come first, and their pools' objects have room for a header
 abbrev pub HeadersFirst : List (Option PoolView) → Type 0
 HeadersFirst [] = Unit {0}
 HeadersFirst (None ∷ pools) = AllByRecursion (λ o. o ≡ None) pools
-HeadersFirst (Some p ∷ pools) = (128 ≤ p.size) × HeadersFirst pools
+HeadersFirst (Some p ∷ pools) = (HEADER_SIZE ≤ p.size) × HeadersFirst pools
 
 -- how many objects the pools have in all
 abbrev pub objects_in_all : List PoolView → ℕ
 objects_in_all pools = sum_by (λ p. length p.objects) pools
 
--- eight places, of which the first have pools of mbufs, at most 65,535 in all
-abbrev pub ArePlaces : List (Option PoolView) → Type 0
-ArePlaces pools = (length pools ≡ 8) × PoolsFirst pools × (objects_in_all (present pools) ≤ 65535)
+-- `MAX_POOLS` slots, of which the first have pools of mbufs, at most `MAX_MBUFS` mbufs in all
+abbrev pub ArePoolSlots : List (Option PoolView) → Type 0
+ArePoolSlots pools = (length pools ≡ MAX_POOLS) × PoolsFirst pools × (objects_in_all (present pools) ≤ MAX_MBUFS)
 
--- at most eight pools of mbufs
+-- at most `MAX_POOLS` pools of mbufs
 pub record ArePools (pools : List PoolView) : Type 0 where
-  pub few : length pools ≤ 8
+  pub few : length pools ≤ MAX_POOLS
   pub rooms : (k : ℕ) → k < length pools → HasRooms (pool_in pools k)
 
 -- ---- what the calls on objects do: what is not named stays, and these are pools of mbufs afterwards
@@ -119,7 +120,7 @@ pub record HeaderSet (pools : List PoolView) (n : Number) (h : Header) (pools' :
   pub here : header_at pools' n ≡ h
   pub others : (m : Number) → same_number n m ≡ false → header_at pools' m ≡ header_at pools m
 
--- bytes have been written into n's room from a place on
+-- bytes have been written into n's room from an offset on
 pub record RoomWritten (pools : List PoolView) (n : Number) (at : ℕ) (bytes : List ℕ) (pools' : List PoolView) : Type 0 where
   pub are : ArePools pools'
   pub specs : specs_of pools' ≡ specs_of pools
@@ -162,9 +163,9 @@ pub record Given (pools : List PoolView) (n : Number) (pools' : List PoolView) :
   pub here : is_out pools' n ≡ false
   pub others : (m : Number) → same_number n m ≡ false → is_out pools' m ≡ is_out pools m
 
--- ---- one place for a pool
+-- ---- one slot for a pool
 
--- the place has a pool of mbufs
+-- the slot has a pool of mbufs
 abbrev pub SlotHas : Option PoolView → Type 0
 SlotHas None = ⊥
 SlotHas (Some p) = HasRooms p
@@ -174,12 +175,12 @@ abbrev pub SlotFits : Option PoolView → ℕ → ℕ → Type 0
 SlotFits None i n = ⊥
 SlotFits (Some p) i n = HasRooms p × (i < length p.objects) × (n ≤ p.size)
 
--- how many objects the place's pool has
+-- how many objects the slot's pool has
 abbrev pub slot_count : Option PoolView → ℕ
 slot_count None = 0
 slot_count (Some p) = length p.objects
 
--- whether all objects of the place's pool are in
+-- whether all objects of the slot's pool are in
 abbrev pub slot_whole : Option PoolView → Bool
 slot_whole None = true
 slot_whole (Some p) = in_count p.out == length p.objects
@@ -189,12 +190,12 @@ abbrev pub SlotIsOut : Option PoolView → ℕ → Type 0
 SlotIsOut None i = ⊥
 SlotIsOut (Some p) i = slice_get p.out i ≡ Some true
 
--- what the place's pool becomes
+-- what the slot's pool becomes
 abbrev pub SlotBecomes : (PoolView → PoolView) → Option PoolView → Option PoolView → Type 0
 SlotBecomes f None o = ⊥
 SlotBecomes f (Some p) o = o ≡ Some (f p)
 
--- an object of the place's pool has been handed out, or none is in
+-- an object of the slot's pool has been handed out, or none is in
 abbrev pub SlotGives : Option PoolView → Option ℕ → Option PoolView → Type 0
 SlotGives None result o = ⊥
 SlotGives (Some p) None o = (in_count p.out ≡ 0) × (o ≡ Some p)

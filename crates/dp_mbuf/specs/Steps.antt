@@ -1,6 +1,7 @@
 -- The small steps that calls are made of.
 use Rattle.std.specs.Prelude.{◌≡◌, ℕ, suc, ◌+◌, ◌^◌, ◌<◌, ◌≤◌, true, false, List, length}
 use Rattle.dp_model.specs.Buffers.{Number, same_number}
+use Rattle.dp_mbuf.specs.declared.limits.TheConstants.{HEADROOM}
 use Rattle.dp_mbuf.specs.declared.header.Header.{Header}
 use Rattle.dp_pool.specs.Pools.{PoolView}
 use Rattle.dp_mbuf.specs.Objects.{header_at, is_out, specs_of, buffers_of, zones_of, count_in, HasObject, ArePools, HeaderSet, RoomWritten, Taken}
@@ -86,10 +87,10 @@ abbrev pub direct_header : Number → ℕ → ℕ → Header
 direct_header n o l =
     record { segs = 0; refs = 1; offset = o; len = l; next = n; last = n; buffer = n }
 
--- n is a new mbuf that is its own buffer, with these bytes from 128 on
+-- n is a new mbuf that is its own buffer, with these bytes from the headroom on
 pub record FilledBy (ps : List PoolView) (n : Number) (bytes : List ℕ) (ps' : List PoolView) : Type 0 where
   pub first : List PoolView
   pub second : List PoolView
   pub taken : Taken ps n first
-  pub header : HeaderSet first n (direct_header n 128 (length bytes)) second
-  pub bytes_in : RoomWritten second n 128 bytes ps'
+  pub header : HeaderSet first n (direct_header n HEADROOM (length bytes)) second
+  pub bytes_in : RoomWritten second n HEADROOM bytes ps'

@@ -4,17 +4,18 @@ ghost use Rattle.std.specs.Prelude.{◌≡◌, ◌<◌, ◌≤◌, ◌+◌, ◌/
 ghost use Rattle.dp_model.specs.Buffers.{same_number, overwritten};
 ghost use Rattle.dp_mbuf.specs.Headers.{header_of, word, then_word, with_hook, header_bytes};
 
+use crate::limits::{BUFFER, FIELDS_SIZE, HEADER_SIZE, LAST, LEN, NEXT, OFFSET, REFS, SEGS, WORDS};
 use byteorder::{ByteOrder, LittleEndian};
 use std::marker::Model;
 
-/// A buffer: its pool, and its index there.
+/// The number of an mbuf, or of a buffer: its pool, and its index there.
 #[derive(Clone, Copy)]
-pub(crate) struct Place {
+pub(crate) struct MbufNumber {
     pub pool: u16,
     pub index: u16,
 }
 
-impl Model for Place {
+impl Model for MbufNumber {
     ghost use Rattle.dp_model.specs.Buffers.{Number};
 
     ghost Value = { Number };
@@ -24,15 +25,15 @@ impl Model for Place {
     ghost inverse = { λ n. record { pool = n.pool; index = n.index } };
 }
 
-impl Place {
-    pub fn new(pool: u16, index: u16) -> Place
+impl MbufNumber {
+    pub fn new(pool: u16, index: u16) -> MbufNumber
         ensures { result ≡ record { pool = pool; index = index } }
     {
-        Place { pool, index }
+        MbufNumber { pool, index }
     }
 
     /// Whether two are the same.
-    pub fn is(self, other: Place) -> bool
+    pub fn is(self, other: MbufNumber) -> bool
         ensures { result ≡ same_number self other }
     {
         self.pool == other.pool && self.index == other.index
@@ -51,7 +52,7 @@ impl Place {
     }
 }
 
-/// What an object says of itself. As an mbuf: its part of a buffer and the next mbuf; as a packet's first one also how
+/// What an object knows of itself. As an mbuf: its part of a buffer and the next mbuf; as a packet's first one also how
 /// many segments the packet has (0 where it is no first one) and which is the last. As a buffer: how many segments have
 /// it as theirs.
 #[derive(Clone, Copy)]
@@ -60,9 +61,9 @@ pub(crate) struct Header {
     pub refs: u32,
     pub offset: u16,
     pub len: u16,
-    pub next: Place,
-    pub last: Place,
-    pub buffer: Place,
+    pub next: MbufNumber,
+    pub last: MbufNumber,
+    pub buffer: MbufNumber,
 }
 
 // The number that two bytes spell, the lower one first.
@@ -77,17 +78,17 @@ fn read_word(bytes: &[u8], at: usize) -> u16
 /// The header of an object.
 #[inline(always)]
 pub(crate) fn read_header(object: &[u8]) -> Header
-    requires { 128 ≤ length object.now }
+    requires { HEADER_SIZE ≤ length object.now }
     ensures { result ≡ header_of object.now }
 {
     Header {
-        segs: read_word(object, 0),
-        refs: read_word(object, 2) as u32 + read_word(object, 4) as u32 * 65536,
-        offset: read_word(object, 6),
-        len: read_word(object, 8),
-        next: Place::new(read_word(object, 10), read_word(object, 12)),
-        last: Place::new(read_word(object, 14), read_word(object, 16)),
-        buffer: Place::new(read_word(object, 18), read_word(object, 20)),
+        segs: read_word(object, SEGS),
+        refs: read_word(object, REFS) as u32 + read_word(object, REFS + 2) as u32 * WORDS,
+        offset: read_word(object, OFFSET),
+        len: read_word(object, LEN),
+        next: MbufNumber::new(read_word(object, NEXT), read_word(object, NEXT + 2)),
+        last: MbufNumber::new(read_word(object, LAST), read_word(object, LAST + 2)),
+        buffer: MbufNumber::new(read_word(object, BUFFER), read_word(object, BUFFER + 2)),
     }
 }
 
@@ -135,19 +136,19 @@ pub(crate) fn write_words(bytes: &mut [u8], at: usize, x: u16, y: u16)
 
 /// Writes how many segments a packet has and which mbuf is its last, into its first mbuf's object.
 #[inline(always)]
-pub(crate) fn write_hook(object: &mut [u8], segs: u16, last: Place)
-    requires { 128 ≤ length object.old }
+pub(crate) fn write_hook(object: &mut [u8], segs: u16, last: MbufNumber)
+    requires { HEADER_SIZE ≤ length object.old }
     ensures object { object.new ≡ with_hook object.old segs last }
-    ensures small { (last.pool < 65536) × (last.index < 65536) }
+    ensures small { (last.pool < WORDS) × (last.index < WORDS) }
 {
-    write_word(object, 0, segs);
-    write_words(object, 14, last.pool(), last.index());
+    write_word(object, SEGS, segs);
+    write_words(object, LAST, last.pool(), last.index());
 }
 
 /// The bytes of a buffer's number of references, the lowest first.
 #[inline(always)]
 pub(crate) fn bytes_of_refs(refs: u32) -> [u8; 4]
-    ensures bytes { result ≡ then_word (refs % 65536) (then_word (refs / 65536) []) }
+    ensures bytes { result ≡ then_word (refs % WORDS) (then_word (refs / WORDS) []) }
     ensures many { length result ≡ 4 }
 {
     refs.to_le_bytes()
@@ -155,12 +156,12 @@ pub(crate) fn bytes_of_refs(refs: u32) -> [u8; 4]
 
 /// The bytes of a header.
 #[inline(always)]
-pub(crate) fn bytes_of_header(h: Header) -> [u8; 22]
+pub(crate) fn bytes_of_header(h: Header) -> [u8; FIELDS_SIZE]
     ensures bytes { result ≡ header_bytes h }
-    ensures many { length result ≡ 22 }
+    ensures many { length result ≡ FIELDS_SIZE }
 {
-    let refs_low = (h.refs % 65536) as u16;
-    let refs_high = (h.refs / 65536) as u16;
+    let refs_low = (h.refs % WORDS) as u16;
+    let refs_high = (h.refs / WORDS) as u16;
     [
         low(h.segs),
         high(h.segs),

@@ -1,11 +1,16 @@
 //! Packets as chains of segments with reference counts and clones, in the objects of pools.
 #![tactic(auto)]
 
-mod hands;
+mod big_endian;
 mod header;
 mod layer;
+mod limits;
 mod mbufs;
-mod numbers;
 mod objects;
+mod steps;
 
+pub use limits::{
+    HEADER_SIZE, HEADROOM, MAX_LENGTH, MAX_MBUFS, MAX_OBJECT_SIZE, MAX_POOLS, MAX_ROOM,
+    MAX_SEGMENTS, POOL_HANDLES,
+};
 pub use mbufs::Mbufs;

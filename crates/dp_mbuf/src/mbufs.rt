@@ -13,12 +13,13 @@ ghost use Rattle.dp_model.specs.Stores.{IsWellFormedStore};
 ghost use Rattle.dp_mbuf.specs.Objects.{header_at, specs_of, buffers_of, HasObject};
 ghost use Rattle.dp_mbuf.specs.Mbufs.{numbered, handle, AreReady, IsNew, HasNone, AreBack, Linked, HasWalk, mbufs_in_all};
 
-use crate::hands::{
+use crate::big_endian::read_number;
+use crate::header::{Header, MbufNumber};
+use crate::limits::{HEADROOM, MAX_LENGTH, MAX_MBUFS, MAX_POOLS, MAX_SEGMENTS, POOL_HANDLES};
+use crate::objects::Objects;
+use crate::steps::{
     behind, clone_segment, fill_segment, fresh_header, hook, release, relink, unhook, unhook_all,
 };
-use crate::header::{Header, Place};
-use crate::numbers::read_number;
-use crate::objects::Objects;
 use dp_model::{Packet, Width};
 use dp_pool::Pool;
 use std::marker::Model;
@@ -40,19 +41,22 @@ impl Model for Mbufs {
 
 // The number of a packet's first mbuf.
 #[inline(always)]
-fn place_of(packet: &Packet) -> Place
+fn first_number(packet: &Packet) -> MbufNumber
     ensures { result ≡ numbered packet.now }
 {
     let number = packet.number();
-    Place::new((number / 65536) as u16, (number % 65536) as u16)
+    MbufNumber::new(
+        (number / POOL_HANDLES) as u16,
+        (number % POOL_HANDLES) as u16,
+    )
 }
 
 // The packet whose first mbuf this is.
 #[inline(always)]
-fn packet_of(place: Place) -> Packet
-    ensures { result ≡ handle place }
+fn packet_of(mbuf: MbufNumber) -> Packet
+    ensures { result ≡ handle mbuf }
 {
-    Packet::of(place.pool() as u32 * 65536 + place.index() as u32)
+    Packet::of(mbuf.pool() as u32 * POOL_HANDLES + mbuf.index() as u32)
 }
 
 // The header of a packet's first mbuf.
@@ -61,7 +65,7 @@ fn first_header(objects: &Objects, packet: &Packet) -> Header
     requires { HasObject objects.now (numbered packet.now) }
     ensures { result ≡ header_at objects.now (numbered packet.now) }
 {
-    objects.header(place_of(packet))
+    objects.header(first_number(packet))
 }
 
 // The header of a packet's last mbuf.
@@ -83,18 +87,18 @@ fn count_needed(len: usize, full: u16) -> usize
 }
 
 // The number of a packet's `k`-th mbuf.
-fn place_at(objects: &Objects, first: Place, k: u32) -> Place
+fn mbuf_at(objects: &Objects, first: MbufNumber, k: u32) -> MbufNumber
     requires { HasWalk objects.now first k }
     ensures { (p : List Segment) → Linked (header_at objects.now) first p → k < length p → Linked (header_at objects.now) result (drop k p) }
 {
-    let mut place = first;
+    let mut mbuf = first;
     for i in 0..k {
-        place = objects.header(place).next;
+        mbuf = objects.header(mbuf).next;
     }
-    place
+    mbuf
 }
 
-// The bytes of the segment that a header tells of.
+// The bytes of the segment of a header.
 #[inline(always)]
 fn bytes_in_segment(objects: &Objects, header: Header) -> &[u8]
     requires object { HasObject objects.now header.buffer }
@@ -108,7 +112,7 @@ fn bytes_in_segment(objects: &Objects, header: Header) -> &[u8]
 
 impl Mbufs {
     /// Packets over these pools, which are at their start; none yet.
-    pub fn over(pools: [Option<Pool>; 8]) -> Mbufs
+    pub fn over(pools: [Option<Pool>; MAX_POOLS]) -> Mbufs
         requires { AreReady pools }
         ensures { IsNew pools result }
     {
@@ -125,7 +129,7 @@ impl Mbufs {
     }
 
     /// The pools again, each of them whole.
-    pub fn into_pools(self) -> [Option<Pool>; 8]
+    pub fn into_pools(self) -> [Option<Pool>; MAX_POOLS]
         requires { HasNone self.store }
         ensures { AreBack self result }
     {
@@ -155,9 +159,9 @@ impl Mbufs {
     pub fn is_live(&self, packet: &Packet) -> bool
         ensures { IsTrue result ↔ IsLive self.now.store packet.now }
     {
-        let place = place_of(packet);
-        (place.index() as u32) < self.objects.count(place.pool())
-            && self.objects.header(place).segs != 0
+        let mbuf = first_number(packet);
+        (mbuf.index() as u32) < self.objects.count(mbuf.pool())
+            && self.objects.header(mbuf).segs != 0
     }
 
     /// The room before the first segment's bytes.
@@ -215,7 +219,7 @@ impl Mbufs {
     {
         let head = first_header(&self.objects, packet);
         self.objects
-            .set_bounds(place_of(packet), head.offset + n, head.len - n);
+            .set_bounds(first_number(packet), head.offset + n, head.len - n);
     }
 
     /// Makes the last segment `n` bytes shorter.
@@ -238,10 +242,10 @@ impl Mbufs {
         ensures packets { self.new.store ≡ with_slot packet None self.old.store }
         ensures zones { self.new.zones ≡ self.old.zones }
     {
-        let head = unhook(&mut self.objects, place_of(&packet));
-        let mut place = place_of(&packet);
+        let head = unhook(&mut self.objects, first_number(&packet));
+        let mut mbuf = first_number(&packet);
         for i in 0..head.segs {
-            place = release(&mut self.objects, place);
+            mbuf = release(&mut self.objects, mbuf);
         }
     }
 
@@ -261,33 +265,33 @@ impl Mbufs {
         ensures packets { Allocates self.old.store pool self.new.store result }
         ensures zones { self.new.zones ≡ self.old.zones }
     {
-        let place = self.objects.take(pool as u16)?;
-        let offset = self.objects.room(place.pool()).min(128);
-        let header = fresh_header(place, offset, 0);
-        self.objects.set_header(place, Header { segs: 1, ..header });
-        Some(packet_of(place))
+        let mbuf = self.objects.take(pool as u16)?;
+        let offset = self.objects.room(mbuf.pool()).min(HEADROOM);
+        let header = fresh_header(mbuf, offset, 0);
+        self.objects.set_header(mbuf, Header { segs: 1, ..header });
+        Some(packet_of(mbuf))
     }
 
-    /// The number in `width` bytes at a place of the first segment, the highest byte first.
+    /// The number in `width` bytes at an offset in the first segment, the highest byte first.
     #[inline(always)]
-    pub fn load(&self, packet: &Packet, place: u64, width: Width) -> u64
-        requires { HasSome self.now.store packet.now (λ k. place + bytes_in width ≤ first_len k) }
-        ensures { Of self.now.store packet.now (λ k. result ≡ loaded place (bytes_in width) k self.now.store.buffers) }
+    pub fn load(&self, packet: &Packet, offset: u64, width: Width) -> u64
+        requires { HasSome self.now.store packet.now (λ k. offset + bytes_in width ≤ first_len k) }
+        ensures { Of self.now.store packet.now (λ k. result ≡ loaded offset (bytes_in width) k self.now.store.buffers) }
     {
         let head = first_header(&self.objects, packet);
         let bytes = bytes_in_segment(&self.objects, head);
-        read_number(&bytes[place as usize..], width)
+        read_number(&bytes[offset as usize..], width)
     }
 
-    /// Writes the low bytes of a number at a place of the first segment, the highest byte first.
+    /// Writes the low bytes of a number at an offset in the first segment, the highest byte first.
     #[inline(always)]
-    pub fn store(&mut self, packet: &Packet, place: u64, width: Width, n: u64)
-        requires { HasSome self.old.store packet.now (λ k. (place + bytes_in width ≤ first_len k) × IsHeadSole (segments_of self.old.store) k) }
-        ensures packets { Becomes self.old.store self.new.store packet.now (λ k. k) (stored place (bytes_in width) n) }
+    pub fn store(&mut self, packet: &Packet, offset: u64, width: Width, n: u64)
+        requires { HasSome self.old.store packet.now (λ k. (offset + bytes_in width ≤ first_len k) × IsHeadSole (segments_of self.old.store) k) }
+        ensures packets { Becomes self.old.store self.new.store packet.now (λ k. k) (stored offset (bytes_in width) n) }
         ensures zones { self.new.zones ≡ self.old.zones }
     {
         let head = first_header(&self.objects, packet);
-        let at = head.offset as u32 + place as u32;
+        let at = head.offset as u32 + offset as u32;
         self.objects.write_number(head.buffer, at, width, n);
     }
 
@@ -301,7 +305,7 @@ impl Mbufs {
         let head = first_header(&self.objects, packet);
         let offset = head.offset - n;
         self.objects
-            .set_bounds(place_of(packet), offset, head.len + n);
+            .set_bounds(first_number(packet), offset, head.len + n);
         self.objects.zero(head.buffer, offset as u32, n as u32);
     }
 
@@ -321,13 +325,13 @@ impl Mbufs {
     /// Puts the second packet's segments behind the first's.
     pub fn chain(&mut self, head: &Packet, tail: Packet)
         requires two { head.now ≢ tail }
-        requires few { HasSome self.old.store head.now (λ k. HasSome self.old.store tail (λ t. length k + length t ≤ 64)) }
+        requires few { HasSome self.old.store head.now (λ k. HasSome self.old.store tail (λ t. length k + length t ≤ MAX_SEGMENTS)) }
         ensures packets { Chains self.old.store head.now tail self.new.store }
         ensures zones { self.new.zones ≡ self.old.zones }
     {
-        let second = place_of(&tail);
+        let second = first_number(&tail);
         let behind = unhook(&mut self.objects, second);
-        let first = place_of(head);
+        let first = first_number(head);
         let front = unhook(&mut self.objects, first);
         relink(&mut self.objects, front.last, second);
         hook(
@@ -350,13 +354,13 @@ impl Mbufs {
         if self.objects.available(pool as u16) < source.segs as u32 {
             return None;
         }
-        let first = clone_segment(&mut self.objects, place_of(packet), pool as u16);
+        let first = clone_segment(&mut self.objects, first_number(packet), pool as u16);
         let mut last = first;
         let mut from = source.next;
         for i in 1..source.segs {
-            let place = clone_segment(&mut self.objects, from, pool as u16);
-            relink(&mut self.objects, last, place);
-            last = place;
+            let mbuf = clone_segment(&mut self.objects, from, pool as u16);
+            relink(&mut self.objects, last, mbuf);
+            last = mbuf;
             from = self.objects.header(from).next;
         }
         hook(&mut self.objects, first, source.segs, last);
@@ -370,7 +374,7 @@ impl Mbufs {
     {
         let segment = self
             .objects
-            .header(place_at(&self.objects, place_of(packet), k));
+            .header(mbuf_at(&self.objects, first_number(packet), k));
         self.objects.header(segment.buffer).refs
     }
 
@@ -381,7 +385,7 @@ impl Mbufs {
     {
         let segment = self
             .objects
-            .header(place_at(&self.objects, place_of(packet), k));
+            .header(mbuf_at(&self.objects, first_number(packet), k));
         bytes_in_segment(&self.objects, segment)
     }
 
@@ -391,14 +395,14 @@ impl Mbufs {
         ensures { Of self.now.store packet.now (λ p. IsTrue result ↔ IsSole (segments_of self.now.store) p) }
     {
         let segs = first_header(&self.objects, packet).segs;
-        let mut place = place_of(packet);
+        let mut mbuf = first_number(packet);
         for i in 0..segs {
-            let segment = self.objects.header(place);
+            let segment = self.objects.header(mbuf);
             let buffer = self.objects.header(segment.buffer);
             if buffer.refs != 1 {
                 return false;
             }
-            place = segment.next;
+            mbuf = segment.next;
         }
         true
     }
@@ -407,28 +411,28 @@ impl Mbufs {
     pub fn length(&self, packet: &Packet) -> u32
         requires { IsLive self.now.store packet.now }
         ensures value { Of self.now.store packet.now (λ p. result ≡ length (packet_bytes self.now.store.buffers p)) }
-        ensures bound { result ≤ 262144 }
+        ensures bound { result ≤ MAX_LENGTH }
     {
         let segs = first_header(&self.objects, packet).segs;
-        let mut place = place_of(packet);
+        let mut mbuf = first_number(packet);
         let mut total = 0u32;
         for i in 0..segs {
-            let segment = self.objects.header(place);
+            let segment = self.objects.header(mbuf);
             total += segment.len as u32;
-            place = segment.next;
+            mbuf = segment.next;
         }
         total
     }
 
-    /// A packet with these bytes: each segment at offset 128, all full but the last. `None` exactly where fewer buffers
+    /// A packet with these bytes: each segment at offset `HEADROOM`, all full but the last. `None` exactly where fewer buffers
     /// of the pool are free than it needs, and then nothing has changed.
     pub fn receive(&mut self, pool: u32, bytes: &[u8]) -> Option<Packet>
-        requires room { 129 ≤ room_at self.old.store.pools pool }
-        requires fits { needed self.old.store.pools pool (length bytes.now) ≤ 64 }
+        requires room { HEADROOM < room_at self.old.store.pools pool }
+        requires fits { needed self.old.store.pools pool (length bytes.now) ≤ MAX_SEGMENTS }
         ensures packets { ReceivesInto self.old.store pool bytes.now self.new.store result }
         ensures zones { self.new.zones ≡ self.old.zones }
     {
-        let full = self.objects.room(pool as u16) - 128;
+        let full = self.objects.room(pool as u16) - HEADROOM;
         let need = count_needed(bytes.len(), full);
         if (self.objects.available(pool as u16) as usize) < need {
             return None;
@@ -437,9 +441,9 @@ impl Mbufs {
         let mut last = first;
         let mut rest = behind(bytes, full as usize);
         for i in 1..need {
-            let place = fill_segment(&mut self.objects, pool as u16, full, rest);
-            relink(&mut self.objects, last, place);
-            last = place;
+            let mbuf = fill_segment(&mut self.objects, pool as u16, full, rest);
+            relink(&mut self.objects, last, mbuf);
+            last = mbuf;
             rest = behind(rest, full as usize);
         }
         hook(&mut self.objects, first, need as u16, last);
@@ -448,10 +452,10 @@ impl Mbufs {
 
     /// How many buffers of the pool a packet of so many bytes needs.
     pub fn needed(&self, pool: u32, len: usize) -> usize
-        requires { 129 ≤ room_at self.now.store.pools pool }
+        requires { HEADROOM < room_at self.now.store.pools pool }
         ensures { result ≡ needed self.now.store.pools pool len }
     {
-        let full = self.objects.room(pool as u16) - 128;
+        let full = self.objects.room(pool as u16) - HEADROOM;
         count_needed(len, full)
     }
 
@@ -461,9 +465,9 @@ impl Mbufs {
     pub fn is_well_formed(&self)
         ensures world { IsWellFormedStore self.now.store }
         ensures few { (b : Number) → refs (segments_of self.now.store) b ≤ mbufs_in_all self.now.store.pools }
-        ensures mbufs { mbufs_in_all self.now.store.pools ≤ 65535 }
-        ensures counts { (b : Number) → refs (segments_of self.now.store) b ≤ 65535 }
-        ensures sizes { (h : ℕ) → Of self.now.store h (λ k. (1 ≤ length k) × (length k ≤ 64)) }
+        ensures mbufs { mbufs_in_all self.now.store.pools ≤ MAX_MBUFS }
+        ensures counts { (b : Number) → refs (segments_of self.now.store) b ≤ MAX_MBUFS }
+        ensures sizes { (h : ℕ) → Of self.now.store h (λ k. (1 ≤ length k) × (length k ≤ MAX_SEGMENTS)) }
     {
         self.objects.are_few();
     }

@@ -12,35 +12,36 @@ ghost use Rattle.dp_mbuf.specs.Objects.{present, pool_in, header_at, header_with
 ghost use Rattle.dp_mbuf.specs.Objects.{PoolsFirst, objects_in_all, ArePools, HeaderSet, RoomWritten, Taken, Given, SlotHas, SlotFits, SlotIsOut};
 ghost use Rattle.dp_mbuf.specs.Objects.{SlotBecomes, SlotGives, slot_count, slot_whole, AreAllIn};
 
+use crate::big_endian::write_number;
 use crate::header::{
-    Header, Place, bytes_of_header, bytes_of_refs, bytes_of_word, read_header, write_hook,
+    Header, MbufNumber, bytes_of_header, bytes_of_refs, bytes_of_word, read_header, write_hook,
     write_words,
 };
-use crate::numbers::write_number;
+use crate::limits::{HEADER_SIZE, MAX_MBUFS, MAX_POOLS, NEXT, OFFSET, REFS, SEGS, WORDS};
 use dp_model::Width;
 use dp_pool::Pool;
 use std::marker::Model;
 
-/// The objects of at most eight pools.
+/// The objects of at most `MAX_POOLS` pools.
 pub(crate) struct Objects {
-    pools: [Option<Pool>; 8],
+    pools: [Option<Pool>; MAX_POOLS],
 }
 
 impl Model for Objects {
     ghost use Rattle.std.specs.Prelude.{List};
     ghost use Rattle.dp_pool.specs.Pools.{PoolView};
-    ghost use Rattle.dp_mbuf.specs.Objects.{ArePlaces, present};
+    ghost use Rattle.dp_mbuf.specs.Objects.{ArePoolSlots, present};
 
     ghost Value = { List PoolView };
 
     ghost view = { λ o. present o.pools };
 
-    ghost invariant = { λ o. ArePlaces o.pools };
+    ghost invariant = { λ o. ArePoolSlots o.pools };
 }
 
 // The pool of this number.
 #[inline(always)]
-fn pool_at(pools: &[Option<Pool>; 8], k: u16) -> &Pool
+fn pool_at(pools: &[Option<Pool>; MAX_POOLS], k: u16) -> &Pool
     requires first { PoolsFirst pools.now }
     requires there { k < length (present pools.now) }
     ensures value { result.now ≡ pool_in (present pools.now) k }
@@ -52,7 +53,7 @@ fn pool_at(pools: &[Option<Pool>; 8], k: u16) -> &Pool
     }
 }
 
-// Writes into an object of a place's pool.
+// Writes into an object of a slot's pool.
 #[inline(always)]
 fn write_in(slot: &mut Option<Pool>, index: u16, at: u32, bytes: &[u8])
     requires { SlotFits slot.old index (at + length bytes.now) }
@@ -64,7 +65,7 @@ fn write_in(slot: &mut Option<Pool>, index: u16, at: u32, bytes: &[u8])
     }
 }
 
-// Writes two numbers into an object of a place's pool, one behind the other.
+// Writes two numbers into an object of a slot's pool, one behind the other.
 #[inline(always)]
 fn write_words_in(slot: &mut Option<Pool>, index: u16, at: usize, x: u16, y: u16)
     requires { SlotFits slot.old index (at + 4) }
@@ -75,19 +76,19 @@ fn write_words_in(slot: &mut Option<Pool>, index: u16, at: usize, x: u16, y: u16
     }
 }
 
-// Writes how many segments a packet has and which mbuf is its last, into an object of a place's pool.
+// Writes how many segments a packet has and which mbuf is its last, into an object of a slot's pool.
 #[inline(always)]
-fn write_hook_in(slot: &mut Option<Pool>, index: u16, segs: u16, last: Place)
-    requires { SlotFits slot.old index 128 }
+fn write_hook_in(slot: &mut Option<Pool>, index: u16, segs: u16, last: MbufNumber)
+    requires { SlotFits slot.old index HEADER_SIZE }
     ensures becomes { SlotBecomes (λ p. with_object p index (with_hook (object_in p index) segs last)) slot.old slot.new }
-    ensures small { (last.pool < 65536) × (last.index < 65536) }
+    ensures small { (last.pool < WORDS) × (last.index < WORDS) }
 {
     if let Some(pool) = slot {
         write_hook(pool.object_mut(index as u32), segs, last);
     }
 }
 
-// Writes the low bytes of a number into an object of a place's pool, the highest first.
+// Writes the low bytes of a number into an object of a slot's pool, the highest first.
 #[inline(always)]
 fn write_number_in(slot: &mut Option<Pool>, index: u16, at: usize, width: Width, n: u64)
     requires { SlotFits slot.old index (at + bytes_in width) }
@@ -98,7 +99,7 @@ fn write_number_in(slot: &mut Option<Pool>, index: u16, at: usize, width: Width,
     }
 }
 
-// Writes zeros into an object of a place's pool.
+// Writes zeros into an object of a slot's pool.
 #[inline(always)]
 fn zero_in(slot: &mut Option<Pool>, index: u16, at: usize, len: usize)
     requires { SlotFits slot.old index (at + len) }
@@ -109,7 +110,7 @@ fn zero_in(slot: &mut Option<Pool>, index: u16, at: usize, len: usize)
     }
 }
 
-// Puts an object of a place's pool back.
+// Puts an object of a slot's pool back.
 #[inline(always)]
 fn put_in(slot: &mut Option<Pool>, index: u16)
     requires { SlotIsOut slot.old index }
@@ -120,7 +121,7 @@ fn put_in(slot: &mut Option<Pool>, index: u16)
     }
 }
 
-// How many objects a place's pool has.
+// How many objects a slot's pool has.
 fn count_in_slot(slot: &Option<Pool>) -> u32
     ensures { result ≡ slot_count slot.now }
 {
@@ -130,7 +131,7 @@ fn count_in_slot(slot: &Option<Pool>) -> u32
     }
 }
 
-// Whether all objects of a place's pool are in.
+// Whether all objects of a slot's pool are in.
 fn is_whole(slot: &Option<Pool>) -> bool
     ensures { result ≡ slot_whole slot.now }
 {
@@ -147,7 +148,7 @@ fn are_whole(pools: &[Option<Pool>]) -> bool
     pools.iter().all(|slot| is_whole(slot))
 }
 
-// Hands out an object of a place's pool.
+// Takes an object of a slot's pool.
 #[inline(always)]
 fn get_in(slot: &mut Option<Pool>) -> Option<u16>
     requires { SlotHas slot.old }
@@ -162,8 +163,8 @@ fn get_in(slot: &mut Option<Pool>) -> Option<u16>
     }
 }
 
-// What is known of a place's pool, as of every pool.
-fn tell_pool(slot: &Option<Pool>)
+// What is known of a slot's pool, as of every pool.
+fn law_of_pool(slot: &Option<Pool>)
     ensures { IfSome slot.now IsPool }
 {
     if let Some(pool) = slot {
@@ -171,38 +172,38 @@ fn tell_pool(slot: &Option<Pool>)
     }
 }
 
-// What is known of each of these places' pools.
-fn tell_pools(slots: &[Option<Pool>])
+// What is known of each of these slots' pools.
+fn law_of_pools(slots: &[Option<Pool>])
     ensures { (k : ℕ) (p : PoolView) → slice_get slots.now k ≡ Some (Some p) → IsPool p }
 {
     for slot in slots {
-        tell_pool(slot);
+        law_of_pool(slot);
     }
 }
 
 impl Objects {
     /// The objects of these pools.
-    pub fn over(pools: [Option<Pool>; 8]) -> Objects
+    pub fn over(pools: [Option<Pool>; MAX_POOLS]) -> Objects
         requires first { HeadersFirst pools }
-        requires few { length (present pools) ≤ 8 }
-        requires objects { objects_in_all (present pools) ≤ 65535 }
+        requires few { length (present pools) ≤ MAX_POOLS }
+        requires objects { objects_in_all (present pools) ≤ MAX_MBUFS }
         ensures value { result ≡ present pools }
         ensures pools { ArePools result }
     {
-        tell_pools(&pools);
+        law_of_pools(&pools);
         Objects { pools }
     }
 
-    /// A law: there are at most 65,535 objects in all.
+    /// A law: there are at most `MAX_MBUFS` objects in all.
     pub fn are_few(&self)
-        ensures { objects_in_all self.now ≤ 65535 }
+        ensures { objects_in_all self.now ≤ MAX_MBUFS }
     {
         let _ = &self.pools;
     }
 
     /// The header of an object.
     #[inline(always)]
-    pub fn header(&self, n: Place) -> Header
+    pub fn header(&self, n: MbufNumber) -> Header
         requires { HasObject self.now n }
         ensures { result ≡ header_at self.now n }
     {
@@ -215,7 +216,7 @@ impl Objects {
     {
         let pools = &self.pools;
         let k = pool as usize;
-        if k >= 8 {
+        if k >= MAX_POOLS {
             return 0;
         }
         count_in_slot(&pools[k])
@@ -227,17 +228,17 @@ impl Objects {
         requires { pool < length self.now }
         ensures { result ≡ room_at (specs_of self.now) pool }
     {
-        (pool_at(&self.pools, pool).size() - 128) as u16
+        (pool_at(&self.pools, pool).size() - HEADER_SIZE) as u16
     }
 
     /// The bytes behind a header.
     #[inline(always)]
-    pub fn bytes(&self, n: Place) -> &[u8]
+    pub fn bytes(&self, n: MbufNumber) -> &[u8]
         requires { HasObject self.now n }
         ensures value { result.now ≡ bytes_of (buffers_of self.now) n }
         ensures room { length result.now ≡ room_at (specs_of self.now) n.pool }
     {
-        &pool_at(&self.pools, n.pool()).object(n.index() as u32)[128..]
+        &pool_at(&self.pools, n.pool()).object(n.index() as u32)[HEADER_SIZE as usize..]
     }
 
     /// How many objects of a pool are in.
@@ -258,10 +259,10 @@ impl Objects {
 
     // Writes bytes over some of an object's first ones.
     #[inline(always)]
-    fn write_front(&mut self, n: Place, at: u32, bytes: &[u8])
+    fn write_front(&mut self, n: MbufNumber, at: u32, bytes: &[u8])
         requires object { HasObject self.old n }
-        requires front { at + length bytes.now ≤ 128 }
-        ensures long { 128 ≤ length (object_in (pool_in self.old n.pool) n.index) }
+        requires front { at + length bytes.now ≤ HEADER_SIZE }
+        ensures long { HEADER_SIZE ≤ length (object_in (pool_in self.old n.pool) n.index) }
         ensures written { HeaderSet self.old n (header_with self.old n at bytes.now) self.new }
     {
         write_in(&mut self.pools[n.pool() as usize], n.index(), at, bytes);
@@ -269,10 +270,10 @@ impl Objects {
 
     // Writes two numbers over some of an object's first bytes, one behind the other.
     #[inline(always)]
-    fn write_pair(&mut self, n: Place, at: usize, x: u16, y: u16)
+    fn write_pair(&mut self, n: MbufNumber, at: usize, x: u16, y: u16)
         requires object { HasObject self.old n }
-        requires front { at + 4 ≤ 128 }
-        ensures long { 128 ≤ length (object_in (pool_in self.old n.pool) n.index) }
+        requires front { at + 4 ≤ HEADER_SIZE }
+        ensures long { HEADER_SIZE ≤ length (object_in (pool_in self.old n.pool) n.index) }
         ensures written { HeaderSet self.old n (header_with self.old n at (then_word x (then_word y []))) self.new }
     {
         write_words_in(&mut self.pools[n.pool() as usize], n.index(), at, x, y);
@@ -280,7 +281,7 @@ impl Objects {
 
     /// Writes a header.
     #[inline(always)]
-    pub fn set_header(&mut self, n: Place, h: Header)
+    pub fn set_header(&mut self, n: MbufNumber, h: Header)
         requires { HasObject self.old n }
         ensures { HeaderSet self.old n h self.new }
     {
@@ -289,53 +290,53 @@ impl Objects {
 
     /// Sets how many segments the packet has.
     #[inline(always)]
-    pub fn set_segs(&mut self, n: Place, segs: u16)
+    pub fn set_segs(&mut self, n: MbufNumber, segs: u16)
         requires { HasObject self.old n }
         ensures { HeaderSet self.old n (record (header_at self.old n) { segs = segs }) self.new }
     {
-        self.write_front(n, 0, &bytes_of_word(segs));
+        self.write_front(n, SEGS as u32, &bytes_of_word(segs));
     }
 
     /// Sets how many references a buffer has.
     #[inline(always)]
-    pub fn set_refs(&mut self, n: Place, refs: u32)
+    pub fn set_refs(&mut self, n: MbufNumber, refs: u32)
         requires { HasObject self.old n }
         ensures { HeaderSet self.old n (record (header_at self.old n) { refs = refs }) self.new }
     {
         let bytes = bytes_of_refs(refs);
-        self.write_front(n, 2, &bytes);
+        self.write_front(n, REFS as u32, &bytes);
     }
 
     /// Sets which part of its buffer an mbuf has.
     #[inline(always)]
-    pub fn set_bounds(&mut self, n: Place, offset: u16, len: u16)
+    pub fn set_bounds(&mut self, n: MbufNumber, offset: u16, len: u16)
         requires { HasObject self.old n }
         ensures { HeaderSet self.old n (record (header_at self.old n) { offset = offset; len = len }) self.new }
     {
-        self.write_pair(n, 6, offset, len);
+        self.write_pair(n, OFFSET, offset, len);
     }
 
     /// Sets the mbuf that comes next.
     #[inline(always)]
-    pub fn set_next(&mut self, n: Place, next: Place)
+    pub fn set_next(&mut self, n: MbufNumber, next: MbufNumber)
         requires { HasObject self.old n }
         ensures { HeaderSet self.old n (record (header_at self.old n) { next = next }) self.new }
     {
-        self.write_pair(n, 10, next.pool(), next.index());
+        self.write_pair(n, NEXT, next.pool(), next.index());
     }
 
     /// Sets how many segments the packet has, and its last mbuf.
     #[inline(always)]
-    pub fn set_hook(&mut self, n: Place, segs: u16, last: Place)
+    pub fn set_hook(&mut self, n: MbufNumber, segs: u16, last: MbufNumber)
         requires { HasObject self.old n }
         ensures { HeaderSet self.old n (record (header_at self.old n) { segs = segs; last = last }) self.new }
     {
         write_hook_in(&mut self.pools[n.pool() as usize], n.index(), segs, last);
     }
 
-    /// Writes bytes behind a header from a place on.
+    /// Writes bytes behind a header from an offset on.
     #[inline(always)]
-    pub fn write(&mut self, n: Place, at: u32, bytes: &[u8])
+    pub fn write(&mut self, n: MbufNumber, at: u32, bytes: &[u8])
         requires object { HasObject self.old n }
         requires fits { at + length bytes.now ≤ room_at (specs_of self.old) n.pool }
         ensures { RoomWritten self.old n at bytes.now self.new }
@@ -343,46 +344,48 @@ impl Objects {
         write_in(
             &mut self.pools[n.pool() as usize],
             n.index(),
-            128 + at,
+            HEADER_SIZE + at,
             bytes,
         );
     }
 
-    /// Writes the low bytes of a number behind a header from a place on, the highest first.
+    /// Writes the low bytes of a number behind a header from an offset on, the highest first.
     #[inline(always)]
-    pub fn write_number(&mut self, n: Place, at: u32, width: Width, number: u64)
+    pub fn write_number(&mut self, n: MbufNumber, at: u32, width: Width, number: u64)
         requires object { HasObject self.old n }
         requires fits { at + bytes_in width ≤ room_at (specs_of self.old) n.pool }
         ensures { RoomWritten self.old n at (big_endian (bytes_in width) number) self.new }
     {
         let slot = &mut self.pools[n.pool() as usize];
-        write_number_in(slot, n.index(), 128 + at as usize, width, number);
+        let from = HEADER_SIZE as usize + at as usize;
+        write_number_in(slot, n.index(), from, width, number);
     }
 
-    /// Writes zeros behind a header from a place on.
+    /// Writes zeros behind a header from an offset on.
     #[inline(always)]
-    pub fn zero(&mut self, n: Place, at: u32, len: u32)
+    pub fn zero(&mut self, n: MbufNumber, at: u32, len: u32)
         requires object { HasObject self.old n }
         requires fits { at + len ≤ room_at (specs_of self.old) n.pool }
         ensures { RoomWritten self.old n at (replicate len 0) self.new }
     {
         let slot = &mut self.pools[n.pool() as usize];
-        zero_in(slot, n.index(), 128 + at as usize, len as usize);
+        let from = HEADER_SIZE as usize + at as usize;
+        zero_in(slot, n.index(), from, len as usize);
     }
 
-    /// Hands out an object of a pool; `None` where none is in.
+    /// Takes an object of a pool; `None` where none is in.
     #[inline(always)]
-    pub fn take(&mut self, pool: u16) -> Option<Place>
+    pub fn take(&mut self, pool: u16) -> Option<MbufNumber>
         requires { pool < length self.old }
         ensures { MatchOption result ((count_in self.old pool ≡ 0) × (self.new ≡ self.old)) (λ n. (n.pool ≡ pool) × Taken self.old n self.new) }
     {
         let index = get_in(&mut self.pools[pool as usize])?;
-        Some(Place::new(pool, index))
+        Some(MbufNumber::new(pool, index))
     }
 
     /// Puts an object back.
     #[inline(always)]
-    pub fn give(&mut self, n: Place)
+    pub fn give(&mut self, n: MbufNumber)
         requires { is_out self.old n ≡ true }
         ensures { Given self.old n self.new }
     {
@@ -390,7 +393,7 @@ impl Objects {
     }
 
     /// The pools again.
-    pub fn into_pools(self) -> [Option<Pool>; 8]
+    pub fn into_pools(self) -> [Option<Pool>; MAX_POOLS]
         ensures same { present result ≡ self }
         ensures first { PoolsFirst result }
     {

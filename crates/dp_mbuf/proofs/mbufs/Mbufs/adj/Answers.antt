@@ -21,14 +21,14 @@ overflow_sub-head c = omega (
 )
 
 pub set_bounds-requires : goal.set_bounds-requires
-set_bounds-requires c = rw c.place_of.ensures (live_object _ _ c.args.packet.now (same_store c.self.view_is) c.self.invariant (c.requires.0, c.requires.1, tt))
+set_bounds-requires c = rw c.first_number.ensures (live_object _ _ c.args.packet.now (same_store c.self.view_is) c.self.invariant (c.requires.0, c.requires.1, tt))
 
 pub invariant_of-self : goal.invariant_of-self
 invariant_of-self c =
-    let set = rw (c.place_of.ensures, c.first_header-head.ensures) at c.set_bounds.ensures in
+    let set = rw (c.first_number.ensures, c.first_header-head.ensures) at c.set_bounds.ensures in
     (adj_done _ _ c.args.packet.now (same_store c.self.view_is) c.self.invariant _ c.args.n c.requires set).0
 
 pub returns-clause-packets : goal.returns-clause-packets
 returns-clause-packets c =
-    let set = rw (c.place_of.ensures, c.first_header-head.ensures) at c.set_bounds.ensures in
+    let set = rw (c.first_number.ensures, c.first_header-head.ensures) at c.set_bounds.ensures in
     (adj_done _ _ c.args.packet.now (same_store c.self.view_is) c.self.invariant _ c.args.n c.requires set).1

@@ -26,7 +26,7 @@ clone_segment-first-requires c =
     let free = c.available.ensures in
     let enough : length c.requires.live.0 ≤ available c.args.self.now.store.pools (segments_of c.args.self.now.store) c.args.pool =
     omega (arith, test, free, segs, b.segs, b.in_pool) in
-    rw c.place_of.ensures
+    rw c.first_number.ensures
     (cloning_can c.args.self.now.store c.args.packet.now c.requires.live.0 c.args.pool c.requires.live.1 b.few _ b.whole b.links b.some b.there
     (omega (arith, enough, b.some, b.in_pool)))
 
@@ -35,15 +35,15 @@ loop-i-init c = record {
   packets =
       λ p has.
       let b = before _ _ c.args.packet.now c.args.pool (same_store c.self.view_is) c.self.invariant c.requires.exists p has in
-      let k = rw c.place_of.ensures at c.clone_segment-first.ensures.cloned in
+      let k = rw c.first_number.ensures at c.clone_segment-first.ensures.cloned in
       rw c.first_header-source.ensures
       (cloning_start c.args.self.now.store c.args.packet.now p c.args.pool has b.few _ _ c.clone_segment-first.result b.whole b.links b.some b.there
       c.clone_segment-first.ensures.pool b.specs b.buffers b.in_pool k);
   zones = cloned_zones _ _ _ _ c.clone_segment-first.ensures.cloned ∙ same_zones c.self.view_is;
 }
 
-pub clone_segment-place-requires : goal.clone_segment-place-requires
-clone_segment-place-requires c =
+pub clone_segment-mbuf-requires : goal.clone_segment-mbuf-requires
+clone_segment-mbuf-requires c =
     let b = before _ _ c.args.packet.now c.args.pool (same_store c.self.view_is) c.self.invariant c.requires.exists c.requires.live.0 c.requires.live.1 in
     let segs = ap (λ x. x.segs) c.first_header-source.ensures in
     let test = c.if-available-source.false in
@@ -63,7 +63,7 @@ relink-requires c =
     omega (arith, test, free, segs, b.segs, b.in_pool) in
     step_last c.args.self.now.store c.args.packet.now c.requires.live.0 c.args.pool c.requires.live.1 b.few _ _ _ _ _
     (c.loop-i.invariant.packets c.requires.live.0 c.requires.live.1) (omega (arith, c.loop-i-test.true, segs, b.segs)) _ _
-    c.clone_segment-place.ensures.cloned
+    c.clone_segment-mbuf.ensures.cloned
 
 pub header-from-requires : goal.header-from-requires
 header-from-requires c =
@@ -75,7 +75,7 @@ header-from-requires c =
     omega (arith, test, free, segs, b.segs, b.in_pool) in
     (step_done c.args.self.now.store c.args.packet.now c.requires.live.0 c.args.pool c.requires.live.1 b.few _ _ _ _ _
     (c.loop-i.invariant.packets c.requires.live.0 c.requires.live.1) (omega (arith, c.loop-i-test.true, segs, b.segs)) _ _ _
-    c.clone_segment-place.ensures.pool c.clone_segment-place.ensures.cloned c.relink.ensures).0
+    c.clone_segment-mbuf.ensures.pool c.clone_segment-mbuf.ensures.cloned c.relink.ensures).0
 
 pub loop-i-preserved : goal.loop-i-preserved
 loop-i-preserved c = record {
@@ -85,8 +85,8 @@ loop-i-preserved c = record {
       let segs = ap (λ x. x.segs) c.first_header-source.ensures in
       rw c.header-from.ensures
       (step_done c.args.self.now.store c.args.packet.now p c.args.pool has b.few _ _ _ _ _ (c.loop-i.invariant.packets p has)
-      (omega (arith, c.loop-i-test.true, segs, b.segs)) _ _ _ c.clone_segment-place.ensures.pool c.clone_segment-place.ensures.cloned c.relink.ensures).1;
-  zones = c.relink.ensures.zones ∙ (cloned_zones _ _ _ _ c.clone_segment-place.ensures.cloned ∙ c.loop-i.invariant.zones);
+      (omega (arith, c.loop-i-test.true, segs, b.segs)) _ _ _ c.clone_segment-mbuf.ensures.pool c.clone_segment-mbuf.ensures.cloned c.relink.ensures).1;
+  zones = c.relink.ensures.zones ∙ (cloned_zones _ _ _ _ c.clone_segment-mbuf.ensures.cloned ∙ c.loop-i.invariant.zones);
 }
 
 pub hook-requires : goal.hook-requires

@@ -6,25 +6,25 @@ use Rattle.dp_mbuf.proofs.Freeing.{freeing_start, freeing_can, freeing_step, fre
 use Rattle.dp_mbuf.proofs.mbufs.Mbufs.free.Goals as goal
 
 pub unhook-head-requires : goal.unhook-head-requires
-unhook-head-requires c = rw c.place_of.ensures (live_object _ _ c.args.packet (same_store c.self.view_is) c.self.invariant c.requires)
+unhook-head-requires c = rw c.first_number.ensures (live_object _ _ c.args.packet (same_store c.self.view_is) c.self.invariant c.requires)
 
 pub loop-i-init : goal.loop-i-init
 loop-i-init c = record {
   packets =
-      let set = rw c.place_of.ensures at c.unhook-head.ensures.now in
-      let was = rw c.place_of.ensures at c.unhook-head.ensures.was in
-      rw (c.place_of-place.ensures, was) (freeing_start _ _ _ _ (same_store c.self.view_is) c.self.invariant c.requires set);
+      let set = rw c.first_number.ensures at c.unhook-head.ensures.now in
+      let was = rw c.first_number.ensures at c.unhook-head.ensures.was in
+      rw (c.first_number-mbuf.ensures, was) (freeing_start _ _ _ _ (same_store c.self.view_is) c.self.invariant c.requires set);
   zones = c.unhook-head.ensures.now.zones ∙ same_zones c.self.view_is;
 }
 
-pub release-place-requires : goal.release-place-requires
-release-place-requires c = freeing_can _ _ _ _ _ _ c.loop-i.invariant.packets c.loop-i-test.true
+pub release-mbuf-requires : goal.release-mbuf-requires
+release-mbuf-requires c = freeing_can _ _ _ _ _ _ c.loop-i.invariant.packets c.loop-i-test.true
 
 pub loop-i-preserved : goal.loop-i-preserved
 loop-i-preserved c = record {
   packets =
-      freeing_step _ _ _ _ _ _ c.loop-i.invariant.packets _ _ c.loop-i-test.true c.release-place.ensures.gone c.release-place.ensures.next;
-  zones = released_zones _ _ _ _ c.release-place.ensures.gone ∙ c.loop-i.invariant.zones;
+      freeing_step _ _ _ _ _ _ c.loop-i.invariant.packets _ _ c.loop-i-test.true c.release-mbuf.ensures.gone c.release-mbuf.ensures.next;
+  zones = released_zones _ _ _ _ c.release-mbuf.ensures.gone ∙ c.loop-i.invariant.zones;
 }
 
 pub invariant_of-self : goal.invariant_of-self

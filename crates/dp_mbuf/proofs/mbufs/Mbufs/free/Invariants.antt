@@ -5,6 +5,6 @@ use Rattle.dp_mbuf.proofs.mbufs.Mbufs.free.Given as goal
 
 abbrev pub invariant-loop-i : goal.invariant-loop-i
 invariant-loop-i l = record {
-  packets : Freeing l.self-inside.objects l.place l.i l.i-end l.fn.self.store l.fn.packet;
+  packets : Freeing l.self-inside.objects l.mbuf l.i l.i-end l.fn.self.store l.fn.packet;
   zones : zones_of l.self-inside.objects ≡ l.fn.self.zones;
 }

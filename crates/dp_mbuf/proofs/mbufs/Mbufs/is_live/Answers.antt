@@ -9,14 +9,14 @@ use Rattle.dp_mbuf.proofs.mbufs.Mbufs.is_live.Goals as goal
 
 pub returns-then-index-count : goal.returns-then-index-count
 returns-then-index-count c =
-    let header = rw c.place_of-place.ensures at c.header.ensures in
+    let header = rw c.first_number-mbuf.ensures at c.header.ensures in
     live_iff _ _ c.args.packet.now _ (same_store c.self.view_is) c.self.invariant
     (sym (positive_is c.header.result.segs) ∙ ap (λ h. is_positive h.segs) header)
 
 pub returns-else-index-count : goal.returns-else-index-count
 returns-else-index-count c =
-    let i : c.index.result ≡ (numbered c.args.packet.now).index = c.index.ensures ∙ ap (λ n. n.index) c.place_of-place.ensures in
-    let k : c.pool.result ≡ (numbered c.args.packet.now).pool = c.pool.ensures ∙ ap (λ n. n.pool) c.place_of-place.ensures in
+    let i : c.index.result ≡ (numbered c.args.packet.now).index = c.index.ensures ∙ ap (λ n. n.index) c.first_number-mbuf.ensures in
+    let k : c.pool.result ≡ (numbered c.args.packet.now).pool = c.pool.ensures ∙ ap (λ n. n.pool) c.first_number-mbuf.ensures in
     let many : c.count.result ≡ length (pool_in c.self.inside.objects (numbered c.args.packet.now).pool).objects =
     c.count.ensures ∙ ap (λ j. length (pool_in c.self.inside.objects j).objects) k in
     live_iff _ _ c.args.packet.now _ (same_store c.self.view_is) c.self.invariant

@@ -12,7 +12,7 @@ pub first_header-segs-requires : goal.first_header-segs-requires
 first_header-segs-requires c = live_object _ _ c.args.packet.now (same_store c.self.view_is) c.self.invariant c.requires
 
 pub loop-i-init : goal.loop-i-init
-loop-i-init c = λ p has. (rw c.place_of-place.ensures (links_of _ _ c.args.packet.now (same_store c.self.view_is) c.self.invariant p has), λ s. s)
+loop-i-init c = λ p has. (rw c.first_number-mbuf.ensures (links_of _ _ c.args.packet.now (same_store c.self.view_is) c.self.invariant p has), λ s. s)
 
 pub header-segment-requires : goal.header-segment-requires
 header-segment-requires c =
@@ -37,8 +37,8 @@ loop-i-preserved c = λ p has.
     let now = c.loop-i.invariant p has in
     let buffer = rw c.header-segment.ensures at c.header-buffer.ensures in
     let one = sym (ap (λ h. h.refs) buffer) ∙ c.if-buffer-ne1.false in (
-      rw c.header-segment.ensures (walk_next (header_at c.self.inside.objects) c.loop-i.place c.loop-i.i p b now.0),
-      sole_more _ _ c.args.packet.now (same_store c.self.view_is) c.self.invariant p c.loop-i.place c.loop-i.i has b now.0 one now.1,
+      rw c.header-segment.ensures (walk_next (header_at c.self.inside.objects) c.loop-i.mbuf c.loop-i.i p b now.0),
+      sole_more _ _ c.args.packet.now (same_store c.self.view_is) c.self.invariant p c.loop-i.mbuf c.loop-i.i has b now.0 one now.1,
     )
 
 pub returns-then-buffer-ne1 : goal.returns-then-buffer-ne1
@@ -49,7 +49,7 @@ returns-then-buffer-ne1 c = λ p has.
     let now = c.loop-i.invariant p has in
     let buffer = rw c.header-segment.ensures at c.header-buffer.ensures in (
       λ t. absurd (cc),
-      λ sole. absurd (sole_not _ _ c.args.packet.now (same_store c.self.view_is) c.self.invariant p c.loop-i.place c.loop-i.i has b now.0
+      λ sole. absurd (sole_not _ _ c.args.packet.now (same_store c.self.view_is) c.self.invariant p c.loop-i.mbuf c.loop-i.i has b now.0
           (λ e. c.if-buffer-ne1.true (ap (λ h. h.refs) buffer ∙ e)) sole),
     )
 

@@ -7,5 +7,5 @@ use Rattle.dp_mbuf.proofs.mbufs.Mbufs.is_sole.Given as goal
 
 abbrev pub invariant-loop-i : goal.invariant-loop-i
 invariant-loop-i l =
-    (p : Packet) → Has l.fn.self.store l.packet p → Linked (header_at l.self-inside.objects) l.place (drop l.i p)
+    (p : Packet) → Has l.fn.self.store l.packet p → Linked (header_at l.self-inside.objects) l.mbuf (drop l.i p)
     × (IsSole (segments_of l.fn.self.store) (drop l.i p) → IsSole (segments_of l.fn.self.store) p)

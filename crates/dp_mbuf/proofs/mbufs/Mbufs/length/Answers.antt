@@ -11,7 +11,7 @@ pub first_header-segs-requires : goal.first_header-segs-requires
 first_header-segs-requires c = live_object _ _ c.args.packet.now (same_store c.self.view_is) c.self.invariant c.requires
 
 pub loop-i-init : goal.loop-i-init
-loop-i-init c = λ p has. (rw c.place_of-place.ensures (links_of _ _ c.args.packet.now (same_store c.self.view_is) c.self.invariant p has), omega arith)
+loop-i-init c = λ p has. (rw c.first_number-mbuf.ensures (links_of _ _ c.args.packet.now (same_store c.self.view_is) c.self.invariant p has), omega arith)
 
 pub header-segment-requires : goal.header-segment-requires
 header-segment-requires c =
@@ -32,7 +32,7 @@ loop-i-preserved c = λ p has.
     let b : c.loop-i.i < length p = omega (arith, c.loop-i-test.true, many, segs) in
     let now = c.loop-i.invariant p has in
     rw c.header-segment.ensures (
-      walk_next (header_at c.self.inside.objects) c.loop-i.place c.loop-i.i p b now.0,
+      walk_next (header_at c.self.inside.objects) c.loop-i.mbuf c.loop-i.i p b now.0,
       length_more _ _ c.args.packet.now (same_store c.self.view_is) c.self.invariant p _ c.loop-i.i c.loop-i.total has b now.0 now.1,
     )
 

@@ -7,5 +7,5 @@ use Rattle.dp_mbuf.proofs.mbufs.Mbufs.length.Given as goal
 
 abbrev pub invariant-loop-i : goal.invariant-loop-i
 invariant-loop-i l =
-    (p : Packet) → Has l.fn.self.store l.packet p → Linked (header_at l.self-inside.objects) l.place (drop l.i p)
+    (p : Packet) → Has l.fn.self.store l.packet p → Linked (header_at l.self-inside.objects) l.mbuf (drop l.i p)
     × (l.total + length (packet_bytes l.fn.self.store.buffers (drop l.i p)) ≡ length (packet_bytes l.fn.self.store.buffers p))

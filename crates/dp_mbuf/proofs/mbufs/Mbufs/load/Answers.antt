@@ -10,29 +10,29 @@ first_header-head-requires c = live_object _ _ c.args.packet.now (same_store c.s
 
 pub bytes_in_segment-bytes-requires-clause-object : goal.bytes_in_segment-bytes-requires-clause-object
 bytes_in_segment-bytes-requires-clause-object c =
-    (at_first _ _ c.args.packet.now (same_store c.self.view_is) c.self.invariant _ c.args.place (bytes_in c.args.width) c.first_header-head.ensures
+    (at_first _ _ c.args.packet.now (same_store c.self.view_is) c.self.invariant _ c.args.offset (bytes_in c.args.width) c.first_header-head.ensures
     c.requires).1
 
 pub bytes_in_segment-bytes-requires-clause-fits : goal.bytes_in_segment-bytes-requires-clause-fits
 bytes_in_segment-bytes-requires-clause-fits c =
-    (at_first _ _ c.args.packet.now (same_store c.self.view_is) c.self.invariant _ c.args.place (bytes_in c.args.width) c.first_header-head.ensures
+    (at_first _ _ c.args.packet.now (same_store c.self.view_is) c.self.invariant _ c.args.offset (bytes_in c.args.width) c.first_header-head.ensures
     c.requires).2
 
 pub slice_bounds-read_number-count : goal.slice_bounds-read_number-count
 slice_bounds-read_number-count c =
-    let f = at_first _ _ c.args.packet.now (same_store c.self.view_is) c.self.invariant _ c.args.place (bytes_in c.args.width) c.first_header-head.ensures
+    let f = at_first _ _ c.args.packet.now (same_store c.self.view_is) c.self.invariant _ c.args.offset (bytes_in c.args.width) c.first_header-head.ensures
     c.requires in
     omega (arith, f.0, c.bytes_in_segment-bytes.ensures.many)
 
 pub read_number-requires : goal.read_number-requires
 read_number-requires c =
-    let f = at_first _ _ c.args.packet.now (same_store c.self.view_is) c.self.invariant _ c.args.place (bytes_in c.args.width) c.first_header-head.ensures
+    let f = at_first _ _ c.args.packet.now (same_store c.self.view_is) c.self.invariant _ c.args.offset (bytes_in c.args.width) c.first_header-head.ensures
     c.requires in
-    rest_long _ c.args.place (bytes_in c.args.width) (omega (arith, f.0, c.bytes_in_segment-bytes.ensures.many))
+    rest_long _ c.args.offset (bytes_in c.args.width) (omega (arith, f.0, c.bytes_in_segment-bytes.ensures.many))
 
 pub returns : goal.returns
 returns c = λ k has.
     c.read_number.ensures
-    ∙ (ap spelled (rest_take c.bytes_in_segment-bytes.result.now c.args.place (bytes_in c.args.width))
-    ∙ loaded_is _ _ c.args.packet.now (same_store c.self.view_is) c.self.invariant _ c.args.place (bytes_in c.args.width) _ c.first_header-head.ensures
+    ∙ (ap spelled (rest_take c.bytes_in_segment-bytes.result.now c.args.offset (bytes_in c.args.width))
+    ∙ loaded_is _ _ c.args.packet.now (same_store c.self.view_is) c.self.invariant _ c.args.offset (bytes_in c.args.width) _ c.first_header-head.ensures
     c.bytes_in_segment-bytes.ensures.value k has)

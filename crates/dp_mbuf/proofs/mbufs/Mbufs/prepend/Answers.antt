@@ -44,7 +44,7 @@ overflow_add-head c =
 
 pub set_bounds-requires : goal.set_bounds-requires
 set_bounds-requires c =
-    rw c.place_of.ensures (live_object _ _ c.args.packet.now (same_store c.self.view_is) c.self.invariant (c.requires.0, c.requires.1, tt))
+    rw c.first_number.ensures (live_object _ _ c.args.packet.now (same_store c.self.view_is) c.self.invariant (c.requires.0, c.requires.1, tt))
 
 pub invariant_of-self : goal.invariant_of-self
 invariant_of-self c =
@@ -53,7 +53,7 @@ invariant_of-self c =
       c.requires.1,
       c.requires.2.0,
     ) in
-    let set = rw c.place_of.ensures at c.set_bounds.ensures in
+    let set = rw c.first_number.ensures at c.set_bounds.ensures in
     (prepended_done _ _ c.args.packet.now (same_store c.self.view_is) c.self.invariant _ _ _ c.args.n _ c.first_header-head.ensures (
       c.requires.0,
       c.requires.1,
@@ -67,7 +67,7 @@ returns-clause-packets c =
       c.requires.1,
       c.requires.2.0,
     ) in
-    let set = rw c.place_of.ensures at c.set_bounds.ensures in
+    let set = rw c.first_number.ensures at c.set_bounds.ensures in
     (prepended_done _ _ c.args.packet.now (same_store c.self.view_is) c.self.invariant _ _ _ c.args.n _ c.first_header-head.ensures (
       c.requires.0,
       c.requires.1,

@@ -21,8 +21,8 @@ loop-i-init c = record {
   zones = filled_zones _ _ _ _ c.fill_segment-first.ensures.filled ∙ same_zones c.self.view_is;
 }
 
-pub fill_segment-place-requires-clause-some : goal.fill_segment-place-requires-clause-some
-fill_segment-place-requires-clause-some c =
+pub fill_segment-mbuf-requires-clause-some : goal.fill_segment-mbuf-requires-clause-some
+fill_segment-mbuf-requires-clause-some c =
     let r = ready _ _ c.args.pool (c.room-full.result - 128) _ (same_store c.self.view_is) c.self.invariant c.requires.room c.room-full.ensures refl in
     let enough : c.count_needed-need.result ≤ available c.args.self.now.store.pools (segments_of c.args.self.now.store) c.args.pool =
     omega (arith, c.if-available-need.false, c.available.ensures, r.in_pool) in
@@ -33,15 +33,15 @@ pub relink-requires : goal.relink-requires
 relink-requires c =
     let r = ready _ _ c.args.pool (c.room-full.result - 128) _ (same_store c.self.view_is) c.self.invariant c.requires.room c.room-full.ensures refl in
     fill_last c.args.self.now.store c.args.pool (c.room-full.result - 128) c.args.bytes.now r.room r.some _ _ _ _ _ c.loop-i.invariant.packets _ _
-    c.fill_segment-place.ensures.pool c.fill_segment-place.ensures.filled
+    c.fill_segment-mbuf.ensures.pool c.fill_segment-mbuf.ensures.filled
 
 pub loop-i-preserved : goal.loop-i-preserved
 loop-i-preserved c = record {
   packets =
       let r = ready _ _ c.args.pool (c.room-full.result - 128) _ (same_store c.self.view_is) c.self.invariant c.requires.room c.room-full.ensures refl in
       fill_done c.args.self.now.store c.args.pool (c.room-full.result - 128) c.args.bytes.now r.room r.some _ _ _ _ _ c.loop-i.invariant.packets _ _ _ _
-      c.fill_segment-place.ensures.pool c.fill_segment-place.ensures.filled c.relink.ensures c.behind-rest-in-loop-i.ensures;
-  zones = c.relink.ensures.zones ∙ (filled_zones _ _ _ _ c.fill_segment-place.ensures.filled ∙ c.loop-i.invariant.zones);
+      c.fill_segment-mbuf.ensures.pool c.fill_segment-mbuf.ensures.filled c.relink.ensures c.behind-rest-in-loop-i.ensures;
+  zones = c.relink.ensures.zones ∙ (filled_zones _ _ _ _ c.fill_segment-mbuf.ensures.filled ∙ c.loop-i.invariant.zones);
 }
 
 pub hook-requires : goal.hook-requires

@@ -6,32 +6,32 @@ use Rattle.dp_mbuf.proofs.PoolLemmas.{some_below}
 use Rattle.dp_mbuf.proofs.Reading.{has_walk, links_of, part, nth_is}
 use Rattle.dp_mbuf.proofs.mbufs.Mbufs.segment_bytes.Goals as goal
 
-pub place_at-requires : goal.place_at-requires
-place_at-requires c = rw c.place_of.ensures (has_walk _ _ c.args.packet.now (same_store c.self.view_is) c.self.invariant c.args.k c.requires)
+pub mbuf_at-requires : goal.mbuf_at-requires
+mbuf_at-requires c = rw c.first_number.ensures (has_walk _ _ c.args.packet.now (same_store c.self.view_is) c.self.invariant c.args.k c.requires)
 
 pub header-segment-requires : goal.header-segment-requires
 header-segment-requires c =
-    let walk = rw c.place_of.ensures at c.place_at.ensures in
+    let walk = rw c.first_number.ensures at c.mbuf_at.ensures in
     (part _ _ c.args.packet.now (same_store c.self.view_is) c.self.invariant c.requires.0 _ c.args.k c.requires.1 c.requires.2
     (walk c.requires.0 (links_of _ _ c.args.packet.now (same_store c.self.view_is) c.self.invariant c.requires.0 c.requires.1) c.requires.2)).object
 
 pub bytes_in_segment-requires-clause-object : goal.bytes_in_segment-requires-clause-object
 bytes_in_segment-requires-clause-object c =
-    let walk = rw c.place_of.ensures at c.place_at.ensures in
+    let walk = rw c.first_number.ensures at c.mbuf_at.ensures in
     rw c.header-segment.ensures
     (part _ _ c.args.packet.now (same_store c.self.view_is) c.self.invariant c.requires.0 _ c.args.k c.requires.1 c.requires.2
     (walk c.requires.0 (links_of _ _ c.args.packet.now (same_store c.self.view_is) c.self.invariant c.requires.0 c.requires.1) c.requires.2)).buffer
 
 pub bytes_in_segment-requires-clause-fits : goal.bytes_in_segment-requires-clause-fits
 bytes_in_segment-requires-clause-fits c =
-    let walk = rw c.place_of.ensures at c.place_at.ensures in
+    let walk = rw c.first_number.ensures at c.mbuf_at.ensures in
     rw c.header-segment.ensures
     (part _ _ c.args.packet.now (same_store c.self.view_is) c.self.invariant c.requires.0 _ c.args.k c.requires.1 c.requires.2
     (walk c.requires.0 (links_of _ _ c.args.packet.now (same_store c.self.view_is) c.self.invariant c.requires.0 c.requires.1) c.requires.2)).fits
 
 pub returns : goal.returns
 returns c = λ k has s is.
-    let walk = rw c.place_of.ensures at c.place_at.ensures in
+    let walk = rw c.first_number.ensures at c.mbuf_at.ensures in
     let b : c.args.k < length k = some_below k c.args.k s is in
     let q = part _ _ c.args.packet.now (same_store c.self.view_is) c.self.invariant k _ c.args.k has b
     (walk k (links_of _ _ c.args.packet.now (same_store c.self.view_is) c.self.invariant k has) b) in

@@ -12,29 +12,29 @@ pub overflow_add-at : goal.overflow_add-at
 overflow_add-at c =
     omega (
       arith,
-      at_first _ _ c.args.packet.now (same_store c.self.view_is) c.self.invariant _ c.args.place
+      at_first _ _ c.args.packet.now (same_store c.self.view_is) c.self.invariant _ c.args.offset
           (bytes_in c.args.width) c.first_header-head.ensures (c.requires.0, c.requires.1, c.requires.2.0),
     )
 
 pub write_number-requires-clause-object : goal.write_number-requires-clause-object
 write_number-requires-clause-object c =
-    (at_first _ _ c.args.packet.now (same_store c.self.view_is) c.self.invariant _ c.args.place (bytes_in c.args.width) c.first_header-head.ensures
+    (at_first _ _ c.args.packet.now (same_store c.self.view_is) c.self.invariant _ c.args.offset (bytes_in c.args.width) c.first_header-head.ensures
     (c.requires.0, c.requires.1, c.requires.2.0)).1
 
 pub write_number-requires-clause-fits : goal.write_number-requires-clause-fits
 write_number-requires-clause-fits c =
     omega (
       arith,
-      at_first _ _ c.args.packet.now (same_store c.self.view_is) c.self.invariant _ c.args.place
+      at_first _ _ c.args.packet.now (same_store c.self.view_is) c.self.invariant _ c.args.offset
           (bytes_in c.args.width) c.first_header-head.ensures (c.requires.0, c.requires.1, c.requires.2.0),
     )
 
 pub invariant_of-self : goal.invariant_of-self
 invariant_of-self c =
-    (stored_done _ _ c.args.packet.now (same_store c.self.view_is) c.self.invariant _ _ c.args.place (bytes_in c.args.width) c.args.n _ _
+    (stored_done _ _ c.args.packet.now (same_store c.self.view_is) c.self.invariant _ _ c.args.offset (bytes_in c.args.width) c.args.n _ _
     c.first_header-head.ensures (c.requires.0, c.requires.1, tt) refl refl c.write_number.ensures).0
 
 pub returns-clause-packets : goal.returns-clause-packets
 returns-clause-packets c =
-    (stored_done _ _ c.args.packet.now (same_store c.self.view_is) c.self.invariant _ _ c.args.place (bytes_in c.args.width) c.args.n _ _
+    (stored_done _ _ c.args.packet.now (same_store c.self.view_is) c.self.invariant _ _ c.args.offset (bytes_in c.args.width) c.args.n _ _
     c.first_header-head.ensures (c.requires.0, c.requires.1, tt) refl refl c.write_number.ensures).1

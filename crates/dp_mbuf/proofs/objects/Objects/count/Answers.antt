@@ -4,7 +4,7 @@ use Rattle.dp_mbuf.proofs.objects.Objects.count.Goals as goal
 
 pub returns : goal.returns
 returns c =
-    c.count_in_slot.ensures ∙ counted _ _ _ c.args.pool _ c.self.view_is c.self.invariant refl (omega (arith, c.if-k-ge8.false))
+    c.count_in_slot.ensures ∙ counted _ _ _ c.args.pool _ c.self.view_is c.self.invariant refl (omega (arith, c.if-k-ge-MAX_POOLS.false))
 
-pub returns-then-k-ge8 : goal.returns-then-k-ge8
-returns-then-k-ge8 c = sym (counted_none _ _ c.args.pool c.self.view_is c.self.invariant (omega (arith, c.if-k-ge8.true)))
+pub returns-then-k-ge-MAX_POOLS : goal.returns-then-k-ge-MAX_POOLS
+returns-then-k-ge-MAX_POOLS c = sym (counted_none _ _ c.args.pool c.self.view_is c.self.invariant (omega (arith, c.if-k-ge-MAX_POOLS.true)))

@@ -12,8 +12,8 @@ pub bounds-self-inside-pool : goal.bounds-self-inside-pool
 bounds-self-inside-pool c =
     omega (arith, c.pool.ensures, (pool_listed _ _ c.self.view_is c.self.invariant c.args.n.pool (object_pool _ _ c.requires.object)).1)
 
-pub overflow_add-at : goal.overflow_add-at
-overflow_add-at c = omega (arith, c.requires.fits, room_small _ _ c.self.view_is c.self.invariant c.args.n c.requires.object)
+pub overflow_add-from : goal.overflow_add-from
+overflow_add-from c = omega (arith, c.requires.fits, room_small _ _ c.self.view_is c.self.invariant c.args.n c.requires.object)
 
 pub write_number_in-requires : goal.write_number_in-requires
 write_number_in-requires c =

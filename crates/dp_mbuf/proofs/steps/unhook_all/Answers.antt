@@ -1,6 +1,6 @@
 use Rattle.std.proofs.Common.{◌≡◌, ◌+◌, ◌<◌, arith}
 use Rattle.dp_mbuf.proofs.Unhooking.{unhooked_none, unhooked_both, unhooked_rest, next_pool, each_pool}
-use Rattle.dp_mbuf.proofs.hands.unhook_all.Goals as goal
+use Rattle.dp_mbuf.proofs.steps.unhook_all.Goals as goal
 
 pub loop-pool-init : goal.loop-pool-init
 loop-pool-init c = unhooked_none (λ m. m.pool < 0) _ c.requires (λ m p. omega (arith, p))

@@ -1,5 +1,5 @@
 use Rattle.dp_mbuf.proofs.InHand.{object_after}
-use Rattle.dp_mbuf.proofs.hands.release.Goals as goal
+use Rattle.dp_mbuf.proofs.steps.release.Goals as goal
 
 pub drop_reference-requires-clause-object : goal.drop_reference-requires-clause-object
 drop_reference-requires-clause-object c =

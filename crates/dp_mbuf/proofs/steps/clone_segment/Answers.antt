@@ -1,6 +1,6 @@
 use Rattle.std.proofs.Common.{◌∙◌}
 use Rattle.dp_mbuf.proofs.InHand.{object_after}
-use Rattle.dp_mbuf.proofs.hands.clone_segment.Goals as goal
+use Rattle.dp_mbuf.proofs.steps.clone_segment.Goals as goal
 
 pub header-refs-requires : goal.header-refs-requires
 header-refs-requires c =

@@ -1,6 +1,6 @@
 use Rattle.std.proofs.Common.{◌≡◌, ◌<◌}
 use Rattle.dp_mbuf.specs.Objects.{Unhooked}
-use Rattle.dp_mbuf.proofs.hands.unhook_pool.Given as goal
+use Rattle.dp_mbuf.proofs.steps.unhook_pool.Given as goal
 
 abbrev pub invariant-loop-index : goal.invariant-loop-index
 invariant-loop-index l = Unhooked (λ m. (m.pool ≡ l.pool) × (m.index < l.index)) l.fn.objects l.objects

@@ -1,7 +1,7 @@
 use Rattle.std.proofs.Common.{◌-◌, ap}
 use Rattle.dp_mbuf.specs.Objects.{header_at}
 use Rattle.dp_mbuf.proofs.InHand.{less_set, one_reference_less}
-use Rattle.dp_mbuf.proofs.hands.drop_reference.Goals as goal
+use Rattle.dp_mbuf.proofs.steps.drop_reference.Goals as goal
 
 pub returns-else-refs-eq1 : goal.returns-else-refs-eq1
 returns-else-refs-eq1 c =

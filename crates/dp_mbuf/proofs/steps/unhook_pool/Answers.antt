@@ -1,6 +1,6 @@
 use Rattle.std.proofs.Common.{◌≡◌, ◌+◌, ◌<◌, refl, arith}
 use Rattle.dp_mbuf.proofs.Unhooking.{count_kept, unhooked_none, unhooked_more, unhooked_rest, next_index, each_object}
-use Rattle.dp_mbuf.proofs.hands.unhook_pool.Goals as goal
+use Rattle.dp_mbuf.proofs.steps.unhook_pool.Goals as goal
 
 pub loop-index-init : goal.loop-index-init
 loop-index-init c = unhooked_none (λ m. (m.pool ≡ c.args.pool) × (m.index < 0)) _ c.requires (λ m p. let low = p.1 in omega (arith, low))

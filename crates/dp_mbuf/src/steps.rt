@@ -1,16 +1,17 @@
-// Segments in hand: the small steps that calls are made of.
+// The small steps that calls are made of.
 
 ghost use Rattle.std.specs.Prelude.{◌≡◌, ◌+◌, ◌<◌, ◌≤◌, true, length, take, drop};
 ghost use Rattle.dp_model.specs.Environments.{room_at};
 ghost use Rattle.dp_mbuf.specs.Objects.{header_at, is_out, specs_of, HasObject, count_in, ArePools, HeaderSet, Unhooked, Taken};
 ghost use Rattle.dp_mbuf.specs.Steps.{MbufBack, BufferLess, CanRelease, Released, CanClone, Cloned, FilledBy};
 
-use crate::header::{Header, Place};
+use crate::header::{Header, MbufNumber};
+use crate::limits::{HEADROOM, MAX_POOLS};
 use crate::objects::Objects;
 
 /// Makes a packet's first header none, and gives what it was.
 #[inline(always)]
-pub(crate) fn unhook(objects: &mut Objects, n: Place) -> Header
+pub(crate) fn unhook(objects: &mut Objects, n: MbufNumber) -> Header
     requires { HasObject objects.old n }
     ensures was { result ≡ header_at objects.old n }
     ensures now { HeaderSet objects.old n (record (header_at objects.old n) { segs = 0 }) objects.new }
@@ -27,7 +28,7 @@ fn unhook_pool(objects: &mut Objects, pool: u16)
 {
     let count = objects.count(pool);
     for index in 0..count {
-        unhook(objects, Place::new(pool, index as u16));
+        unhook(objects, MbufNumber::new(pool, index as u16));
     }
 }
 
@@ -36,14 +37,14 @@ pub(crate) fn unhook_all(objects: &mut Objects)
     requires { ArePools objects.old }
     ensures { Unhooked (λ m. Unit {0}) objects.old objects.new }
 {
-    for pool in 0..8u16 {
+    for pool in 0..MAX_POOLS as u16 {
         unhook_pool(objects, pool);
     }
 }
 
 /// Makes a packet's first header of an mbuf: how many segments the packet has, and which is the last.
 #[inline(always)]
-pub(crate) fn hook(objects: &mut Objects, n: Place, segs: u16, last: Place)
+pub(crate) fn hook(objects: &mut Objects, n: MbufNumber, segs: u16, last: MbufNumber)
     requires { HasObject objects.old n }
     ensures { HeaderSet objects.old n (record (header_at objects.old n) { segs = segs; last = last }) objects.new }
 {
@@ -52,7 +53,7 @@ pub(crate) fn hook(objects: &mut Objects, n: Place, segs: u16, last: Place)
 
 /// Sets the mbuf that comes next.
 #[inline(always)]
-pub(crate) fn relink(objects: &mut Objects, n: Place, next: Place)
+pub(crate) fn relink(objects: &mut Objects, n: MbufNumber, next: MbufNumber)
     requires { HasObject objects.old n }
     ensures { HeaderSet objects.old n (record (header_at objects.old n) { next = next }) objects.new }
 {
@@ -61,7 +62,7 @@ pub(crate) fn relink(objects: &mut Objects, n: Place, next: Place)
 
 // Puts an mbuf back, where it is not its own buffer.
 #[inline(always)]
-fn put_mbuf(objects: &mut Objects, n: Place, b: Place)
+fn put_mbuf(objects: &mut Objects, n: MbufNumber, b: MbufNumber)
     requires are { ArePools objects.old }
     requires out { is_out objects.old n ≡ true }
     ensures { MbufBack objects.old n b objects.new }
@@ -73,7 +74,7 @@ fn put_mbuf(objects: &mut Objects, n: Place, b: Place)
 
 // Gives up one reference of a buffer.
 #[inline(always)]
-fn drop_reference(objects: &mut Objects, b: Place)
+fn drop_reference(objects: &mut Objects, b: MbufNumber)
     requires are { ArePools objects.old }
     requires object { HasObject objects.old b }
     requires out { is_out objects.old b ≡ true }
@@ -90,7 +91,7 @@ fn drop_reference(objects: &mut Objects, b: Place)
 
 /// Gives up one segment, and gives the number of the next one.
 #[inline(always)]
-pub(crate) fn release(objects: &mut Objects, n: Place) -> Place
+pub(crate) fn release(objects: &mut Objects, n: MbufNumber) -> MbufNumber
     requires { CanRelease objects.old n (header_at objects.old n).buffer }
     ensures gone { Released objects.old n (header_at objects.old n).buffer objects.new }
     ensures next { result ≡ (header_at objects.old n).next }
@@ -103,7 +104,7 @@ pub(crate) fn release(objects: &mut Objects, n: Place) -> Place
 
 /// The header of a new mbuf that is its own buffer, of no packet yet.
 #[inline(always)]
-pub(crate) fn fresh_header(n: Place, offset: u16, len: u16) -> Header
+pub(crate) fn fresh_header(n: MbufNumber, offset: u16, len: u16) -> Header
     ensures { result ≡ record { segs = 0; refs = 1; offset = offset; len = len; next = n; last = n; buffer = n } }
 {
     Header {
@@ -117,16 +118,16 @@ pub(crate) fn fresh_header(n: Place, offset: u16, len: u16) -> Header
     }
 }
 
-/// Hands out an object of a pool that has one in.
+/// Takes an object of a pool that has one in.
 #[inline(always)]
-pub(crate) fn take_one(objects: &mut Objects, pool: u16) -> Place
+pub(crate) fn take_one(objects: &mut Objects, pool: u16) -> MbufNumber
     requires there { pool < length objects.old }
     requires some { 1 ≤ count_in objects.old pool }
     ensures pool { result.pool ≡ pool }
     ensures taken { Taken objects.old result objects.new }
 {
     match objects.take(pool) {
-        Some(place) => place,
+        Some(mbuf) => mbuf,
         None => unreachable!(),
     }
 }
@@ -134,7 +135,7 @@ pub(crate) fn take_one(objects: &mut Objects, pool: u16) -> Place
 /// Takes an mbuf of a pool for the segment of another mbuf: the same part of the same buffer, also where that is an
 /// indirect one.
 #[inline(always)]
-pub(crate) fn clone_segment(objects: &mut Objects, from: Place, pool: u16) -> Place
+pub(crate) fn clone_segment(objects: &mut Objects, from: MbufNumber, pool: u16) -> MbufNumber
     requires { CanClone objects.old from pool }
     ensures pool { result.pool ≡ pool }
     ensures cloned { Cloned objects.old from result objects.new }
@@ -170,19 +171,19 @@ pub(crate) fn behind(bytes: &[u8], n: usize) -> &[u8]
 
 /// Takes an mbuf of a pool and fills its buffer with the first of the bytes, at most `full` of them.
 #[inline(always)]
-pub(crate) fn fill_segment(objects: &mut Objects, pool: u16, full: u16, bytes: &[u8]) -> Place
+pub(crate) fn fill_segment(objects: &mut Objects, pool: u16, full: u16, bytes: &[u8]) -> MbufNumber
     requires are { ArePools objects.old }
     requires there { pool < length objects.old }
     requires some { 1 ≤ count_in objects.old pool }
-    requires room { 128 + full ≤ room_at (specs_of objects.old) pool }
+    requires room { HEADROOM + full ≤ room_at (specs_of objects.old) pool }
     ensures pool { result.pool ≡ pool }
     ensures filled { FilledBy objects.old result (take full bytes.now) objects.new }
 {
     let count = bytes.len().min(full as usize);
     let chunk = &bytes[..count];
     let n = take_one(objects, pool);
-    let header = fresh_header(n, 128, chunk.len() as u16);
+    let header = fresh_header(n, HEADROOM, chunk.len() as u16);
     objects.set_header(n, header);
-    objects.write(n, 128, chunk);
+    objects.write(n, HEADROOM as u32, chunk);
     n
 }

@@ -2,7 +2,7 @@ use Rattle.std.proofs.Common.{◌≡◌, ◌∙◌, ap, subst, take, length}
 use Rattle.std.proofs.lemmas.List.{take_min}
 use Rattle.dp_mbuf.specs.Steps.{FilledBy}
 use Rattle.dp_mbuf.proofs.Allocs.{same_min}
-use Rattle.dp_mbuf.proofs.hands.fill_segment.Goals as goal
+use Rattle.dp_mbuf.proofs.steps.fill_segment.Goals as goal
 
 pub returns-clause-filled : goal.returns-clause-filled
 returns-clause-filled c =
