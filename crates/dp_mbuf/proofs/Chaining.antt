@@ -17,9 +17,6 @@ use Rattle.dp_mbuf.proofs.Frames.{handle_back, object_of}
 use Rattle.dp_mbuf.proofs.Edits.{all_at, unhooked, unhooked_from, relinked, hooked, linkage_same}
 use Rattle.dp_mbuf.proofs.Live.{opened, has_same, settled, seen}
 
-pub sums : (a b c d : ℕ) → a ≡ b → c ≡ d → a + c ≡ b + d
-sums a b c d e f = omega (arith, e, f)
-
 pub last_of_links : (h : Number → Header) (n : Number) (k : Packet) → 1 ≤ length k → Linked h n k → 1 ≤ mbufs k (last_mbuf n k)
 last_of_links h n [] some l = absurd (omega arith)
 last_of_links h n (s ∷ rest) some l = last_in s rest
@@ -53,6 +50,13 @@ joined ps ps' k t slots n m w some lk lt done =
           (ap (λ h. h.next) done.here),
     )
 
+-- two packets' first headers made none, the second packet's first, and what both were
+pub record Heads (ps ps1 ps2 : List PoolView) (h t : ℕ) (front behind : Header) : Type 0 where
+  pub tail_out : HeaderSet ps (numbered t) (record (header_at ps (numbered t)) { segs = 0 }) ps1
+  pub head_out : HeaderSet ps1 (numbered h) (record (header_at ps1 (numbered h)) { segs = 0 }) ps2
+  pub head_was : front ≡ header_at ps1 (numbered h)
+  pub tail_was : behind ≡ header_at ps (numbered t)
+
 module _ (ps : List PoolView) (v : Store) (h t : ℕ) (e : shown ps ≡ v) (sound : Sound ps) (two : h ≢ t)
     (few : HasSome v h (λ k. HasSome v t (λ j. length k + length j ≤ 64))) where
   abbrev k : Packet
@@ -82,39 +86,39 @@ module _ (ps : List PoolView) (v : Store) (h t : ℕ) (e : shown ps ≡ v) (soun
         b.2,
       )
 
-  pub last_there : (ps1 ps2 : List PoolView) (l : Number) → HeaderSet ps (numbered t) (record (header_at ps (numbered t)) { segs = 0 }) ps1 →
-      HeaderSet ps1 (numbered h) (record (header_at ps1 (numbered h)) { segs = 0 }) ps2 → l ≡ (header_at ps1 (numbered h)).last → HasObject ps2 l
-  last_there ps1 ps2 l d1 d2 el =
-      let b = head_gone ps1 ps2 d1 d2 in
+  pub last_there : (ps1 ps2 : List PoolView) (front behind : Header) → Heads ps ps1 ps2 h t front behind → HasObject ps2 front.last
+  last_there ps1 ps2 front behind g =
+      let b = head_gone ps1 ps2 g.tail_out g.head_out in
       let slots2 : List (Option Packet) = set (set (slots_of ps) t None) h None in
       let n : Number = last_mbuf (numbered h) k in
       let in_k = last_of_links (header_at ps2) (numbered h) k b.3.some b.1 in
-      subst (HasObject ps2) (sym (el ∙ b.3.last))
+      subst (HasObject ps2) (sym (ap (λ x. x.last) g.head_was ∙ b.3.last))
       (object_of ps2 n (all_at (IsNumber (specs_of ps2)) (k ++ j) n (all_front (λ s. IsNumber (specs_of ps2) s.mbuf) (k
       ++ j) (segments_held slots2) b.0.counted.numbers) (omega (arith, in_k, mbufs-append k j n))))
 
-  pub segs_fit : (ps1 ps2 : List PoolView) → HeaderSet ps (numbered t) (record (header_at ps (numbered t)) { segs = 0 }) ps1 →
-      HeaderSet ps1 (numbered h) (record (header_at ps1 (numbered h)) { segs = 0 }) ps2 →
-      (header_at ps1 (numbered h)).segs + (header_at ps (numbered t)).segs ≤ 64
-  segs_fit ps1 ps2 d1 d2 =
-      let a = (tail_gone ps1 d1).2.segs in
-      let b = (head_gone ps1 ps2 d1 d2).3.segs in
-      let f = few.2.2 in
-      omega (arith, a, b, f)
+  pub segs_fit : (ps1 ps2 : List PoolView) (front behind : Header) → Heads ps ps1 ps2 h t front behind → front.segs + behind.segs ≤ 64
+  segs_fit ps1 ps2 front behind g =
+      let a = (tail_gone ps1 g.tail_out).2.segs in
+      let b = (head_gone ps1 ps2 g.tail_out g.head_out).3.segs in
+      omega (arith, a, b, few.2.2, ap (λ x. x.segs) g.head_was, ap (λ x. x.segs) g.tail_was)
 
-  pub chained : (ps1 ps2 ps3 ps4 : List PoolView) (l : Number) (segs : ℕ) (last : Number) →
-      HeaderSet ps (numbered t) (record (header_at ps (numbered t)) { segs = 0 }) ps1 →
-      HeaderSet ps1 (numbered h) (record (header_at ps1 (numbered h)) { segs = 0 }) ps2 → l ≡ (header_at ps1 (numbered h)).last →
-      HeaderSet ps2 l (record (header_at ps2 l) { next = numbered t }) ps3 → segs ≡ (header_at ps1 (numbered h)).segs + (header_at ps (numbered t)).segs →
-      last ≡ (header_at ps (numbered t)).last → HeaderSet ps3 (numbered h) (record (header_at ps3 (numbered h)) { segs = segs; last = last }) ps4 →
+  pub chained : (ps1 ps2 ps3 ps4 : List PoolView) (front behind : Header) → Heads ps ps1 ps2 h t front behind →
+      HeaderSet ps2 front.last (record (header_at ps2 front.last) { next = numbered t }) ps3 →
+      HeaderSet ps3 (numbered h) (record (header_at ps3 (numbered h)) { segs = front.segs + behind.segs; last = behind.last }) ps4 →
       Sound ps4 × Chains v h t (shown ps4)
-  chained ps1 ps2 ps3 ps4 l segs last d1 d2 el d3 es ea d4 =
+  chained ps1 ps2 ps3 ps4 front behind g d3 d4 =
+      let d1 = g.tail_out in
+      let d2 = g.head_out in
+      let segs : ℕ = front.segs + behind.segs in
+      let last : Number = behind.last in
+      let es : segs ≡ (header_at ps1 (numbered h)).segs + (header_at ps (numbered t)).segs =
+      omega (arith, ap (λ x. x.segs) g.head_was, ap (λ x. x.segs) g.tail_was) in
       let a = tail_gone ps1 d1 in
       let b = head_gone ps1 ps2 d1 d2 in
       let sk = b.3 in
       let sj = a.2 in
       let slots2 : List (Option Packet) = set (set (slots_of ps) t None) h None in
-      let l_is : l ≡ last_mbuf (numbered h) k = el ∙ sk.last in
+      let l_is : front.last ≡ last_mbuf (numbered h) k = ap (λ x. x.last) g.head_was ∙ sk.last in
       let c = joined ps2 ps3 k j slots2 (numbered h) (numbered t) b.0 sk.some b.1 b.2
       (subst (λ m. HeaderSet ps2 m (record (header_at ps2 m) { next = numbered t }) ps3) l_is d3) in
       let few' = few.2.2 in
@@ -124,7 +128,7 @@ module _ (ps : List PoolView) (v : Store) (h t : ℕ) (e : shown ps ≡ v) (soun
       let d = hooked ps3 ps4 slots2 (numbered h) (k ++ j) (record (header_at ps3 (numbered h)) { segs = segs; last = last }) c.0 c.1
       (omega (arith, some, length-append k j)) (omega (arith, few', length-append k j)) d4
       (omega (arith, es, n1, n2, length-append k j))
-      (ea ∙ (sj.last ∙ sym (last_join (numbered h) (numbered t) k j (header_at ps1) sj.some a.1)))
+      (ap (λ x. x.last) g.tail_was ∙ (sj.last ∙ sym (last_join (numbered h) (numbered t) k j (header_at ps1) sj.some a.1)))
       refl (record { offset = refl; len = refl; next = refl; buffer = refl }) in
       let slots : set slots2 (handle (numbered h)) (Some (k ++ j)) ≡ set (set (slots_of ps) h (Some (k ++ j))) t None =
       ap (λ i. set slots2 i (Some (k ++ j))) (handle_back h)

@@ -305,23 +305,66 @@ without xs ys n m none some = ⊎_elim
     (λ d. d)
     (same_or n m)
 
-module _ (v : Store) (h : ℕ) (p : Packet) (pool : ℕ) (has : Has v h p) (few : length p ≤ 64) where
-  -- the first segment
-  pub cloning_can : (ps : List PoolView) → Whole ps [] v.slots → Linked (header_at ps) (numbered h) p → 1 ≤ length p → pool < length ps →
-      1 ≤ count_in ps pool → CanClone ps (numbered h) pool
-  cloning_can ps w l some there in_pool =
-      can_clone_at ps [] v h p (numbered h) 0 pool w (omega arith) has some l there in_pool
+-- what is known of the packet and the pool as the call begins
+pub record Before (ps : List PoolView) (v : Store) (h : ℕ) (p : Packet) (pool : ℕ) : Type 0 where
+  pub has : Has v h p
+  pub whole : Whole ps [] v.slots
+  pub links : Linked (header_at ps) (numbered h) p
+  pub some : 1 ≤ length p
+  pub few : length p ≤ 64
+  pub there : pool < length ps
+  pub in_pool : count_in ps pool ≡ available v.pools (segments_of v) pool
+  pub segs : (header_at ps (numbered h)).segs ≡ length p
+  pub specs : specs_of ps ≡ v.pools
+  pub buffers : buffers_of ps ≡ v.buffers
 
-  pub cloning_start : (ps ps' : List PoolView) (n : Number) → Whole ps [] v.slots → Linked (header_at ps) (numbered h) p → 1 ≤ length p → pool < length ps →
-      n.pool ≡ pool → specs_of ps ≡ v.pools → buffers_of ps ≡ v.buffers → count_in ps pool ≡ available v.pools (segments_of v) pool →
-      Cloned ps (numbered h) n ps' → Cloning ps' v h p pool n n (header_at ps (numbered h)).next 1
-  cloning_start ps ps' n w l some there ep es eb ea c =
-      let s = source_at ps [] v h p (numbered h) 0 w has some l in
-      let g = grown_clone ps ps' [] v.slots (numbered h) n s.seg w c s.segment s.refs s.lies in
+pub before : (ps : List PoolView) (v : Store) (h : ℕ) (pool : ℕ) → shown ps ≡ v → Sound ps → pool < length v.pools → (p : Packet) → Has v h p →
+    Before ps v h p pool
+before ps v h pool e sound exists p has =
+    let o = opened ps v h p e sound has in
+    record {
+      has = has;
+      whole = subst (λ s. Whole ps [] s.slots) e sound;
+      links = o.stands.links;
+      some = o.stands.some;
+      few = o.stands.few;
+      there = pool_there ps v pool e exists;
+      in_pool = sym (free_in ps v pool e sound exists);
+      segs = o.stands.segs;
+      specs = ap (λ s. s.pools) e;
+      buffers = ap (λ s. s.buffers) e;
+    }
+
+-- the opened call: its packet has so many segments, and for each of them an mbuf is free
+pub record Opening (ps : List PoolView) (v : Store) (h : ℕ) (p : Packet) (pool segs : ℕ) : Type 0 where
+  pub before : Before ps v h p pool
+  pub segs_are : segs ≡ length p
+  pub enough : length p ≤ available v.pools (segments_of v) pool
+
+module _ (start : List PoolView) (v : Store) (h : ℕ) (p : Packet) (pool segs : ℕ) (o : Opening start v h p pool segs) where
+  has : Has v h p
+  has = o.before.has
+
+  few : length p ≤ 64
+  few = o.before.few
+
+  -- the first segment
+  pub cloning_can : CanClone start (numbered h) pool
+  cloning_can =
+      let b = o.before in
+      can_clone_at start [] v h p (numbered h) 0 pool b.whole (omega arith) has b.some b.links b.there (omega (arith, b.in_pool, b.some, o.enough))
+
+  pub cloning_start : (ps' : List PoolView) (n : Number) → n.pool ≡ pool → Cloned start (numbered h) n ps' →
+      Cloning ps' v h p pool n n (header_at start (numbered h)).next 1
+  cloning_start ps' n ep c =
+      let ps : List PoolView = start in
+      let b = o.before in
+      let s = source_at ps [] v h p (numbered h) 0 b.whole has b.some b.links in
+      let g = grown_clone ps ps' [] v.slots (numbered h) n s.seg b.whole c s.segment s.refs s.lies in
       let push : cloned (n ∷ []) p ≡ clone_at n s.seg ∷ [] = cloned_push [] p n s.seg s.rest s.is in
       let links : Linked (header_at ps') (numbered h) (s.seg ∷ s.rest) =
       linked_kept (header_at ps) (header_at ps') (numbered h) (s.seg ∷ s.rest) (λ m q. let i = s.mbufs m q in
-      g.others m (without [] (segments_held v.slots) n m g.nothing (omega (arith, i)))) (subst (Linked (header_at ps) (numbered h)) s.is l) in
+      g.others m (without [] (segments_held v.slots) n m g.nothing (omega (arith, i)))) (subst (Linked (header_at ps) (numbered h)) s.is b.links) in
       let next : (header_at ps' (numbered h)).next ≡ (header_at ps (numbered h)).next =
       (g.others (numbered h) (without [] (segments_held v.slots) n (numbered h) g.nothing
       (let i = s.mbufs s.seg.mbuf (omega (arith, mbufs_first s.seg s.rest)) in
@@ -330,30 +373,33 @@ module _ (v : Store) (h : ℕ) (p : Packet) (pool : ℕ) (has : Has v h p) (few 
         numbers = n ∷ [];
         count = refl;
         some = omega arith;
-        below = some;
+        below = b.some;
         few = few;
         whole = subst (λ k. Whole ps' k v.slots) (sym push) g.whole;
         links = subst (Linked (header_at ps') n) (sym push) (g.segment, tt);
         last_is = ap (last_mbuf n) (sym push);
-        each = (record { of_pool = ep; exists = subst (λ x. IsNumber x n) es g.number; free = g.free }, tt);
-        ins = let i = subst (λ k. count_in ps' k + 1 ≡ count_in ps k) ep g.ins in omega (arith, i, ea);
-        specs = g.specs ∙ es;
-        buffers = g.buffers ∙ eb;
+        each = (record { of_pool = ep; exists = subst (λ x. IsNumber x n) b.specs g.number; free = g.free }, tt);
+        ins = let i = subst (λ k. count_in ps' k + 1 ≡ count_in ps k) ep g.ins in omega (arith, i, b.in_pool);
+        specs = g.specs ∙ b.specs;
+        buffers = g.buffers ∙ b.buffers;
         source = subst (Linked (header_at ps') (header_at ps (numbered h)).next) (sym s.next) (subst (λ m. Linked (header_at ps') m s.rest) next links.1);
-        there = let a = ap length g.specs in omega (arith, there, a, length_specs ps, length_specs ps');
+        there = let a = ap length g.specs in omega (arith, b.there, a, length_specs ps, length_specs ps');
       }
 
-  module _ (ps : List PoolView) (first last from : Number) (i : ℕ) (c : Cloning ps v h p pool first last from i) (b : i < length p) where
+  module _ (ps : List PoolView) (first last from : Number) (i : ℕ) (c : Cloning ps v h p pool first last from i) (below : i < segs) where
+    b : i < length p
+    b = omega (arith, below, o.segs_are)
+
     abbrev made : Packet
     made = cloned c.numbers p
 
     many : length (cloned c.numbers p) ≡ i
     many = let n = c.count in length_cloned c.numbers p (omega (arith, n, b)) ∙ n
 
-    pub step_can : (length p ≤ available v.pools (segments_of v) pool) → CanClone ps from pool
-    step_can enough =
+    pub step_can : CanClone ps from pool
+    step_can =
         let n = c.ins in
-        can_clone_at ps made v h p from i pool c.whole (omega (arith, many, b, few)) has b c.source c.there (omega (arith, n, b, enough))
+        can_clone_at ps made v h p from i pool c.whole (omega (arith, many, b, few)) has b c.source c.there (omega (arith, n, b, o.enough))
 
     pub step_last : (ps1 : List PoolView) (n : Number) → Cloned ps from n ps1 → HasObject ps1 last
     step_last ps1 n k =
@@ -424,7 +470,10 @@ module _ (v : Store) (h : ℕ) (p : Packet) (pool : ℕ) (has : Has v h p) (few 
           },
         )
 
-  module _ (ps : List PoolView) (first last from : Number) (i : ℕ) (c : Cloning ps v h p pool first last from i) (all : length p ≤ i) where
+  module _ (ps : List PoolView) (first last from : Number) (i : ℕ) (c : Cloning ps v h p pool first last from i) (ends : segs ≤ i) where
+    all : length p ≤ i
+    all = omega (arith, ends, o.segs_are)
+
     pub end_object : HasObject ps first
     end_object =
         let n = c.count in
@@ -435,16 +484,16 @@ module _ (v : Store) (h : ℕ) (p : Packet) (pool : ℕ) (has : Has v h p) (few 
         object_of ps first (all_at (IsNumber (specs_of ps)) (cloned c.numbers p) first
         (all_front (λ t. IsNumber (specs_of ps) t.mbuf) (cloned c.numbers p) (segments_held v.slots) c.whole.counted.numbers) f)
 
-    pub end_done : (ps' : List PoolView) (segs : ℕ) (r : ℕ) → length p ≤ available v.pools (segments_of v) pool → segs ≡ length p → r ≡ handle first →
+    pub end_done : (ps' : List PoolView) (r : ℕ) → r ≡ handle first →
         HeaderSet ps first (record (header_at ps first) { segs = segs; last = last }) ps' →
         Sound ps' × Gives v pool (length p) (λ ns. cloned ns p) (λ ns old new. new ≡ old) (shown ps') (Some r)
-    end_done ps' segs r enough es er done =
+    end_done ps' r er done =
         let n = c.count in
         let b = c.below in
         let some = c.some in
         let l : length (cloned c.numbers p) ≡ i = length_cloned c.numbers p (omega (arith, n, b)) ∙ n in
         let k = hooked ps ps' v.slots first (cloned c.numbers p) (record (header_at ps first) { segs = segs; last = last }) c.whole c.links
-        (omega (arith, l, some)) (omega (arith, l, b, few)) done (omega (arith, es, l, b, all)) c.last_is refl
+        (omega (arith, l, some)) (omega (arith, l, b, few)) done (omega (arith, o.segs_are, l, b, all)) c.last_is refl
         (record { offset = refl; len = refl; next = refl; buffer = refl }) in
         let d = settled ps' (set v.slots (handle first) (Some (cloned c.numbers p))) k.0 in
         let there : handle first < length v.slots =
@@ -453,7 +502,7 @@ module _ (v : Store) (h : ℕ) (p : Packet) (pool : ℕ) (has : Has v h p) (few 
         omega (arith, m, s.2) in (
           d.0,
           subst (λ x. Gives v pool (length p) (λ ns. cloned ns p) (λ ns old new. new ≡ old) (shown ps') (Some x)) (sym er) (
-            enough,
+            o.enough,
             get_there v.slots (handle first) None there ∙ ap Some k.1,
             c.numbers,
             v.buffers,
@@ -468,31 +517,3 @@ module _ (v : Store) (h : ℕ) (p : Packet) (pool : ℕ) (has : Has v h p) (few 
                 ∙ c.specs) (done.buffers ∙ c.buffers) d.1,
           ),
         )
-
--- what is known before
-pub record Before (ps : List PoolView) (v : Store) (h : ℕ) (p : Packet) (pool : ℕ) : Type 0 where
-  pub whole : Whole ps [] v.slots
-  pub links : Linked (header_at ps) (numbered h) p
-  pub some : 1 ≤ length p
-  pub few : length p ≤ 64
-  pub there : pool < length ps
-  pub in_pool : count_in ps pool ≡ available v.pools (segments_of v) pool
-  pub segs : (header_at ps (numbered h)).segs ≡ length p
-  pub specs : specs_of ps ≡ v.pools
-  pub buffers : buffers_of ps ≡ v.buffers
-
-pub before : (ps : List PoolView) (v : Store) (h : ℕ) (pool : ℕ) → shown ps ≡ v → Sound ps → pool < length v.pools → (p : Packet) → Has v h p →
-    Before ps v h p pool
-before ps v h pool e sound exists p has =
-    let o = opened ps v h p e sound has in
-    record {
-      whole = subst (λ s. Whole ps [] s.slots) e sound;
-      links = o.stands.links;
-      some = o.stands.some;
-      few = o.stands.few;
-      there = pool_there ps v pool e exists;
-      in_pool = sym (free_in ps v pool e sound exists);
-      segs = o.stands.segs;
-      specs = ap (λ s. s.pools) e;
-      buffers = ap (λ s. s.buffers) e;
-    }

@@ -215,93 +215,111 @@ hooked ps ps' slots n k x w l some few done segs last kept link =
 
 -- ---- one segment of a packet, with another offset and length
 
-pub edited : (ps ps' : List PoolView) (slots : List (Option Packet)) (h : ℕ) (before : Packet) (s s' : Segment) (rest : Packet) (x : Header) →
-    Whole ps [] slots → get_or slots h None ≡ Some (before ++ s ∷ rest) → HeaderSet ps s.mbuf x ps' → x.segs ≡ (header_at ps s.mbuf).segs →
-    x.last ≡ (header_at ps s.mbuf).last → x.refs ≡ (header_at ps s.mbuf).refs → x.next ≡ (header_at ps s.mbuf).next → x.buffer ≡ s'.buffer →
-    x.offset ≡ s'.offset → x.len ≡ s'.len → s'.mbuf ≡ s.mbuf → s'.buffer ≡ s.buffer → Lies (specs_of ps) s' →
-    Whole ps' [] (set slots h (Some (before ++ s' ∷ rest)))
-edited ps ps' slots h before s s' rest x w e done segs last kept next buffer offset len mb bf lies =
-    let k : Packet = before ++ s ∷ rest in
-    let k' : Packet = before ++ s' ∷ rest in
-    let b = slot_there slots h k e in
-    let n : Number = numbered h in
-    let st : Stands ps n k = subst (StandsAt ps n) e (w.shows.each h) in
-    let here = ap (count_of (λ t. same_number t.mbuf s.mbuf)) e in
-    let in_k = mbufs_middle before s rest in
-    let one = w.counted.once s.mbuf in
-    let once : (m : Number) → mbufs k m ≤ 1 =
-    λ m. let c = ap (count_of (λ t. same_number t.mbuf m)) e in
-    let a = slot_among (λ t. same_number t.mbuf m) slots h in
-    let o = w.counted.once m in
-    omega (arith, c, a, o) in
-    let head_seg : (m : Number) → (header_at ps' m).segs ≡ (header_at ps m).segs =
-    λ m. ⊎_elim
-    (λ same. subst (λ j. (header_at ps' j).segs ≡ (header_at ps j).segs) same (ap (λ y. y.segs) done.here ∙ segs))
-    (λ d. ap (λ y. y.segs) (done.others m d))
-    (same_or s.mbuf m) in
-    let head_last : (m : Number) → (header_at ps' m).last ≡ (header_at ps m).last =
-    λ m. ⊎_elim
-    (λ same. subst (λ j. (header_at ps' j).last ≡ (header_at ps j).last) same (ap (λ y. y.last) done.here ∙ last))
-    (λ d. ap (λ y. y.last) (done.others m d))
-    (same_or s.mbuf m) in
-    let is : segment_at (header_at ps') s.mbuf ≡ s' =
-    segment_eq (segment_at (header_at ps') s.mbuf) s' (sym mb) (ap (λ y. y.buffer) done.here ∙ buffer) (ap (λ y. y.offset) done.here
-    ∙ offset) (ap (λ y. y.len) done.here ∙ len) in
-    let stands : Stands ps' n k' = record {
-      out = done.outs n ∙ st.out;
-      some = let q = st.some in omega (arith, q, length_edit before s s' rest);
-      few = let q = st.few in omega (arith, q, length_edit before s s' rest);
-      segs = head_seg n ∙ (st.segs ∙ sym (length_edit before s s' rest));
-      last = head_last n ∙ (st.last ∙ sym (last_edit n before s s' rest mb));
-      links = linked_edit (header_at ps) (header_at ps') n before s s' rest once st.links
-          (λ m d. (alike (header_at ps' m) (header_at ps m) (done.others m d)).link)
-          is
-          (ap (λ y. y.next) done.here ∙ next);
-    } in
-    let counts : (f : Segment → Bool) → f s' ≡ f s → count_by f (segments_held (set slots h (Some k'))) ≡ count_by f (segments_held slots) =
-    λ f eq. let one : ℕ = 1 in
-    let g = ap (λ v. cond v one 0) eq in
-    let c = ap (count_of f) e in
-    omega (
-      arith,
-      g,
-      c,
-      slot_counted f slots h (Some k') b,
-      count-append f before (s ∷ rest),
-      count-append f before (s' ∷ rest),
-      count-cons f s rest,
-      count-cons f s' rest,
-    ) in
-    let all : (P : Segment → Type 0) → (P s → P s') → AllByRecursion P (segments_held slots) → AllByRecursion P (segments_held (set slots h (Some k'))) =
-    λ P f a. all_set P slots h (Some k') (all_edit P before s s' rest f (subst (AllOf P) e (all_slot P slots h a))) a in
-    record {
-      are = done.are;
-      counted = counted_same ps ps' (segments_held slots) (segments_held (set slots h (Some k'))) w.counted
-          (record {
-            mbufs = λ m. counts (λ t. same_number t.mbuf m) (ap (λ y. same_number y m) mb);
-            refs = λ m. counts (λ t. same_number t.buffer m) (ap (λ y. same_number y m) bf);
-            indirects = λ m. counts (λ t. same_number t.mbuf m && not (same_number t.buffer m)) (ap (λ y. same_number y m && not (same_number s'.buffer m)) mb
-                ∙ ap (λ y. same_number s.mbuf m && not (same_number y m)) bf);
-          })
-          done.specs done.outs (λ m _. stored_same ps ps' s.mbuf x done kept m)
-          (all (λ t. IsNumber (specs_of ps) t.mbuf) (λ p. subst (IsNumber (specs_of ps)) (sym mb) p) w.counted.numbers)
-          (all (Lies (specs_of ps)) (λ _. lies) w.counted.lie);
-      shows = slot_frame ps ps' slots h (Some k') (same_length ps ps' done.specs) w.shows b
-          (λ i ne m q. ⊎_elim
-          (λ same. let two = slots_among (λ t. same_number t.mbuf s.mbuf) slots h i (λ d. ne (sym d)) in
-          let d : count_of (λ t. same_number t.mbuf m) (get_or slots i None) ≡ count_of (λ t. same_number t.mbuf s.mbuf) (get_or slots i None) =
-          ap (λ z. count_of (λ t. same_number t.mbuf z) (get_or slots i None)) (sym same) in
-          absurd (omega (arith, two, here, d, q, in_k, one)))
-          (λ d. stays_other ps ps' s.mbuf x done m d)
-          (same_or s.mbuf m))
-          (λ i ne f. ap is_positive (head_seg (numbered i)) ∙ f)
-          stands;
-    }
-  where
-    all_edit : (P : Segment → Type 0) (before : Packet) (s s' : Segment) (rest : Packet) → (P s → P s') → AllByRecursion P (before ++ s ∷ rest) →
-        AllByRecursion P (before ++ s' ∷ rest)
-    all_edit P [] s s' rest f a = (f a.0, a.1)
-    all_edit P (t ∷ before) s s' rest f a = (a.0, all_edit P before s s' rest f a.1)
+all_edit : (P : Segment → Type 0) (before : Packet) (s s' : Segment) (rest : Packet) → (P s → P s') → AllByRecursion P (before ++ s ∷ rest) →
+    AllByRecursion P (before ++ s' ∷ rest)
+all_edit P [] s s' rest f a = (f a.0, a.1)
+all_edit P (t ∷ before) s s' rest f a = (a.0, all_edit P before s s' rest f a.1)
+
+module _ (ps ps' : List PoolView) (slots : List (Option Packet)) (h : ℕ) (before : Packet) (s s' : Segment) (rest : Packet) (x : Header) (w : Whole ps [] slots)
+    (e : get_or slots h None ≡ Some (before ++ s ∷ rest)) (done : HeaderSet ps s.mbuf x ps') (segs : x.segs ≡ (header_at ps s.mbuf).segs)
+    (last : x.last ≡ (header_at ps s.mbuf).last) (kept : x.refs ≡ (header_at ps s.mbuf).refs) (next : x.next ≡ (header_at ps s.mbuf).next)
+    (buffer : x.buffer ≡ s'.buffer) (offset : x.offset ≡ s'.offset) (len : x.len ≡ s'.len) (mb : s'.mbuf ≡ s.mbuf) (bf : s'.buffer ≡ s.buffer)
+    (lies : Lies (specs_of ps) s') where
+  abbrev k : Packet
+  k = before ++ s ∷ rest
+
+  abbrev k' : Packet
+  k' = before ++ s' ∷ rest
+
+  once : (m : Number) → mbufs k m ≤ 1
+  once m =
+      let c = ap (count_of (λ t. same_number t.mbuf m)) e in
+      let a = slot_among (λ t. same_number t.mbuf m) slots h in
+      let o = w.counted.once m in
+      omega (arith, c, a, o)
+
+  head_seg : (m : Number) → (header_at ps' m).segs ≡ (header_at ps m).segs
+  head_seg m = ⊎_elim
+      (λ same. subst (λ j. (header_at ps' j).segs ≡ (header_at ps j).segs) same (ap (λ y. y.segs) done.here ∙ segs))
+      (λ d. ap (λ y. y.segs) (done.others m d))
+      (same_or s.mbuf m)
+
+  head_last : (m : Number) → (header_at ps' m).last ≡ (header_at ps m).last
+  head_last m = ⊎_elim
+      (λ same. subst (λ j. (header_at ps' j).last ≡ (header_at ps j).last) same (ap (λ y. y.last) done.here ∙ last))
+      (λ d. ap (λ y. y.last) (done.others m d))
+      (same_or s.mbuf m)
+
+  segment_is : segment_at (header_at ps') s.mbuf ≡ s'
+  segment_is =
+      segment_eq (segment_at (header_at ps') s.mbuf) s' (sym mb) (ap (λ y. y.buffer) done.here ∙ buffer) (ap (λ y. y.offset) done.here
+      ∙ offset) (ap (λ y. y.len) done.here ∙ len)
+
+  edited_stands : Stands ps' (numbered h) k'
+  edited_stands =
+      let n : Number = numbered h in
+      let st : Stands ps n k = subst (StandsAt ps n) e (w.shows.each h) in
+      record {
+        out = done.outs n ∙ st.out;
+        some = let q = st.some in omega (arith, q, length_edit before s s' rest);
+        few = let q = st.few in omega (arith, q, length_edit before s s' rest);
+        segs = head_seg n ∙ (st.segs ∙ sym (length_edit before s s' rest));
+        last = head_last n ∙ (st.last ∙ sym (last_edit n before s s' rest mb));
+        links = linked_edit (header_at ps) (header_at ps') n before s s' rest once st.links
+            (λ m d. (alike (header_at ps' m) (header_at ps m) (done.others m d)).link)
+            segment_is
+            (ap (λ y. y.next) done.here ∙ next);
+      }
+
+  edited_count : (f : Segment → Bool) → f s' ≡ f s → count_by f (segments_held (set slots h (Some k'))) ≡ count_by f (segments_held slots)
+  edited_count f eq =
+      let b = slot_there slots h k e in
+      let one : ℕ = 1 in
+      let g = ap (λ v. cond v one 0) eq in
+      let c = ap (count_of f) e in
+      omega (
+        arith,
+        g,
+        c,
+        slot_counted f slots h (Some k') b,
+        count-append f before (s ∷ rest),
+        count-append f before (s' ∷ rest),
+        count-cons f s rest,
+        count-cons f s' rest,
+      )
+
+  edited_all : (P : Segment → Type 0) → (P s → P s') → AllByRecursion P (segments_held slots) → AllByRecursion P (segments_held (set slots h (Some k')))
+  edited_all P f a = all_set P slots h (Some k') (all_edit P before s s' rest f (subst (AllOf P) e (all_slot P slots h a))) a
+
+  pub edited : Whole ps' [] (set slots h (Some (before ++ s' ∷ rest)))
+  edited =
+      let b = slot_there slots h k e in
+      let here = ap (count_of (λ t. same_number t.mbuf s.mbuf)) e in
+      let in_k = mbufs_middle before s rest in
+      let one = w.counted.once s.mbuf in
+      record {
+        are = done.are;
+        counted = counted_same ps ps' (segments_held slots) (segments_held (set slots h (Some k'))) w.counted
+            (record {
+              mbufs = λ m. edited_count (λ t. same_number t.mbuf m) (ap (λ y. same_number y m) mb);
+              refs = λ m. edited_count (λ t. same_number t.buffer m) (ap (λ y. same_number y m) bf);
+              indirects = λ m. edited_count (λ t. same_number t.mbuf m && not (same_number t.buffer m)) (ap (λ y. same_number y m && not (same_number s'.buffer m)) mb
+                  ∙ ap (λ y. same_number s.mbuf m && not (same_number y m)) bf);
+            })
+            done.specs done.outs (λ m _. stored_same ps ps' s.mbuf x done kept m)
+            (edited_all (λ t. IsNumber (specs_of ps) t.mbuf) (λ p. subst (IsNumber (specs_of ps)) (sym mb) p) w.counted.numbers)
+            (edited_all (Lies (specs_of ps)) (λ _. lies) w.counted.lie);
+        shows = slot_frame ps ps' slots h (Some k') (same_length ps ps' done.specs) w.shows b
+            (λ i ne m q. ⊎_elim
+            (λ same. let two = slots_among (λ t. same_number t.mbuf s.mbuf) slots h i (λ d. ne (sym d)) in
+            let d : count_of (λ t. same_number t.mbuf m) (get_or slots i None) ≡ count_of (λ t. same_number t.mbuf s.mbuf) (get_or slots i None) =
+            ap (λ z. count_of (λ t. same_number t.mbuf z) (get_or slots i None)) (sym same) in
+            absurd (omega (arith, two, here, d, q, in_k, one)))
+            (λ d. stays_other ps ps' s.mbuf x done m d)
+            (same_or s.mbuf m))
+            (λ i ne f. ap is_positive (head_seg (numbered i)) ∙ f)
+            edited_stands;
+      }
 
 -- ---- bytes written behind headers
 

@@ -253,89 +253,108 @@ pub nothing_at : (ps : List PoolView) (hand : Packet) (slots : List (Option Pack
 nothing_at ps hand slots n w number was =
     none_of (mbufs (hand ++ segments_held slots) n + refs (hand ++ segments_held slots) n) (sym (w.counted.out n number) ∙ was)
 
-pub grown : (ps ps' : List PoolView) (hand : Packet) (slots : List (Option Packet)) (s : Segment) → Whole ps hand slots → More ps ps' s.mbuf →
-    Lies (specs_of ps) s → ((b : Number) → 1 ≤ refs (s ∷ hand ++ segments_held slots) b → (header_at ps' b).refs ≡ refs (s ∷ hand ++ segments_held slots) b) →
-    (s.mbuf ≡ s.buffer) ⊎ ((same_number s.mbuf s.buffer ≡ false) × (1 ≤ refs (hand ++ segments_held slots) s.buffer)) → Whole ps' (s ∷ hand) slots
-grown ps ps' hand slots s w f lies stored kind =
-    let ss : List Segment = hand ++ segments_held slots in
-    let n : Number = s.mbuf in
-    let c = w.counted in
-    let no = nothing_at ps hand slots n w f.number f.was in
-    record {
-      are = f.are;
-      counted = record {
-        once = λ m. ⊎_elim
-            (λ e. let z = ap (mbufs (s ∷ ss)) e in omega (arith, z, no, mbufs_first s ss))
-            (λ d. let o = c.once m in omega (arith, o, zero_at n m d, mbufs-cons s ss m))
-            (same_or n m);
-        direct = λ m q. ⊎_elim
-            (λ e. subst (λ j. refs (s ∷ ss) j ≡ 0) e
-            (⊎_elim
-            (λ own. absurd (let z = ap (indirects (s ∷ ss)) e in
-            let t : one_if (same_number n n && not (same_number s.buffer n)) ≡ 0 =
-            let one : ℕ = 1 in
-            ap (λ j. cond (same_number n n && not (same_number j n)) one 0) (sym own)
-            ∙ (ap (λ b. cond (b && not b) one 0) (same_self n)) in
-            omega (arith, q, z, t, no, indirects-cons s ss n, indirects_le ss n)))
-            (λ o. omega (arith, no, zero_at s.buffer n (turned n s.buffer o.0), refs-cons s ss n))
-            kind))
-            (λ d. ⊎_elim
-            (λ b. ⊎_elim
-            (λ own. absurd (let x : same_number n m ≡ true = ap (λ j. same_number j m) (own ∙ b) ∙ same_self m in cc))
-            (λ o. absurd (let z = ap (refs ss) b in
-            let r = c.direct m (omega (arith, q, and_le n s.buffer m, zero_at n m d, indirects-cons s ss m)) in
-            omega (arith, r, z, o.1)))
-            kind)
-            (λ b. let r = c.direct m (omega (arith, q, and_le n s.buffer m, zero_at n m d, indirects-cons s ss m)) in
-            omega (arith, r, zero_at s.buffer m b, refs-cons s ss m))
-            (same_or s.buffer m))
-            (same_or n m);
-        numbers = subst (λ x. AllByRecursion (λ t. IsNumber x t.mbuf) (s ∷ ss)) (sym f.specs) (f.number, c.numbers);
-        lie = subst (λ x. AllByRecursion (Lies x) (s ∷ ss)) (sym f.specs) (lies, c.lie);
-        stored = stored;
-        out = λ m h. ⊎_elim
-            (λ e. subst (λ j. is_out ps' j ≡ is_positive (mbufs (s ∷ ss) j + refs (s ∷ ss) j)) e
-            (f.here ∙ sym (positive (mbufs (s ∷ ss) n + refs (s ∷ ss) n) (omega (arith, mbufs_first s ss)))))
-            (λ d. let old = f.outs m d ∙ c.out m (subst (λ x. IsNumber x m) f.specs h) in
-            let mb : mbufs (s ∷ ss) m ≡ mbufs ss m = omega (arith, zero_at n m d, mbufs-cons s ss m) in
-            ⊎_elim
-            (λ b. ⊎_elim
-            (λ own. absurd (let x : same_number n m ≡ true = ap (λ j. same_number j m) (own ∙ b) ∙ same_self m in cc))
-            (λ o. let z = ap (refs ss) b in
-            old
-            ∙ (positive (mbufs ss m + refs ss m) (omega (arith, z, o.1))
-            ∙ sym (positive (mbufs (s ∷ ss) m + refs (s ∷ ss) m) (omega (arith, z, o.1, refs-cons s ss m)))))
-            kind)
-            (λ b. let rf : refs (s ∷ ss) m ≡ refs ss m = omega (arith, zero_at s.buffer m b, refs-cons s ss m) in
-            old
-            ∙ (ap (λ x. is_positive (x + refs ss m)) (sym mb) ∙ ap (λ x. is_positive (mbufs (s ∷ ss) m + x)) (sym rf)))
-            (same_or s.buffer m))
-            (same_or n m);
-      };
-      shows = frame ps ps' slots (same_length ps ps' f.specs) w.shows
-          (λ m q. ⊎_elim
-          (λ e. let z = ap (mbufs (segments_held slots)) e in absurd (omega (arith, z, q, no, mbufs-append hand (segments_held slots) n)))
-          (λ d. record { out = f.outs m d; header = f.headers m d })
-          (same_or n m))
-          (λ m _ none. ⊎_elim
-          (λ e. subst (λ j. is_head ps' j ≡ false) e (ap is_positive f.no_head))
-          (λ d. head_stays ps ps' m (record { out = f.outs m d; header = f.headers m d }) ∙ none)
-          (same_or n m));
-    }
-  where
-    turned : (a b : Number) → same_number a b ≡ false → same_number b a ≡ false
-    turned a b f = ⊎_elim
-        (λ e. let t : same_number a b ≡ true = ap (same_number a) e ∙ same_self a in absurd (cc))
-        (λ g. g)
-        (same_or b a)
+turned : (a b : Number) → same_number a b ≡ false → same_number b a ≡ false
+turned a b f = ⊎_elim
+    (λ e. let t : same_number a b ≡ true = ap (same_number a) e ∙ same_self a in absurd (cc))
+    (λ g. g)
+    (same_or b a)
 
-    by_le : (a b : Bool) → one_if (a && b) ≤ one_if a
-    by_le true true = omega arith
-    by_le true false = omega arith
-    by_le false b = omega arith
+by_le : (a b : Bool) → one_if (a && b) ≤ one_if a
+by_le true true = omega arith
+by_le true false = omega arith
+by_le false b = omega arith
 
-    and_le : (a b m : Number) → one_if (same_number a m && not (same_number b m)) ≤ one_if (same_number a m)
-    and_le a b m = by_le (same_number a m) (not (same_number b m))
+and_le : (a b m : Number) → one_if (same_number a m && not (same_number b m)) ≤ one_if (same_number a m)
+and_le a b m = by_le (same_number a m) (not (same_number b m))
+
+module _ (ps ps' : List PoolView) (hand : Packet) (slots : List (Option Packet)) (s : Segment) (w : Whole ps hand slots) (f : More ps ps' s.mbuf)
+    (lies : Lies (specs_of ps) s)
+    (stored : (b : Number) → 1 ≤ refs (s ∷ hand ++ segments_held slots) b → (header_at ps' b).refs ≡ refs (s ∷ hand ++ segments_held slots) b)
+    (kind : (s.mbuf ≡ s.buffer) ⊎ ((same_number s.mbuf s.buffer ≡ false) × (1 ≤ refs (hand ++ segments_held slots) s.buffer))) where
+  abbrev had : List Segment
+  had = hand ++ segments_held slots
+
+  abbrev n : Number
+  n = s.mbuf
+
+  no : mbufs had n + refs had n ≡ 0
+  no = nothing_at ps hand slots n w f.number f.was
+
+  direct_grown : (m : Number) → 1 ≤ indirects (s ∷ had) m → refs (s ∷ had) m ≡ 0
+  direct_grown m q =
+      let c = w.counted in
+      ⊎_elim
+      (λ e. subst (λ j. refs (s ∷ had) j ≡ 0) e
+      (⊎_elim
+      (λ own. absurd (let z = ap (indirects (s ∷ had)) e in
+      let t : one_if (same_number n n && not (same_number s.buffer n)) ≡ 0 =
+      let one : ℕ = 1 in
+      ap (λ j. cond (same_number n n && not (same_number j n)) one 0) (sym own)
+      ∙ (ap (λ b. cond (b && not b) one 0) (same_self n)) in
+      omega (arith, q, z, t, no, indirects-cons s had n, indirects_le had n)))
+      (λ o. omega (arith, no, zero_at s.buffer n (turned n s.buffer o.0), refs-cons s had n))
+      kind))
+      (λ d. ⊎_elim
+      (λ b. ⊎_elim
+      (λ own. absurd (let x : same_number n m ≡ true = ap (λ j. same_number j m) (own ∙ b) ∙ same_self m in cc))
+      (λ o. absurd (let z = ap (refs had) b in
+      let r = c.direct m (omega (arith, q, and_le n s.buffer m, zero_at n m d, indirects-cons s had m)) in
+      omega (arith, r, z, o.1)))
+      kind)
+      (λ b. let r = c.direct m (omega (arith, q, and_le n s.buffer m, zero_at n m d, indirects-cons s had m)) in
+      omega (arith, r, zero_at s.buffer m b, refs-cons s had m))
+      (same_or s.buffer m))
+      (same_or n m)
+
+  out_grown : (m : Number) → IsNumber (specs_of ps') m → is_out ps' m ≡ is_positive (mbufs (s ∷ had) m + refs (s ∷ had) m)
+  out_grown m h =
+      let c = w.counted in
+      ⊎_elim
+      (λ e. subst (λ j. is_out ps' j ≡ is_positive (mbufs (s ∷ had) j + refs (s ∷ had) j)) e
+      (f.here ∙ sym (positive (mbufs (s ∷ had) n + refs (s ∷ had) n) (omega (arith, mbufs_first s had)))))
+      (λ d. let old = f.outs m d ∙ c.out m (subst (λ x. IsNumber x m) f.specs h) in
+      let mb : mbufs (s ∷ had) m ≡ mbufs had m = omega (arith, zero_at n m d, mbufs-cons s had m) in
+      ⊎_elim
+      (λ b. ⊎_elim
+      (λ own. absurd (let x : same_number n m ≡ true = ap (λ j. same_number j m) (own ∙ b) ∙ same_self m in cc))
+      (λ o. let z = ap (refs had) b in
+      old
+      ∙ (positive (mbufs had m + refs had m) (omega (arith, z, o.1))
+      ∙ sym (positive (mbufs (s ∷ had) m + refs (s ∷ had) m) (omega (arith, z, o.1, refs-cons s had m)))))
+      kind)
+      (λ b. let rf : refs (s ∷ had) m ≡ refs had m = omega (arith, zero_at s.buffer m b, refs-cons s had m) in
+      old
+      ∙ (ap (λ x. is_positive (x + refs had m)) (sym mb) ∙ ap (λ x. is_positive (mbufs (s ∷ had) m + x)) (sym rf)))
+      (same_or s.buffer m))
+      (same_or n m)
+
+  -- a segment more in hand, whose mbuf was in
+  pub grown : Whole ps' (s ∷ hand) slots
+  grown =
+      let c = w.counted in
+      record {
+        are = f.are;
+        counted = record {
+          once = λ m. ⊎_elim
+              (λ e. let z = ap (mbufs (s ∷ had)) e in omega (arith, z, no, mbufs_first s had))
+              (λ d. let o = c.once m in omega (arith, o, zero_at n m d, mbufs-cons s had m))
+              (same_or n m);
+          direct = direct_grown;
+          numbers = subst (λ x. AllByRecursion (λ t. IsNumber x t.mbuf) (s ∷ had)) (sym f.specs) (f.number, c.numbers);
+          lie = subst (λ x. AllByRecursion (Lies x) (s ∷ had)) (sym f.specs) (lies, c.lie);
+          stored = stored;
+          out = out_grown;
+        };
+        shows = frame ps ps' slots (same_length ps ps' f.specs) w.shows
+            (λ m q. ⊎_elim
+            (λ e. let z = ap (mbufs (segments_held slots)) e in absurd (omega (arith, z, q, no, mbufs-append hand (segments_held slots) n)))
+            (λ d. record { out = f.outs m d; header = f.headers m d })
+            (same_or n m))
+            (λ m _ none. ⊎_elim
+            (λ e. subst (λ j. is_head ps' j ≡ false) e (ap is_positive f.no_head))
+            (λ d. head_stays ps ps' m (record { out = f.outs m d; header = f.headers m d }) ∙ none)
+            (same_or n m));
+      }
 
 -- ---- the zones of the pools
 

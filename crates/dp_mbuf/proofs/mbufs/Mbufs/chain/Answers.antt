@@ -1,9 +1,20 @@
-use Rattle.std.proofs.Common.{ap, arith, ◌∙◌}
+-- Two packets joined: their first headers are opened once, and each goal is one step from there.
+use Rattle.std.proofs.Common.{arith, ◌∙◌}
 use Rattle.dp_mbuf.proofs.Live.{same_store}
 use Rattle.dp_mbuf.proofs.Live.{live_object}
 use Rattle.dp_mbuf.proofs.InHand.{object_after}
-use Rattle.dp_mbuf.proofs.Chaining.{last_there, segs_fit, chained, sums}
+use Rattle.dp_mbuf.proofs.Chaining.{Heads, last_there, segs_fit, chained}
 use Rattle.dp_mbuf.proofs.mbufs.Mbufs.chain.Goals as goal
+use Rattle.dp_mbuf.proofs.mbufs.Mbufs.chain.Goals.{After-unhook-front}
+
+heads : (c : After-unhook-front) → Heads c.self.inside.objects c.unhook-behind.new.objects c.unhook-front.new.objects c.args.head.now c.args.tail
+    c.unhook-front.result c.unhook-behind.result
+heads c =
+    let tail_out = rw c.first_number-second.ensures at c.unhook-behind.ensures.now in
+    let head_out = rw c.first_number-first.ensures at c.unhook-front.ensures.now in
+    let head_was = rw c.first_number-first.ensures at c.unhook-front.ensures.was in
+    let tail_was = rw c.first_number-second.ensures at c.unhook-behind.ensures.was in
+    record { tail_out = tail_out; head_out = head_out; head_was = head_was; tail_was = tail_was }
 
 pub unhook-behind-requires : goal.unhook-behind-requires
 unhook-behind-requires c =
@@ -20,23 +31,14 @@ unhook-front-requires c =
 
 pub relink-requires : goal.relink-requires
 relink-requires c =
-    let d1 = rw c.first_number-second.ensures at c.unhook-behind.ensures.now in
-    let d2 = rw c.first_number-first.ensures at c.unhook-front.ensures.now in
-    let was = rw c.first_number-first.ensures at c.unhook-front.ensures.was in
-    last_there _ _ c.args.head.now c.args.tail (same_store c.self.view_is) c.self.invariant c.requires.two c.requires.few _ _ _ d1 d2 (ap (λ h. h.last) was)
+    last_there _ _ c.args.head.now c.args.tail (same_store c.self.view_is) c.self.invariant c.requires.two c.requires.few _ _ _ _
+    (heads (goal.at.relink-requires c).After-unhook-front)
 
 pub overflow_add-front : goal.overflow_add-front
 overflow_add-front c =
-    let d1 = rw c.first_number-second.ensures at c.unhook-behind.ensures.now in
-    let d2 = rw c.first_number-first.ensures at c.unhook-front.ensures.now in
-    let was = rw c.first_number-first.ensures at c.unhook-front.ensures.was in
-    let behind = rw c.first_number-second.ensures at c.unhook-behind.ensures.was in
-    omega (
-      arith,
-      segs_fit _ _ c.args.head.now c.args.tail (same_store c.self.view_is) c.self.invariant c.requires.two c.requires.few _ _ d1 d2,
-      ap (λ h. h.segs) was,
-      ap (λ h. h.segs) behind,
-    )
+    let fits = segs_fit _ _ c.args.head.now c.args.tail (same_store c.self.view_is) c.self.invariant c.requires.two c.requires.few _ _ _ _
+    (heads (goal.at.overflow_add-front c).After-unhook-front) in
+    omega (arith, fits)
 
 pub hook-requires : goal.hook-requires
 hook-requires c =
@@ -46,22 +48,14 @@ hook-requires c =
 
 pub invariant_of-self : goal.invariant_of-self
 invariant_of-self c =
-    let d1 = rw c.first_number-second.ensures at c.unhook-behind.ensures.now in
-    let d2 = rw c.first_number-first.ensures at c.unhook-front.ensures.now in
-    let was = rw c.first_number-first.ensures at c.unhook-front.ensures.was in
-    let behind = rw c.first_number-second.ensures at c.unhook-behind.ensures.was in
-    let d3 = rw c.first_number-second.ensures at c.relink.ensures in
-    let d4 = rw c.first_number-first.ensures at c.hook.ensures in
-    (chained _ _ c.args.head.now c.args.tail (same_store c.self.view_is) c.self.invariant c.requires.two c.requires.few _ _ _ _ _ _ _ d1 d2
-    (ap (λ h. h.last) was) d3 (sums _ _ _ _ (ap (λ h. h.segs) was) (ap (λ h. h.segs) behind)) (ap (λ h. h.last) behind) d4).0
+    let linked = rw c.first_number-second.ensures at c.relink.ensures in
+    let hooked = rw c.first_number-first.ensures at c.hook.ensures in
+    (chained _ _ c.args.head.now c.args.tail (same_store c.self.view_is) c.self.invariant c.requires.two c.requires.few _ _ _ _ _ _
+    (heads (goal.at.invariant_of-self c).After-unhook-front) linked hooked).0
 
 pub returns-clause-packets : goal.returns-clause-packets
 returns-clause-packets c =
-    let d1 = rw c.first_number-second.ensures at c.unhook-behind.ensures.now in
-    let d2 = rw c.first_number-first.ensures at c.unhook-front.ensures.now in
-    let was = rw c.first_number-first.ensures at c.unhook-front.ensures.was in
-    let behind = rw c.first_number-second.ensures at c.unhook-behind.ensures.was in
-    let d3 = rw c.first_number-second.ensures at c.relink.ensures in
-    let d4 = rw c.first_number-first.ensures at c.hook.ensures in
-    (chained _ _ c.args.head.now c.args.tail (same_store c.self.view_is) c.self.invariant c.requires.two c.requires.few _ _ _ _ _ _ _ d1 d2
-    (ap (λ h. h.last) was) d3 (sums _ _ _ _ (ap (λ h. h.segs) was) (ap (λ h. h.segs) behind)) (ap (λ h. h.last) behind) d4).1
+    let linked = rw c.first_number-second.ensures at c.relink.ensures in
+    let hooked = rw c.first_number-first.ensures at c.hook.ensures in
+    (chained _ _ c.args.head.now c.args.tail (same_store c.self.view_is) c.self.invariant c.requires.two c.requires.few _ _ _ _ _ _
+    (heads (goal.at.returns-clause-packets c).After-unhook-front) linked hooked).1
