@@ -19,7 +19,7 @@ use Rattle.dp_mbuf.proofs.Counting.{each_count, all_join, all_front, all_rest, a
 use Rattle.dp_mbuf.proofs.Links.{alike, first_in, first_mbuf, linked_kept, segment_eq}
 use Rattle.dp_mbuf.proofs.Frames.{object_of, number_of, number_small, positive, counted_same}
 use Rattle.dp_mbuf.proofs.Edits.{all_at, hooked}
-use Rattle.dp_mbuf.proofs.InHand.{grown, nothing_at, zero_at}
+use Rattle.dp_mbuf.proofs.InHand.{grown, nothing_at, zero_at, turned}
 use Rattle.dp_mbuf.proofs.Taking.{free_from}
 use Rattle.dp_mbuf.proofs.Chaining.{joined, last_of_links}
 use Rattle.dp_mbuf.proofs.PoolLemmas.{get_some}
@@ -94,75 +94,96 @@ pub record Grown (ps ps' : List PoolView) (hand : Packet) (slots : List (Option 
   pub number : IsNumber (specs_of ps) n
   pub free : is_free (segments_held slots) n ≡ true
 
-pub grown_clone : (ps ps' : List PoolView) (hand : Packet) (slots : List (Option Packet)) (from n : Number) (s : Segment) → Whole ps hand slots →
-    Cloned ps from n ps' → segment_at (header_at ps) from ≡ s → 1 ≤ refs (hand ++ segments_held slots) s.buffer → Lies (specs_of ps) s →
-    Grown ps ps' hand slots n s
-grown_clone ps ps' hand slots from n s w c is some lies =
-    let ss : List Segment = hand ++ segments_held slots in
-    let b : Number = s.buffer in
-    let eb : (header_at ps from).buffer ≡ b = ap (λ t. t.buffer) is in
-    let t = c.taken in
-    let number = number_of ps n t.object in
-    let no = nothing_at ps hand slots n w number t.was in
-    let apart : same_number n b ≡ false = ⊎_elim
-    (λ e. absurd (let z = ap (refs ss) e in omega (arith, some, no, z)))
-    (λ d. d)
-    (same_or n b) in
-    let turned : same_number b n ≡ false = ⊎_elim
-    (λ e. absurd (let x : same_number n b ≡ true = ap (same_number n) e ∙ same_self n in cc))
-    (λ d. d)
-    (same_or b n) in
-    let last : HeaderSet c.second b (record (header_at c.second b) { refs = (header_at c.second b).refs + 1 }) ps' =
-    subst (λ j. HeaderSet c.second j (record (header_at c.second j) { refs = (header_at c.second j).refs + 1 }) ps') eb c.buffer in
-    let middle : (m : Number) → same_number n m ≡ false → header_at c.second m ≡ header_at ps m =
-    λ m d. c.header.others m d ∙ t.headers m in
-    let at_n : header_at ps' n ≡ cloned_header (header_at ps from) n = last.others n turned ∙ c.header.here in
-    let bump : Header → Header = λ y. record y { refs = y.refs + 1 } in
-    let similar : (m : Number) → same_number n m ≡ false → Alike (header_at ps' m) (header_at ps m) =
-    λ m d. ⊎_elim
-    (λ e. subst (λ j. Alike (header_at ps' j) (header_at ps j)) e
-    (subst (λ x. Alike x (header_at ps b)) (sym (last.here ∙ ap bump (middle b apart)))
-    (record { segs = refl; last = refl; link = record { offset = refl; len = refl; next = refl; buffer = refl } })))
-    (λ o. alike (header_at ps' m) (header_at ps m) (last.others m o ∙ middle m d))
-    (same_or b m) in
-    record {
-      whole = grown ps ps' hand slots (clone_at n s) w
-          (record {
-            are = last.are;
-            specs = last.specs ∙ (c.header.specs ∙ t.specs);
-            number = number;
-            was = t.was;
-            here = last.outs n ∙ (c.header.outs n ∙ t.here);
-            no_head = ap (λ y. y.segs) at_n;
-            outs = λ m d. last.outs m ∙ (c.header.outs m ∙ t.others m d);
-            headers = similar;
-          })
-          (record { fits = lies.fits; number = lies.number })
-          (λ m q. ⊎_elim
-          (λ e. subst (λ j. (header_at ps' j).refs ≡ refs (clone_at n s ∷ ss) j) e
-          (let z = w.counted.stored b some in
-          let y = ap (λ x. x.refs) (middle b apart) in
-          let x = ap (λ x. x.refs) last.here in
-          omega (arith, x, y, z, refs_first (clone_at n s) ss)))
-          (λ o. ⊎_elim
-          (λ e. absurd (let z = ap (refs ss) e in omega (arith, q, z, no, zero_at b m o, refs-cons (clone_at n s) ss m)))
-          (λ d. ap (λ x. x.refs) (last.others m o ∙ middle m d)
-          ∙ (w.counted.stored m (omega (arith, q, zero_at b m o, refs-cons (clone_at n s) ss m)) ∙ omega (arith, zero_at b m o, refs-cons (clone_at n s) ss m)))
-          (same_or n m))
-          (same_or b m))
-          (inr (apart, some));
-      segment = segment_eq (segment_at (header_at ps') n) (clone_at n s) refl
-          (ap (λ y. y.buffer) at_n ∙ eb)
-          (ap (λ y. y.offset) at_n ∙ ap (λ y. y.offset) is)
-          (ap (λ y. y.len) at_n ∙ ap (λ y. y.len) is);
-      others = λ m d. (similar m d).link;
-      nothing = omega (arith, no);
-      specs = last.specs ∙ (c.header.specs ∙ t.specs);
-      buffers = last.buffers ∙ (c.header.buffers ∙ t.buffers);
-      ins = let a = last.ins n.pool in let d = c.header.ins n.pool in let e = t.ins in omega (arith, a, d, e);
-      number = number;
-      free = free_from (segments_held slots) n (omega (arith, no, mbufs-append hand (segments_held slots) n, refs-append hand (segments_held slots) n));
-    }
+module _ (ps ps' : List PoolView) (hand : Packet) (slots : List (Option Packet)) (from n : Number) (s : Segment) (w : Whole ps hand slots)
+    (c : Cloned ps from n ps') (is : segment_at (header_at ps) from ≡ s) (some : 1 ≤ refs (hand ++ segments_held slots) s.buffer)
+    (lies : Lies (specs_of ps) s) where
+  abbrev ss : List Segment
+  ss = hand ++ segments_held slots
+
+  abbrev buf : Number
+  buf = s.buffer
+
+  number : IsNumber (specs_of ps) n
+  number = number_of ps n c.taken.object
+
+  no : mbufs ss n + refs ss n ≡ 0
+  no = nothing_at ps hand slots n w number c.taken.was
+
+  -- the new mbuf is not the buffer
+  apart : same_number n buf ≡ false
+  apart = ⊎_elim
+      (λ e. absurd (let z = ap (refs ss) e in omega (arith, some, no, z)))
+      (λ d. d)
+      (same_or n buf)
+
+  eb : (header_at ps from).buffer ≡ buf
+  eb = ap (λ t. t.buffer) is
+
+  -- the buffer's header is written last, and the new mbuf's before
+  last : HeaderSet c.second buf (record (header_at c.second buf) { refs = (header_at c.second buf).refs + 1 }) ps'
+  last = subst (λ j. HeaderSet c.second j (record (header_at c.second j) { refs = (header_at c.second j).refs + 1 }) ps') eb c.buffer
+
+  middle : (m : Number) → same_number n m ≡ false → header_at c.second m ≡ header_at ps m
+  middle m d = c.header.others m d ∙ c.taken.headers m
+
+  at_n : header_at ps' n ≡ cloned_header (header_at ps from) n
+  at_n = last.others n (turned n buf apart) ∙ c.header.here
+
+  similar : (m : Number) → same_number n m ≡ false → Alike (header_at ps' m) (header_at ps m)
+  similar m d =
+      let bump : Header → Header = λ y. record y { refs = y.refs + 1 } in
+      ⊎_elim
+      (λ e. subst (λ j. Alike (header_at ps' j) (header_at ps j)) e
+      (subst (λ x. Alike x (header_at ps buf)) (sym (last.here ∙ ap bump (middle buf apart)))
+      (record { segs = refl; last = refl; link = record { offset = refl; len = refl; next = refl; buffer = refl } })))
+      (λ o. alike (header_at ps' m) (header_at ps m) (last.others m o ∙ middle m d))
+      (same_or buf m)
+
+  -- each buffer's header has its references, also the one that has got one more
+  refs_now : (m : Number) → 1 ≤ refs (clone_at n s ∷ ss) m → (header_at ps' m).refs ≡ refs (clone_at n s ∷ ss) m
+  refs_now m q = ⊎_elim
+      (λ e. subst (λ j. (header_at ps' j).refs ≡ refs (clone_at n s ∷ ss) j) e
+      (let z = w.counted.stored buf some in
+      let y = ap (λ x. x.refs) (middle buf apart) in
+      let x = ap (λ x. x.refs) last.here in
+      omega (arith, x, y, z, refs_first (clone_at n s) ss)))
+      (λ o. ⊎_elim
+      (λ e. absurd (let z = ap (refs ss) e in omega (arith, q, z, no, zero_at buf m o, refs-cons (clone_at n s) ss m)))
+      (λ d. ap (λ x. x.refs) (last.others m o ∙ middle m d)
+      ∙ (w.counted.stored m (omega (arith, q, zero_at buf m o, refs-cons (clone_at n s) ss m)) ∙ omega (arith, zero_at buf m o, refs-cons (clone_at n s) ss m)))
+      (same_or n m))
+      (same_or buf m)
+
+  pub grown_clone : Grown ps ps' hand slots n s
+  grown_clone =
+      let t = c.taken in
+      record {
+        whole = grown ps ps' hand slots (clone_at n s) w
+            (record {
+              are = last.are;
+              specs = last.specs ∙ (c.header.specs ∙ t.specs);
+              number = number;
+              was = t.was;
+              here = last.outs n ∙ (c.header.outs n ∙ t.here);
+              no_head = ap (λ y. y.segs) at_n;
+              outs = λ m d. last.outs m ∙ (c.header.outs m ∙ t.others m d);
+              headers = similar;
+            })
+            (record { fits = lies.fits; number = lies.number })
+            refs_now
+            (inr (apart, some));
+        segment = segment_eq (segment_at (header_at ps') n) (clone_at n s) refl
+            (ap (λ y. y.buffer) at_n ∙ eb)
+            (ap (λ y. y.offset) at_n ∙ ap (λ y. y.offset) is)
+            (ap (λ y. y.len) at_n ∙ ap (λ y. y.len) is);
+        others = λ m d. (similar m d).link;
+        nothing = omega (arith, no);
+        specs = last.specs ∙ (c.header.specs ∙ t.specs);
+        buffers = last.buffers ∙ (c.header.buffers ∙ t.buffers);
+        ins = let a = last.ins n.pool in let d = c.header.ins n.pool in let e = t.ins in omega (arith, a, d, e);
+        number = number;
+        free = free_from (segments_held slots) n (omega (arith, no, mbufs-append hand (segments_held slots) n, refs-append hand (segments_held slots) n));
+      }
 
 -- ---- the clone so far
 

@@ -253,7 +253,8 @@ pub nothing_at : (ps : List PoolView) (hand : Packet) (slots : List (Option Pack
 nothing_at ps hand slots n w number was =
     none_of (mbufs (hand ++ segments_held slots) n + refs (hand ++ segments_held slots) n) (sym (w.counted.out n number) ∙ was)
 
-turned : (a b : Number) → same_number a b ≡ false → same_number b a ≡ false
+-- a comparison turned round
+pub turned : (a b : Number) → same_number a b ≡ false → same_number b a ≡ false
 turned a b f = ⊎_elim
     (λ e. let t : same_number a b ≡ true = ap (same_number a) e ∙ same_self a in absurd (cc))
     (λ g. g)

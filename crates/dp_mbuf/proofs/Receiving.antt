@@ -21,7 +21,7 @@ use Rattle.dp_mbuf.proofs.Counting.{mbufs-append, mbufs-cons, mbufs_first, refs-
 use Rattle.dp_mbuf.proofs.Links.{alike, first_in, linked_kept}
 use Rattle.dp_mbuf.proofs.Frames.{object_of, number_of, number_small}
 use Rattle.dp_mbuf.proofs.Edits.{all_at, hooked, bytes_whole}
-use Rattle.dp_mbuf.proofs.InHand.{nothing_at}
+use Rattle.dp_mbuf.proofs.InHand.{nothing_at, turned}
 use Rattle.dp_mbuf.proofs.Taking.{grown_direct, free_from}
 use Rattle.dp_mbuf.proofs.Chaining.{joined, last_of_links}
 use Rattle.dp_mbuf.proofs.Live.{rooms_small, settled, store_eq, last_mbuf_is}
@@ -100,12 +100,6 @@ any_push b (m ∷ numbers) n e =
     let h = or_parts (same_number b m) _ e in
     let t = any_push b numbers n h.1 in
     (ap (λ x. x || list_any (same_number b) numbers) h.0 ∙ t.0, t.1)
-
-turned : (a b : Number) → same_number a b ≡ false → same_number b a ≡ false
-turned a b f = ⊎_elim
-    (λ e. let t : same_number a b ≡ true = ap (same_number a) e ∙ same_self a in absurd (cc))
-    (λ g. g)
-    (same_or b a)
 
 -- the bytes with one more segment behind
 spelled_more : (buffers buffers' : Buffers) (made : Packet) (n : Number) (full : ℕ) (rest bytes : List ℕ) →
