@@ -303,7 +303,8 @@ module _ (ps ps' : List PoolView) (slots : List (Option Packet)) (h : ℕ) (befo
             (record {
               mbufs = λ m. edited_count (λ t. same_number t.mbuf m) (ap (λ y. same_number y m) mb);
               refs = λ m. edited_count (λ t. same_number t.buffer m) (ap (λ y. same_number y m) bf);
-              indirects = λ m. edited_count (λ t. same_number t.mbuf m && not (same_number t.buffer m)) (ap (λ y. same_number y m && not (same_number s'.buffer m)) mb
+              indirects = λ m. edited_count (λ t. same_number t.mbuf m && not (same_number t.buffer m))
+                  (ap (λ y. same_number y m && not (same_number s'.buffer m)) mb
                   ∙ ap (λ y. same_number s.mbuf m && not (same_number y m)) bf);
             })
             done.specs done.outs (λ m _. stored_same ps ps' s.mbuf x done kept m)

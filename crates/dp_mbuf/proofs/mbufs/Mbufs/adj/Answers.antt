@@ -21,7 +21,8 @@ overflow_sub-head c = omega (
 )
 
 pub set_bounds-requires : goal.set_bounds-requires
-set_bounds-requires c = rw c.first_number.ensures (live_object _ _ c.args.packet.now (same_store c.self.view_is) c.self.invariant (c.requires.0, c.requires.1, tt))
+set_bounds-requires c =
+    rw c.first_number.ensures (live_object _ _ c.args.packet.now (same_store c.self.view_is) c.self.invariant (c.requires.0, c.requires.1, tt))
 
 pub invariant_of-self : goal.invariant_of-self
 invariant_of-self c =

@@ -53,17 +53,20 @@ loop-i-init c = record {
 
 pub clone_segment-mbuf-requires : goal.clone_segment-mbuf-requires
 clone_segment-mbuf-requires c =
-    step_can _ _ _ _ _ _ (found (goal.at.clone_segment-mbuf-requires c).After-first_number) _ _ _ _ _ (c.loop-i.invariant.packets c.requires.live.0 c.requires.live.1)
+    step_can _ _ _ _ _ _ (found (goal.at.clone_segment-mbuf-requires c).After-first_number) _ _ _ _ _
+    (c.loop-i.invariant.packets c.requires.live.0 c.requires.live.1)
     c.loop-i-test.true
 
 pub relink-requires : goal.relink-requires
 relink-requires c =
-    step_last _ _ _ _ _ _ (found (goal.at.relink-requires c).After-first_number) _ _ _ _ _ (c.loop-i.invariant.packets c.requires.live.0 c.requires.live.1) c.loop-i-test.true
+    step_last _ _ _ _ _ _ (found (goal.at.relink-requires c).After-first_number) _ _ _ _ _
+    (c.loop-i.invariant.packets c.requires.live.0 c.requires.live.1) c.loop-i-test.true
     _ _ c.clone_segment-mbuf.ensures.cloned
 
 pub header-from-requires : goal.header-from-requires
 header-from-requires c =
-    (step_done _ _ _ _ _ _ (found (goal.at.header-from-requires c).After-first_number) _ _ _ _ _ (c.loop-i.invariant.packets c.requires.live.0 c.requires.live.1)
+    (step_done _ _ _ _ _ _ (found (goal.at.header-from-requires c).After-first_number) _ _ _ _ _
+    (c.loop-i.invariant.packets c.requires.live.0 c.requires.live.1)
     c.loop-i-test.true _ _ _ c.clone_segment-mbuf.ensures.pool c.clone_segment-mbuf.ensures.cloned c.relink.ensures).0
 
 pub loop-i-preserved : goal.loop-i-preserved
@@ -78,11 +81,13 @@ loop-i-preserved c = record {
 
 pub hook-requires : goal.hook-requires
 hook-requires c =
-    end_object _ _ _ _ _ _ (found (goal.at.hook-requires c).After-first_number) _ _ _ _ _ (c.loop-i.invariant.packets c.requires.live.0 c.requires.live.1) c.loop-i-test.false
+    end_object _ _ _ _ _ _ (found (goal.at.hook-requires c).After-first_number) _ _ _ _ _
+    (c.loop-i.invariant.packets c.requires.live.0 c.requires.live.1) c.loop-i-test.false
 
 pub invariant_of-self : goal.invariant_of-self
 invariant_of-self c =
-    (end_done _ _ _ _ _ _ (found (goal.at.invariant_of-self c).After-first_number) _ _ _ _ _ (c.loop-i.invariant.packets c.requires.live.0 c.requires.live.1)
+    (end_done _ _ _ _ _ _ (found (goal.at.invariant_of-self c).After-first_number) _ _ _ _ _
+    (c.loop-i.invariant.packets c.requires.live.0 c.requires.live.1)
     c.loop-i-test.false _ _ c.packet_of.ensures c.hook.ensures).0
 
 pub returns-clause-packets : goal.returns-clause-packets

@@ -24,13 +24,15 @@ loop-i-init c = λ p has. (rw c.first_number-mbuf.ensures (links_of _ _ c.args.p
 pub header-segment-requires : goal.header-segment-requires
 header-segment-requires c =
     (part _ _ c.args.packet.now (same_store c.self.view_is) c.self.invariant c.requires.0 _ c.loop-i.i c.requires.1
-    (omega (arith, c.loop-i-test.true, counted (goal.at.header-segment-requires c).After-first_header-segs c.requires.0 c.requires.1)) (c.loop-i.invariant c.requires.0 c.requires.1).0).object
+    (omega (arith, c.loop-i-test.true, counted (goal.at.header-segment-requires c).After-first_header-segs c.requires.0 c.requires.1))
+    (c.loop-i.invariant c.requires.0 c.requires.1).0).object
 
 pub header-buffer-requires : goal.header-buffer-requires
 header-buffer-requires c =
     rw c.header-segment.ensures
     (part _ _ c.args.packet.now (same_store c.self.view_is) c.self.invariant c.requires.0 _ c.loop-i.i c.requires.1
-    (omega (arith, c.loop-i-test.true, counted (goal.at.header-buffer-requires c).After-first_header-segs c.requires.0 c.requires.1)) (c.loop-i.invariant c.requires.0 c.requires.1).0).buffer
+    (omega (arith, c.loop-i-test.true, counted (goal.at.header-buffer-requires c).After-first_header-segs c.requires.0 c.requires.1))
+    (c.loop-i.invariant c.requires.0 c.requires.1).0).buffer
 
 pub loop-i-preserved : goal.loop-i-preserved
 loop-i-preserved c = λ p has.
