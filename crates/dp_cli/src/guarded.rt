@@ -1,7 +1,7 @@
 //! Writers that are not asked again once they failed.
 
 ghost use Rattle.std.specs.Prelude.{◌≡◌, None, false};
-ghost use Rattle.dp_pcap.specs.declared.number.Order.TheVariants.{Little};
+ghost use Rattle.dp_pcap.specs.declared.byte_order.Order.TheVariants.{Little};
 ghost use Rattle.dp_pcap.specs.Counting.{none_yet, records_in};
 
 use dp_pcap::WholeRecords;

@@ -2,8 +2,8 @@
 
 ghost use Rattle.std.specs.Prelude.{◌≡◌, ◌+◌, ◌<◌, ◌^◌, ◌++◌, ℕ, List, true, false, length, take, OnOk};
 ghost use Rattle.std.specs.Io.KnownBytes.{Appends};
-ghost use Rattle.dp_pcap.specs.declared.number.Order.{Order};
-ghost use Rattle.dp_pcap.specs.declared.number.Order.TheVariants.{Little};
+ghost use Rattle.dp_pcap.specs.declared.byte_order.Order.{Order};
+ghost use Rattle.dp_pcap.specs.declared.byte_order.Order.TheVariants.{Little};
 ghost use Rattle.dp_pcap.specs.declared.time.Unit.{Unit as TimeUnit};
 ghost use Rattle.dp_pcap.specs.Capture.{IsHeader};
 ghost use Rattle.dp_pcap.specs.Counting.{none_yet, records_in, IsBehind};

@@ -70,7 +70,7 @@ impl<R: Read, P: Write> Read for Watched<R, P> {
     ghost use Rattle.std.specs.Io.KnownBytes.{Appends, ReadConsumes};
     ghost use Rattle.std.specs.IoError.{error_kind};
     ghost use Rattle.std.specs.List.{starts_with};
-    ghost use Rattle.dp_pcap.specs.declared.number.Order.{Order};
+    ghost use Rattle.dp_pcap.specs.declared.byte_order.Order.{Order};
     ghost use Rattle.dp_pcap.specs.declared.time.Unit.{Unit as TimeUnit};
     ghost use Rattle.dp_pcap.specs.Capture.{IsHeader};
     ghost use Rattle.dp_pcap.specs.Counting.{IsBehind, records_in};

@@ -4,15 +4,15 @@ use Rattle.std.proofs.Common.{length-append, length-take, append_assoc, append-n
 use Rattle.std.proofs.lemmas.List.{take-append-drop, take-take, length-take-le, length-drop}
 use Rattle.std.proofs.lemmas.Slice.{take-put_mid}
 use borrow.Rule.Slice.PartMut.{put_mid}
-use Rattle.dp_pcap.specs.declared.number.Order.{Order}
-use Rattle.dp_pcap.specs.declared.number.Order.TheVariants.{Little, Big}
+use Rattle.dp_pcap.specs.declared.byte_order.Order.{Order}
+use Rattle.dp_pcap.specs.declared.byte_order.Order.TheVariants.{Little, Big}
 use Rattle.dp_pcap.specs.declared.time.Unit.{Unit as TimeUnit}
 use Rattle.dp_pcap.specs.Capture.{captured, number, IsHeader}
 use Rattle.dp_pcap.specs.Counting.{Counted, ArePieces, IsPart, IsBehind}
 
 -- ---- the order
 
--- the version tells it
+-- the version shows it
 pub version_big : (o : Order) (u : TimeUnit) (header : List ℕ) → number Big 2 (drop 4 header) ≡ 2 → IsHeader o u header → Big ≡ o
 unfolding number
 version_big Big u header two is = refl
@@ -118,8 +118,8 @@ head_grown o pieces head before more few b = record {
 
 part_begun : (o : Order) (n left : ℕ) (head part more : List ℕ) → length head + length more ≡ 16 → left ≡ captured o (head ++ more) → 0 < left →
     IsPart o n 0 head part → IsPart o n left [] (part ++ more)
-part_begun o zero left head part more full says any (none, some, all) = absurd (omega (arith, some))
-part_begun o (suc n) left head part more full says any (inl (none, less, same)) =
+part_begun o zero left head part more full is_long any (none, some, all) = absurd (omega (arith, some))
+part_begun o (suc n) left head part more full is_long any (inl (none, less, same)) =
     inr (
       any,
       refl,
@@ -127,48 +127,48 @@ part_begun o (suc n) left head part more full says any (inl (none, less, same)) 
         head ++ more,
         [],
         omega (arith, full, length-append head more),
-        omega (arith, says),
+        omega (arith, is_long),
         ap (λ l. l ++ more) same
             ∙ sym (append-nil (head ++ more)),
       ),
     )
-part_begun o (suc n) left head part more full says any (inr (some, none, inside)) = absurd (omega (arith, some))
+part_begun o (suc n) left head part more full is_long any (inr (some, none, inside)) = absurd (omega (arith, some))
 
 -- all of it, and bytes are to follow
 pub head_whole : (o : Order) (pieces left : ℕ) (head before more : List ℕ) → length head + length more ≡ 16 → left ≡ captured o (head ++ more) → 0 < left
     → IsBehind (record { order = o; pieces = pieces; left = 0; head = head }) before →
     IsBehind (record { order = o; pieces = pieces; left = left; head = [] }) (before ++ more)
-head_whole o pieces left head before more full says any b = record {
+head_whole o pieces left head before more full is_long any b = record {
   whole = b.whole;
   part = b.part ++ more;
   split = ap (λ l. l ++ more) b.split ∙ append_assoc b.whole b.part more;
   pieces = b.pieces;
-  is_part = part_begun o pieces left head b.part more full says any b.is_part;
+  is_part = part_begun o pieces left head b.part more full is_long any b.is_part;
 }
 
 one_empty : (o : Order) (n : ℕ) (head whole part before more : List ℕ) → ArePieces o n whole → IsPart o n 0 head part → before ≡ whole ++ part →
     length head + length more ≡ 16
     → 0 ≡ captured o (head ++ more) → ArePieces o (suc n) (before ++ more)
-one_empty o zero head whole part before more are (none, some, all) split full says = absurd (omega (arith, some))
-one_empty o (suc n) head whole part before more are (inl (none, less, same)) split full says = (
+one_empty o zero head whole part before more are (none, some, all) split full is_long = absurd (omega (arith, some))
+one_empty o (suc n) head whole part before more are (inl (none, less, same)) split full is_long = (
   whole,
   head ++ more,
   [],
   are,
-  (omega (arith, full, length-append head more), says),
+  (omega (arith, full, length-append head more), is_long),
   ap (λ l. l ++ more) split ∙ append_assoc whole part more ∙ ap (λ l. whole ++ l) (ap (λ l. l ++ more) same ∙ sym (append-nil (head ++ more))),
 )
-one_empty o (suc n) head whole part before more are (inr (some, none, inside)) split full says = absurd (omega (arith, some))
+one_empty o (suc n) head whole part before more are (inr (some, none, inside)) split full is_long = absurd (omega (arith, some))
 
 -- all of it, of a record without bytes
 pub head_alone : (o : Order) (pieces : ℕ) (head before more : List ℕ) → length head + length more ≡ 16 → 0 ≡ captured o (head ++ more)
     → IsBehind (record { order = o; pieces = pieces; left = 0; head = head }) before →
     IsBehind (record { order = o; pieces = suc pieces; left = 0; head = [] }) (before ++ more)
-head_alone o pieces head before more full says b = record {
+head_alone o pieces head before more full is_long b = record {
   whole = before ++ more;
   part = [];
   split = sym (append-nil (before ++ more));
-  pieces = one_empty o pieces head b.whole b.part before more b.pieces b.is_part b.split full says;
+  pieces = one_empty o pieces head b.whole b.part before more b.pieces b.is_part b.split full is_long;
   is_part = inl (refl, omega arith, refl);
 }
 
@@ -176,26 +176,26 @@ head_alone o pieces head before more full says b = record {
 
 one_record : (o : Order) (n : ℕ) (whole part before more : List ℕ) → ArePieces o n whole → IsPart o n 0 [] part → before ≡ whole ++ part → 16 ≤ length more
     → length (drop 16 more) ≡ captured o (take 16 more) → ArePieces o (suc n) (before ++ more)
-one_record o zero whole part before more are (none, some, all) split full says = absurd (omega (arith, some))
-one_record o (suc n) whole part before more are (inl (none, less, same)) split full says = (
+one_record o zero whole part before more are (none, some, all) split full is_long = absurd (omega (arith, some))
+one_record o (suc n) whole part before more are (inl (none, less, same)) split full is_long = (
   whole,
   take 16 more,
   drop 16 more,
   are,
-  (length-take-le 16 more full, says),
+  (length-take-le 16 more full, is_long),
   ap (λ l. l ++ more) (split ∙ (ap (λ l. whole ++ l) same ∙ append-nil whole)) ∙ ap (λ l. whole ++ l) (sym (take-append-drop 16 more)),
 )
-one_record o (suc n) whole part before more are (inr (some, none, inside)) split full says = absurd (omega (arith, some))
+one_record o (suc n) whole part before more are (inr (some, none, inside)) split full is_long = absurd (omega (arith, some))
 
--- its head and all that its head says
+-- its head and all that its head is_long
 pub record_whole : (o : Order) (pieces : ℕ) (before more : List ℕ) → 16 ≤ length more → length (drop 16 more) ≡ captured o (take 16 more)
     → IsBehind (record { order = o; pieces = pieces; left = 0; head = [] }) before →
     IsBehind (record { order = o; pieces = suc pieces; left = 0; head = [] }) (before ++ more)
-record_whole o pieces before more full says b = record {
+record_whole o pieces before more full is_long b = record {
   whole = before ++ more;
   part = [];
   split = sym (append-nil (before ++ more));
-  pieces = one_record o pieces b.whole b.part before more b.pieces b.is_part b.split full says;
+  pieces = one_record o pieces b.whole b.part before more b.pieces b.is_part b.split full is_long;
   is_part = inl (refl, omega arith, refl);
 }
 
@@ -204,14 +204,14 @@ pub record_passed : (o : Order) (pieces none came pieces' size : ℕ) (xs before
     size ≤ length bytes
     → size ≡ 16 + captured o (take 16 bytes) → IsBehind (record { order = o; pieces = pieces; left = none; head = take came xs }) before
     → IsBehind (record { order = o; pieces = pieces'; left = none; head = take came xs }) (before ++ take size bytes)
-record_passed o pieces none came pieces' size xs before bytes was begins more within says b =
-    let front : take 16 (take size bytes) ≡ take 16 bytes = take-take 16 size bytes (omega (arith, says)) in
+record_passed o pieces none came pieces' size xs before bytes was begins more within is_long b =
+    let front : take 16 (take size bytes) ≡ take 16 bytes = take-take 16 size bytes (omega (arith, is_long)) in
     let long : length (take size bytes) ≡ size = length-take-le size bytes within in
     subst (λ n. IsBehind (record { order = o; pieces = pieces'; left = n; head = take came xs }) (before ++ take size bytes)) (sym was)
     (subst (λ n. IsBehind (record { order = o; pieces = pieces'; left = 0; head = take n xs }) (before ++ take size bytes)) (sym begins)
     (subst (λ n. IsBehind (record { order = o; pieces = n; left = 0; head = [] }) (before ++ take size bytes)) (sym more)
-    (record_whole o pieces before (take size bytes) (omega (arith, long, says))
-    (omega (arith, length-drop 16 (take size bytes), long, says, ap (captured o) front))
+    (record_whole o pieces before (take size bytes) (omega (arith, long, is_long))
+    (omega (arith, length-drop 16 (take size bytes), long, is_long, ap (captured o) front))
     (subst (λ n. IsBehind (record { order = o; pieces = pieces; left = 0; head = take n xs }) before) begins
     (subst (λ n. IsBehind (record { order = o; pieces = pieces; left = n; head = take came xs }) before) was b)))))
 
@@ -230,13 +230,13 @@ pub head_ends : (o : Order) (pieces none came k n pieces' left : ℕ) (head' xs 
     → left ≡ captured o (put_mid came k xs ys) → came + n ≡ 16 → n ≤ length bytes → came ≤ length xs → length (put_mid came k xs ys) ≡ 16 → ys ≡ take n bytes
     → IsBehind (record { order = o; pieces = pieces; left = none; head = take came xs }) before →
     IsBehind (record { order = o; pieces = pieces'; left = left; head = head' }) (before ++ take n bytes)
-head_ends o pieces none came k n pieces' left head' xs ys bytes before was more zero_left empty says full within there long same b =
+head_ends o pieces none came k n pieces' left head' xs ys bytes before was more zero_left empty is_long full within there long same b =
     let whole = head_written came k n xs ys bytes full within there long same in
     let size : length (take came xs) + length (take n bytes) ≡ 16 = omega (arith, full, within, there, length-take came xs, length-take n bytes) in
     subst (λ m. IsBehind (record { order = o; pieces = m; left = left; head = head' }) (before ++ take n bytes)) (sym more)
     (subst (λ m. IsBehind (record { order = o; pieces = suc pieces; left = m; head = head' }) (before ++ take n bytes)) (sym zero_left)
     (subst (λ h. IsBehind (record { order = o; pieces = suc pieces; left = 0; head = h }) (before ++ take n bytes)) (sym empty)
-    (head_alone o pieces (take came xs) before (take n bytes) size (sym zero_left ∙ says ∙ ap (captured o) whole)
+    (head_alone o pieces (take came xs) before (take n bytes) size (sym zero_left ∙ is_long ∙ ap (captured o) whole)
     (subst (λ m. IsBehind (record { order = o; pieces = pieces; left = m; head = take came xs }) before) was b))))
 
 -- and of one with bytes
@@ -244,11 +244,11 @@ pub head_goes_on : (o : Order) (pieces none came k n left : ℕ) (head' xs ys by
     → left ≡ captured o (put_mid came k xs ys) → came + n ≡ 16 → n ≤ length bytes → came ≤ length xs → length (put_mid came k xs ys) ≡ 16 → ys ≡ take n bytes
     → IsBehind (record { order = o; pieces = pieces; left = none; head = take came xs }) before →
     IsBehind (record { order = o; pieces = pieces; left = left; head = head' }) (before ++ take n bytes)
-head_goes_on o pieces none came k n left head' xs ys bytes before was any empty says full within there long same b =
+head_goes_on o pieces none came k n left head' xs ys bytes before was any empty is_long full within there long same b =
     let whole = head_written came k n xs ys bytes full within there long same in
     let size : length (take came xs) + length (take n bytes) ≡ 16 = omega (arith, full, within, there, length-take came xs, length-take n bytes) in
     subst (λ h. IsBehind (record { order = o; pieces = pieces; left = left; head = h }) (before ++ take n bytes)) (sym empty)
-    (head_whole o pieces left (take came xs) before (take n bytes) size (says ∙ ap (captured o) whole) any
+    (head_whole o pieces left (take came xs) before (take n bytes) size (is_long ∙ ap (captured o) whole) any
     (subst (λ m. IsBehind (record { order = o; pieces = pieces; left = m; head = take came xs }) before) was b))
 
 -- ---- piece by piece

@@ -1,3 +1,4 @@
+-- The lemmas of dp_pcap, by subject.
 pub mod AtHand
 pub mod CountLemmas
 pub mod Fills

@@ -1,10 +1,11 @@
 -- How many records of a capture are whole in the bytes that went by.
 use Rattle.std.specs.Prelude.{◌≡◌, ℕ, zero, suc, ◌+◌, ◌-◌, ◌<◌, List, [], ◌++◌, length, ◌⊎◌}
-use Rattle.dp_pcap.specs.declared.number.Order.{Order}
+use Rattle.dp_pcap.specs.declared.byte_order.Order.{Order}
+use Rattle.dp_pcap.specs.declared.format.TheConstants.{HEADER_SIZE, HEAD_SIZE}
 use Rattle.dp_pcap.specs.Capture.{captured}
 
 -- what contracts see of a count: the order of the capture's numbers; how many pieces are whole, the header and then records; how
--- many bytes are left of the one that is not; and the bytes of the next record's first 16 that came
+-- many bytes are left of the one that is not; and the bytes of the next record's head that came
 pub record Counted : Type 0 where
   pub order : Order
   pub pieces : ℕ
@@ -13,33 +14,33 @@ pub record Counted : Type 0 where
 
 -- before the first byte
 abbrev pub none_yet : Order → Counted
-none_yet order = record { order = order; pieces = 0; left = 24; head = [] }
+none_yet order = record { order = order; pieces = 0; left = HEADER_SIZE; head = [] }
 
 -- the records among the whole pieces
 abbrev pub records_in : Counted → ℕ
 records_in c = c.pieces - 1
 
--- 16 bytes, and as many behind them as they say
+-- a head, and as many bytes behind it as were captured
 abbrev pub IsRecord : Order → List ℕ → List ℕ → Type 0
-IsRecord order head body = (length head ≡ 16) × (length body ≡ captured order head)
+IsRecord order head body = (length head ≡ HEAD_SIZE) × (length body ≡ captured order head)
 
--- so many whole pieces: a header of 24 bytes, and then records
+-- so many whole pieces: a header, and then records
 abbrev pub ArePieces : Order → ℕ → List ℕ → Type 0
 ArePieces order zero bytes = bytes ≡ []
-ArePieces order (suc zero) bytes = length bytes ≡ 24
+ArePieces order (suc zero) bytes = length bytes ≡ HEADER_SIZE
 ArePieces order (suc (suc n)) bytes =
     (front : List ℕ) × (head : List ℕ) × (body : List ℕ) × ArePieces order (suc n) front × IsRecord order head body × (bytes ≡ front ++ (head ++ body))
 
 -- a part of a record's bytes came, and so many are left
 abbrev pub IsInside : Order → ℕ → List ℕ → Type 0
 IsInside order left part =
-    (head : List ℕ) × (body : List ℕ) × (length head ≡ 16) × (length body + left ≡ captured order head) × (part ≡ head ++ body)
+    (head : List ℕ) × (body : List ℕ) × (length head ≡ HEAD_SIZE) × (length body + left ≡ captured order head) × (part ≡ head ++ body)
 
--- a part of the piece behind so many: of the header, of a record's first 16 bytes, or of those behind them
+-- a part of the piece behind so many: of the header, of a record's head, or of the bytes behind it
 abbrev pub IsPart : Order → ℕ → ℕ → List ℕ → List ℕ → Type 0
-IsPart order zero left head part = (head ≡ []) × (0 < left) × (length part + left ≡ 24)
+IsPart order zero left head part = (head ≡ []) × (0 < left) × (length part + left ≡ HEADER_SIZE)
 IsPart order (suc n) left head part =
-    ((left ≡ 0) × (length head < 16) × (part ≡ head)) ⊎ ((0 < left) × (head ≡ []) × IsInside order left part)
+    ((left ≡ 0) × (length head < HEAD_SIZE) × (part ≡ head)) ⊎ ((0 < left) × (head ≡ []) × IsInside order left part)
 
 -- the count stands behind these bytes: so many whole pieces, and a part of the next
 pub record IsBehind (c : Counted) (bytes : List ℕ) : Type 0 where

@@ -1,17 +1,13 @@
 //! How many records of a capture are whole in the bytes that went by.
 ghost use Rattle.std.specs.Prelude.{◌≡◌, ◌+◌, ◌<◌, ◌≤◌, ◌^◌, ◌++◌, ℕ, List, length, take};
-ghost use Rattle.dp_pcap.specs.declared.number.Order.{Order};
+ghost use Rattle.dp_pcap.specs.declared.byte_order.Order.{Order};
 ghost use Rattle.dp_pcap.specs.declared.time.Unit.{Unit as TimeUnit};
 ghost use Rattle.dp_pcap.specs.Capture.{captured, IsHeader};
 ghost use Rattle.dp_pcap.specs.Counting.{none_yet, records_in, IsBehind};
 
-use crate::number::{Order, long_number, short_number};
+use crate::byte_order::{Order, long_number, short_number};
+use crate::format::{CAPTURED_AT, HEAD_SIZE, HEADER_SIZE, MAJOR, MAJOR_AT, MINOR_AT};
 use std::marker::Model;
-
-/// How many bytes the header of a capture has, and how many stand in front of a record's bytes.
-const HEADER: usize = 24;
-
-const HEAD: usize = 16;
 
 /// Counts the records of a capture that are whole in its first bytes, as these go by in pieces of any size.
 #[derive(Drop)]
@@ -23,36 +19,37 @@ pub struct WholeRecords {
     // How many bytes are left of the header or of a record's bytes.
     left: usize,
     // The first `came` are those of the next record's head that came.
-    head: [u8; HEAD],
+    head: [u8; HEAD_SIZE],
     came: usize,
 }
 
 impl Model for WholeRecords {
     ghost use Rattle.std.specs.Prelude.{◌≡◌, ◌<◌, length, take};
     ghost use Rattle.dp_pcap.specs.Counting.{Counted};
+    ghost use Rattle.dp_pcap.specs.declared.format.TheConstants.{HEAD_SIZE};
 
     ghost Value = { Counted };
 
     ghost view = { λ c. record { order = c.order; pieces = c.pieces; left = c.left; head = take c.came c.head } };
 
-    ghost invariant = { λ c. (c.came < 16) × (length c.head ≡ 16) };
+    ghost invariant = { λ c. (c.came < HEAD_SIZE) × (length c.head ≡ HEAD_SIZE) };
 }
 
 // How many bytes stand behind a record's head.
 fn body_length(order: Order, head: &[u8]) -> u32
-    requires { length head.now ≡ 16 }
+    requires { length head.now ≡ HEAD_SIZE }
     ensures { result ≡ captured order head.now }
 {
-    long_number(order, &head[8..])
+    long_number(order, &head[CAPTURED_AT..])
 }
 
 // The order of the numbers of a header: that in which its version is 2.
 #[tactic(auto, using(crate::proofs::Counting::version_little))]
 fn order_of(header: &[u8]) -> Order
-    requires { 6 ≤ length header.now }
+    requires { MINOR_AT ≤ length header.now }
     ensures { (order : Order) (unit : TimeUnit) → IsHeader order unit header.now → result ≡ order }
 {
-    if short_number(Order::Big, &header[4..]) == 2 {
+    if short_number(Order::Big, &header[MAJOR_AT..]) == MAJOR {
         Order::Big
     } else {
         Order::Little
@@ -67,8 +64,8 @@ impl WholeRecords {
         WholeRecords {
             order,
             pieces: 0,
-            left: HEADER,
-            head: [0; HEAD],
+            left: HEADER_SIZE,
+            head: [0; HEAD_SIZE],
             came: 0,
         }
     }
@@ -83,12 +80,12 @@ impl WholeRecords {
     /// A count before the first byte of a capture, whose first bytes are shown to it: the version there tells the order of its numbers.
     pub fn of_capture(front: &[u8]) -> WholeRecords
         ensures none { result ≡ none_yet result.order }
-        ensures order { (order : Order) (unit : TimeUnit) → IsHeader order unit (take 24 front.now) → result ≡ none_yet order }
+        ensures order { (order : Order) (unit : TimeUnit) → IsHeader order unit (take HEADER_SIZE front.now) → result ≡ none_yet order }
     {
-        if front.len() < HEADER {
+        if front.len() < HEADER_SIZE {
             return WholeRecords::new();
         }
-        WholeRecords::before(order_of(&front[..HEADER]))
+        WholeRecords::before(order_of(&front[..HEADER_SIZE]))
     }
 
     /// How many records went by whole.
@@ -138,10 +135,10 @@ impl WholeRecords {
         ensures behind { self.old.pieces + 1 < 2 ^ 64 →
             (before : List ℕ) → IsBehind self.old before → IsBehind self.new (before ++ take result bytes.now) }
     {
-        if self.came > 0 || bytes.len() < HEAD {
+        if self.came > 0 || bytes.len() < HEAD_SIZE {
             return self.take_head(bytes);
         }
-        let size = HEAD + body_length(self.order, &bytes[..HEAD]) as usize;
+        let size = HEAD_SIZE + body_length(self.order, &bytes[..HEAD_SIZE]) as usize;
         if bytes.len() < size {
             return self.take_head(bytes);
         }
@@ -179,10 +176,10 @@ impl WholeRecords {
         ensures behind { self.old.pieces + 1 < 2 ^ 64 →
             (before : List ℕ) → IsBehind self.old before → IsBehind self.new (before ++ take result bytes.now) }
     {
-        let taken = (HEAD - self.came).min(bytes.len());
+        let taken = (HEAD_SIZE - self.came).min(bytes.len());
         self.head[self.came..self.came + taken].copy_from_slice(&bytes[..taken]);
         self.came += taken;
-        if self.came == HEAD {
+        if self.came == HEAD_SIZE {
             self.came = 0;
             self.left = body_length(self.order, &self.head) as usize;
             if self.left == 0 {

@@ -1,6 +1,6 @@
-//! A capture that goes by in two pieces, cut at each of its places.
+//! A capture that goes by in two pieces, cut at each of its bytes.
 use crate::WholeRecords;
-use crate::number::Order;
+use crate::byte_order::Order;
 
 // How many bytes the capture has: a header, a record of 3 bytes, one of none, one of 2, and the head of one more.
 const LEN: usize = 24 + 16 + 3 + 16 + 16 + 2 + 16;

@@ -206,7 +206,7 @@ fn a_failed_reader_behind_a_buffer_is_left_alone(rt: HostRuntime) -> Result<(), 
     Ok(())
 }
 
-// Buffers that end in every place of a header, of a record's head and of its bytes.
+// Buffers that end at every byte of a header, of a record's head and of its bytes.
 #[test]
 fn buffers_of_any_room_change_nothing(rt: HostRuntime) -> Result<(), Fail> {
     let bytes = hundred_bytes(rt.alloc())?;

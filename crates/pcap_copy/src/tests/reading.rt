@@ -70,13 +70,13 @@ fn refuses_headers(rt: HostRuntime) -> Result<(), Fail> {
         (12, 1, None),
         (16, 1, None),
     ];
-    for (place, byte, error) in rows {
+    for (offset, byte, error) in rows {
         let mut header = MICRO_HEADER;
-        let place: usize = place;
-        assert!(rt; place < 24);
-        header[place] = byte;
+        let offset: usize = offset;
+        assert!(rt; offset < 24);
+        header[offset] = byte;
         let mut r = OfRead::new(header.as_slice());
-        assert_eq!(rt; read_header(&mut r).err(), error, "{place}");
+        assert_eq!(rt; read_header(&mut r).err(), error, "{offset}");
     }
     let mut twice = MICRO_HEADER;
     twice[4] = 3;

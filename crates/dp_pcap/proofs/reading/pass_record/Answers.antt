@@ -1,3 +1,4 @@
+-- `pass_record`: the record at hand is the next one.
 use Rattle.dp_pcap.proofs.AtHand.{passed}
 use Rattle.dp_pcap.proofs.reading.pass_record.Goals as goal
 

@@ -1,3 +1,4 @@
+-- `put_rest`: one more call, or a failure.
 use Rattle.std.proofs.Common.{rules, arith, length}
 use Rattle.std.proofs.lemmas.Slice.{between_to_end}
 use Rattle.dp_pcap.proofs.Offering.{more_offered}

@@ -1,3 +1,4 @@
+-- `held` of a buffered reader: its buffer comes next.
 use Rattle.dp_pcap.proofs.AtHand.{begins}
 use Rattle.dp_pcap.proofs.of_buf_reader.OfBufReaderFeed.held.Goals as goal
 

@@ -1,4 +1,5 @@
-use Rattle.std.proofs.Common.{rules, ◌≡◌, ◌++◌, take, subst, sym, ◌∙◌, arith, append_assoc}
+-- `pass`: one step more, and what it went by.
+use Rattle.std.proofs.Common.{rules, ◌++◌, take, subst, ◌∙◌, arith, append_assoc}
 use Rattle.dp_pcap.specs.Counting.{IsBehind}
 use Rattle.dp_pcap.proofs.Pieces.{take_more-rest}
 use Rattle.dp_pcap.proofs.whole_records.WholeRecords.pass.Goals as goal

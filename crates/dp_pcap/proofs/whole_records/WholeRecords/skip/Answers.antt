@@ -1,4 +1,5 @@
-use Rattle.std.proofs.Common.{rules, ◌≡◌, ◌+◌, ◌<◌, ◌≤◌, ◌-◌, suc, length, take, subst, sym, ap, arith}
+-- `skip`: the body ends here, or goes on.
+use Rattle.std.proofs.Common.{rules, ◌≡◌, ◌≤◌, ◌-◌, length, take, subst, sym, ap, arith}
 use Rattle.dp_pcap.specs.Counting.{Counted, IsBehind}
 use Rattle.dp_pcap.proofs.Counting.{completes}
 use Rattle.dp_pcap.proofs.whole_records.WholeRecords.skip.Goals as goal

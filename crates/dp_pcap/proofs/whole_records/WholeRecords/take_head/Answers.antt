@@ -1,4 +1,5 @@
-use Rattle.std.proofs.Common.{rules, refl, ◌≡◌, ◌∙◌, ◌+◌, ◌<◌, ◌≤◌, ◌-◌, suc, length, take, subst, sym, ap, arith}
+-- `take_head`: the head ends here, or goes on.
+use Rattle.std.proofs.Common.{rules, refl, ◌≡◌, ◌∙◌, ◌+◌, ◌≤◌, ◌-◌, length, take, subst, sym, ap, arith}
 use borrow.Rule.Slice.PartMut.{put_mid}
 use Rattle.dp_pcap.specs.Capture.{captured, number}
 use Rattle.dp_pcap.specs.Counting.{Counted, IsBehind}

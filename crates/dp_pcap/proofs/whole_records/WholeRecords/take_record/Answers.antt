@@ -1,5 +1,5 @@
 -- One record more, or a part of its head.
-use Rattle.std.proofs.Common.{◌≡◌, ◌+◌, ◌≤◌, length, length-take, take, subst, sym, ◌∙◌, ap, arith}
+use Rattle.std.proofs.Common.{◌≡◌, ◌+◌, length, length-take, take, subst, sym, ◌∙◌, ap, arith}
 use Rattle.dp_pcap.specs.Capture.{captured}
 use Rattle.dp_pcap.specs.Counting.{Counted, IsBehind}
 use Rattle.dp_pcap.proofs.Counting.{record_passed}

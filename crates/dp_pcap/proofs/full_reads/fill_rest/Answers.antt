@@ -1,7 +1,8 @@
+-- `fill_rest`: one more call, the end of the input, or a failure.
 use Rattle.std.proofs.Common.{◌-◌, length, arith, rules}
 use Rattle.std.proofs.KnownBytes.{Consumes-trans}
 use Rattle.dp_pcap.proofs.Pieces.{take_more-put_mid}
-use Rattle.dp_pcap.proofs.fill.fill_rest.Goals as goal
+use Rattle.dp_pcap.proofs.full_reads.fill_rest.Goals as goal
 
 pub loop-at-preserved : goal.loop-at-preserved
 loop-at-preserved g c =
