@@ -1,7 +1,6 @@
 -- The instruction that is built of a statement's operands spells them.
-use Rattle.std.proofs.Common.{◌≡◌, ℕ, ◌<◌, ◌≤◌, Bool, true, false, List, [], ◌∷◌, map, Option, Some, None, refl, sym, subst, arith}
-use Rattle.std.specs.Prelude.{◌&&◌, nat_le, nat_lt, option_map}
-use Rattle.std.specs.List.{list_all}
+use Rattle.std.proofs.Common.{◌≡◌, ℕ, ◌<◌, ◌≤◌, Bool, true, false, List, [], ◌∷◌, map, Option, Some, None, refl, arith}
+use Rattle.std.specs.Prelude.{◌&&◌, nat_le, option_map}
 use Rattle.std.proofs.lemmas.Bool.{leb-true, lt-ltb}
 use Rattle.std.proofs.lemmas.Bool.Decides.{nat_tests}
 use Rattle.dp_model.specs.Arithmetic.{bytes_in}
@@ -13,10 +12,10 @@ use Rattle.dp_lang.specs.declared.form.Kind.{Kind}
 use Rattle.dp_lang.specs.declared.form.Kind.TheVariants as kinds
 use Rattle.dp_lang.specs.declared.form.Form.{Form}
 use Rattle.dp_lang.specs.declared.form.Form.TheVariants as forms
-use Rattle.dp_lang.specs.Forms.{Count, Pool, Table, Ring, Shift, Positive, kinds_of, is_of, is_width, all_of}
-use Rattle.dp_lang.specs.Forms as spec
-use Rattle.dp_lang.specs.Reading.{resolved, as_label, onto_resolved, all_resolved}
-use Rattle.dp_lang.specs.Spelling.{Statement, spelled, either}
+use Rattle.dp_lang.specs.declared.form.TheConstants.{COUNT, CONSTANT, POOL, TABLE, RING, SHIFT, POSITIVE}
+use Rattle.dp_lang.specs.Forms.{kinds_of, is_of, is_width, all_of}
+use Rattle.dp_lang.specs.Reading.{as_label, onto_resolved, all_resolved}
+use Rattle.dp_lang.specs.Spelling.{spelled, either}
 use Rattle.dp_lang.specs.Views.{argument}
 use Rattle.dp_lang.proofs.Bytes.{and_left, and_right}
 
@@ -162,7 +161,7 @@ with5 P k j i g e as' h f = with_more P k (j ∷ i ∷ g ∷ e ∷ []) as' h (λ
 abbrev Spells : Form → ℕ → List Named → Type 0
 Spells form l as' = spelled (built form (given as' l)) ≡ record { form = form; arguments = map (numbered l) as' }
 
-count_back : (l : ℕ) (a : Named) → Fit Count a → constant (count_in a) ≡ numbered l a
+count_back : (l : ℕ) (a : Named) → Fit COUNT a → constant (count_in a) ≡ numbered l a
 count_back l a h = less_back 0 65535 65536 l (omega arith) a h
 
 byte_back : (most l : ℕ) → most < 256 → (a : Named) → Fit (kinds.Number 0 most) a → constant (byte_in a) ≡ numbered l a
@@ -172,33 +171,33 @@ eight_back : (l : ℕ) (a : Named) → Fit (kinds.Number 0 7) a → constant (by
 eight_back l a h = byte_back 7 l (omega arith) a h
 
 pub spells : (form : Form) (l : ℕ) (as' : List Named) → all_of (kinds_of form) (map argument as') ≡ true → Spells form l as'
-spells forms.Alloc l as' h = with3 (Spells forms.Alloc l) kinds.Packet Pool kinds.Label as' h
+spells forms.Alloc l as' h = with3 (Spells forms.Alloc l) kinds.Packet POOL kinds.Label as' h
     (λ a b c ha hb hc. rw (packet_back l a ha, eight_back l b hb, label_back l c hc) refl)
 spells forms.Free l as' h = with1 (Spells forms.Free l) kinds.Packet as' h (λ a ha. rw (packet_back l a ha) refl)
-spells forms.Clone l as' h = with4 (Spells forms.Clone l) kinds.Packet kinds.Packet Pool kinds.Label as' h
+spells forms.Clone l as' h = with4 (Spells forms.Clone l) kinds.Packet kinds.Packet POOL kinds.Label as' h
     (λ a b c d ha hb hc hd. rw (packet_back l a ha, packet_back l b hb, eight_back l c hc, label_back l d hd) refl)
-spells forms.Prepend l as' h = with2 (Spells forms.Prepend l) kinds.Packet Count as' h (λ a b ha hb. rw (packet_back l a ha, count_back l b hb) refl)
-spells forms.Adj l as' h = with2 (Spells forms.Adj l) kinds.Packet Count as' h (λ a b ha hb. rw (packet_back l a ha, count_back l b hb) refl)
-spells forms.Append l as' h = with2 (Spells forms.Append l) kinds.Packet Count as' h (λ a b ha hb. rw (packet_back l a ha, count_back l b hb) refl)
-spells forms.Trim l as' h = with2 (Spells forms.Trim l) kinds.Packet Count as' h (λ a b ha hb. rw (packet_back l a ha, count_back l b hb) refl)
+spells forms.Prepend l as' h = with2 (Spells forms.Prepend l) kinds.Packet COUNT as' h (λ a b ha hb. rw (packet_back l a ha, count_back l b hb) refl)
+spells forms.Adj l as' h = with2 (Spells forms.Adj l) kinds.Packet COUNT as' h (λ a b ha hb. rw (packet_back l a ha, count_back l b hb) refl)
+spells forms.Append l as' h = with2 (Spells forms.Append l) kinds.Packet COUNT as' h (λ a b ha hb. rw (packet_back l a ha, count_back l b hb) refl)
+spells forms.Trim l as' h = with2 (Spells forms.Trim l) kinds.Packet COUNT as' h (λ a b ha hb. rw (packet_back l a ha, count_back l b hb) refl)
 spells forms.Chain l as' h = with2 (Spells forms.Chain l) kinds.Packet kinds.Packet as' h (λ a b ha hb. rw (packet_back l a ha, packet_back l b hb) refl)
-spells forms.IfHead l as' h = with3 (Spells forms.IfHead l) kinds.Packet Count kinds.Label as' h
+spells forms.IfHead l as' h = with3 (Spells forms.IfHead l) kinds.Packet COUNT kinds.Label as' h
     (λ a b c ha hb hc. rw (packet_back l a ha, count_back l b hb, label_back l c hc) refl)
-spells forms.IfTail l as' h = with3 (Spells forms.IfTail l) kinds.Packet Count kinds.Label as' h
+spells forms.IfTail l as' h = with3 (Spells forms.IfTail l) kinds.Packet COUNT kinds.Label as' h
     (λ a b c ha hb hc. rw (packet_back l a ha, count_back l b hb, label_back l c hc) refl)
-spells forms.IfLen l as' h = with3 (Spells forms.IfLen l) kinds.Packet Count kinds.Label as' h
+spells forms.IfLen l as' h = with3 (Spells forms.IfLen l) kinds.Packet COUNT kinds.Label as' h
     (λ a b c ha hb hc. rw (packet_back l a ha, count_back l b hb, label_back l c hc) refl)
-spells forms.IfLast l as' h = with3 (Spells forms.IfLast l) kinds.Packet Count kinds.Label as' h
+spells forms.IfLast l as' h = with3 (Spells forms.IfLast l) kinds.Packet COUNT kinds.Label as' h
     (λ a b c ha hb hc. rw (packet_back l a ha, count_back l b hb, label_back l c hc) refl)
-spells forms.Load l as' h = with4 (Spells forms.Load l) kinds.Register kinds.Packet Count kinds.Width as' h
+spells forms.Load l as' h = with4 (Spells forms.Load l) kinds.Register kinds.Packet COUNT kinds.Width as' h
     (λ a b c d ha hb hc hd. rw (register_back l a ha, packet_back l b hb, count_back l c hc, width_back l d hd) refl)
-spells forms.Store l as' h = with4 (Spells forms.Store l) kinds.Packet Count kinds.Width kinds.Register as' h
+spells forms.Store l as' h = with4 (Spells forms.Store l) kinds.Packet COUNT kinds.Width kinds.Register as' h
     (λ a b c d ha hb hc hd. rw (packet_back l a ha, count_back l b hb, width_back l c hc, register_back l d hd) refl)
-spells forms.LoadX l as' h = with5 (Spells forms.LoadX l) kinds.Register kinds.Packet kinds.Register Count kinds.Width as' h
+spells forms.LoadX l as' h = with5 (Spells forms.LoadX l) kinds.Register kinds.Packet kinds.Register COUNT kinds.Width as' h
     (λ a b c d x ha hb hc hd hx. rw (register_back l a ha, packet_back l b hb, register_back l c hc, count_back l d hd, width_back l x hx) refl)
-spells forms.StoreX l as' h = with5 (Spells forms.StoreX l) kinds.Packet kinds.Register Count kinds.Width kinds.Register as' h
+spells forms.StoreX l as' h = with5 (Spells forms.StoreX l) kinds.Packet kinds.Register COUNT kinds.Width kinds.Register as' h
     (λ a b c d x ha hb hc hd hx. rw (packet_back l a ha, register_back l b hb, count_back l c hc, width_back l d hd, register_back l x hx) refl)
-spells forms.Set l as' h = with2 (Spells forms.Set l) kinds.Register spec.Constant as' h
+spells forms.Set l as' h = with2 (Spells forms.Set l) kinds.Register CONSTANT as' h
     (λ a b ha hb. rw (register_back l a ha, number_back 0 18446744073709551615 l b hb) refl)
 spells forms.Mov l as' h = with2 (Spells forms.Mov l) kinds.Register kinds.Register as' h (λ a b ha hb. rw (register_back l a ha, register_back l b hb) refl)
 spells forms.Add l as' h = with2 (Spells forms.Add l) kinds.Register kinds.RegisterOrConstant as' h
@@ -211,19 +210,19 @@ spells forms.Or l as' h = with2 (Spells forms.Or l) kinds.Register kinds.Registe
     (λ a b ha hb. rw (register_back l a ha, operand_back l b hb) refl)
 spells forms.Xor l as' h = with2 (Spells forms.Xor l) kinds.Register kinds.RegisterOrConstant as' h
     (λ a b ha hb. rw (register_back l a ha, operand_back l b hb) refl)
-spells forms.Shl l as' h = with2 (Spells forms.Shl l) kinds.Register Shift as' h
+spells forms.Shl l as' h = with2 (Spells forms.Shl l) kinds.Register SHIFT as' h
     (λ a b ha hb. rw (register_back l a ha, byte_back 63 l (omega arith) b hb) refl)
-spells forms.Shr l as' h = with2 (Spells forms.Shr l) kinds.Register Shift as' h
+spells forms.Shr l as' h = with2 (Spells forms.Shr l) kinds.Register SHIFT as' h
     (λ a b ha hb. rw (register_back l a ha, byte_back 63 l (omega arith) b hb) refl)
 spells forms.Jmp l as' h = with1 (Spells forms.Jmp l) kinds.Label as' h (λ a ha. rw (label_back l a ha) refl)
 spells forms.Jeq l as' h = with3 (Spells forms.Jeq l) kinds.Register kinds.RegisterOrConstant kinds.Label as' h
     (λ a b c ha hb hc. rw (register_back l a ha, operand_back l b hb, label_back l c hc) refl)
-spells forms.Jlt l as' h = with3 (Spells forms.Jlt l) kinds.Register Positive kinds.Label as' h
+spells forms.Jlt l as' h = with3 (Spells forms.Jlt l) kinds.Register POSITIVE kinds.Label as' h
     (λ a b c ha hb hc. rw (register_back l a ha, number_back 1 18446744073709551615 l b hb, label_back l c hc) refl)
-spells forms.Lookup l as' h = with4 (Spells forms.Lookup l) kinds.Register Table kinds.Register kinds.Label as' h
+spells forms.Lookup l as' h = with4 (Spells forms.Lookup l) kinds.Register TABLE kinds.Register kinds.Label as' h
     (λ a b c d ha hb hc hd. rw (register_back l a ha, byte_back 3 l (omega arith) b hb, register_back l c hc, label_back l d hd) refl)
 spells forms.Tx l as' h = with3 (Spells forms.Tx l) kinds.Packet kinds.Register kinds.Label as' h
     (λ a b c ha hb hc. rw (packet_back l a ha, register_back l b hb, label_back l c hc) refl)
-spells forms.Enq l as' h = with3 (Spells forms.Enq l) kinds.Packet Ring kinds.Label as' h
+spells forms.Enq l as' h = with3 (Spells forms.Enq l) kinds.Packet RING kinds.Label as' h
     (λ a b c ha hb hc. rw (packet_back l a ha, eight_back l b hb, label_back l c hc) refl)
 spells forms.Exit l as' h = with0 (Spells forms.Exit l) as' h refl

@@ -1,7 +1,8 @@
+-- The lemmas of dp_lang, by subject.
 pub mod Assembled
 pub mod Built
 pub mod Bytes
-pub mod Cutting
+pub mod LineCuts
 pub mod Digits
 pub mod Fits
 pub mod Joins

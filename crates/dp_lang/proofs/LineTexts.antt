@@ -11,7 +11,7 @@ use Rattle.dp_lang.specs.Printing.{argument_text, arguments_text, label_name}
 use Rattle.dp_lang.specs.Reading.{Source, statement_of, line_of}
 use Rattle.dp_lang.proofs.Bytes.{Free, is_plain, is_ink, plain_ink, plain_colon, plain_hash, plain_text, ink_hash, ink_colon, ink_text, all_implies}
 use Rattle.dp_lang.proofs.Bytes.{all_append, and_left, and_right}
-use Rattle.dp_lang.proofs.Cutting.{split_at, split_none, before_none, begins, ends, free_begins, free_ends, ends_append, trim_none, trim_start_none}
+use Rattle.dp_lang.proofs.LineCuts.{split_at, split_none, before_none, begins, ends, free_begins, free_ends, ends_append, trim_none, trim_start_none}
 use Rattle.dp_lang.proofs.Joins.{behind, arguments_text-behind}
 use Rattle.dp_lang.proofs.Operands.{named, is_small, argument_plain, name_label, plain_digits}
 use Rattle.dp_lang.proofs.StatementTexts.{word_plain, word_some, argument_some, free_blank, free_word, statement_read}

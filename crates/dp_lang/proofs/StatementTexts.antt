@@ -14,7 +14,7 @@ use Rattle.dp_lang.specs.Printing.{argument_text, arguments_text}
 use Rattle.dp_lang.specs.Reading.{each_argument, arguments_of, with_form, statement_of}
 use Rattle.dp_lang.specs.Spelling.{Statement}
 use Rattle.dp_lang.proofs.Bytes.{Free, is_plain, plain_blank, plain_comma, all_implies, and_left, and_right}
-use Rattle.dp_lang.proofs.Cutting.{split_at, split_none, before_at, before_none, after_at, after_none, begins, free_begins, free_ends, trim_none}
+use Rattle.dp_lang.proofs.LineCuts.{split_at, split_none, before_at, before_none, after_at, after_none, begins, free_begins, free_ends, trim_none}
 use Rattle.dp_lang.proofs.Digits.{decimal_some}
 use Rattle.dp_lang.proofs.Joins.{behind, arguments_text-behind}
 use Rattle.dp_lang.proofs.Operands.{named, is_small, fits_64, argument_plain, argument_read}

@@ -1,6 +1,6 @@
--- The instruction that a form makes of five operands, whatever they are: one of another kind counts as 0. Where the operands are of the
--- form's kinds it is the instruction that they spell.
-use Rattle.std.specs.Prelude.{ℕ, ◌==◌, nat_lt, List, [], ◌∷◌, Option, Some, None, slice_index_or, if◌then◌else◌}
+-- Internal, no public contract names it: the instruction that a form makes of five operands, whatever they are. One of another kind
+-- counts as 0; where the operands are of the form's kinds it is the instruction that they spell.
+use Rattle.std.specs.Prelude.{ℕ, suc, ◌==◌, nat_lt, List, [], ◌∷◌, Option, Some, slice_index_or, if◌then◌else◌}
 use Rattle.dp_model.specs.declared.registers.Operand.{Operand}
 use Rattle.dp_model.specs.declared.registers.Operand.TheVariants as operand
 use Rattle.dp_model.specs.declared.registers.Width.{Width}
@@ -11,6 +11,7 @@ use Rattle.dp_lang.specs.declared.argument.Named.{Named}
 use Rattle.dp_lang.specs.declared.argument.Named.TheVariants.{Packet, Register, Constant, Name}
 use Rattle.dp_lang.specs.declared.building.Given.{Given}
 use Rattle.dp_lang.specs.declared.form.Form.{Form}
+use Rattle.dp_lang.specs.declared.form.TheConstants.{LARGEST_COUNT}
 use Rattle.dp_lang.specs.declared.form.Form.TheVariants.{Alloc, Free, Clone, Prepend, Adj, Append, Trim, Chain, IfHead, IfTail, IfLen, IfLast, Load, Store}
 use Rattle.dp_lang.specs.declared.form.Form.TheVariants.{LoadX, StoreX, Set, Mov, Add, Sub, And, Or, Xor, Shl, Shr, Jmp, Jeq, Jlt, Lookup, Tx, Enq, Exit}
 
@@ -36,7 +37,7 @@ abbrev pub byte_in : Named → ℕ
 byte_in a = less 256 (number_in a)
 
 abbrev pub count_in : Named → ℕ
-count_in a = less 65536 (number_in a)
+count_in a = less (suc LARGEST_COUNT) (number_in a)
 
 abbrev pub width_of : ℕ → Width
 width_of n = if n == 1 then One else (if n == 2 then Two else (if n == 4 then Four else Eight))

@@ -1,4 +1,4 @@
--- Labels by their bytes.
+-- Internal, no public contract names it: labels by their bytes.
 use Rattle.std.specs.Prelude.{ℕ, List, map}
 use denote.Ref.{Bor}
 

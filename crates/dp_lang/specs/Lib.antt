@@ -1,3 +1,4 @@
+-- The definitions that contracts of dp_lang name.
 pub mod Arguments
 pub mod Building
 pub mod Causes

@@ -6,8 +6,8 @@ ghost use Rattle.dp_lang.specs.Sources as view;
 ghost use Rattle.dp_lang.specs.Views.{Gives};
 
 use crate::cause::{AsmError, Cause, Fault};
-use crate::cut;
 use crate::labels::Labels;
+use crate::lines;
 use crate::program::Program;
 use crate::reader::add_line;
 use crate::resolve::instrs_of;
@@ -43,7 +43,7 @@ pub fn assemble(alloc: Global, text: &[u8]) -> Result<Program, AsmError>
     ensures program { IfOk result (Reads text.now) }
     ensures fault { IfErr result (Fails text.now) }
 {
-    let lines = cut::split(alloc, text, b'\n')?;
+    let lines = lines::split(alloc, text, b'\n')?;
     let source = read_lines(alloc, &lines)?;
     let instrs = instrs_of(alloc, &source)?;
     if instrs.is_empty() {

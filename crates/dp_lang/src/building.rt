@@ -4,7 +4,7 @@ ghost use Rattle.std.specs.Prelude.{◌≡◌};
 ghost use Rattle.dp_lang.specs.Building as spec;
 
 use crate::argument::Named;
-use crate::form::Form;
+use crate::form::{Form, LARGEST_COUNT};
 use dp_model::{Instr, NumberRegister, Operand, PacketRegister, Width};
 
 /// Five operands of a statement, with `Constant(0)` for each that it lacks, and the number of its label.
@@ -56,7 +56,7 @@ fn count_in(given: Named) -> u16
     ensures { result ≡ spec.count_in given.entry }
 {
     let n = number_in(given);
-    if n < 65_536 { n as u16 } else { 0 }
+    if n <= LARGEST_COUNT { n as u16 } else { 0 }
 }
 
 fn width_in(given: Named) -> Width

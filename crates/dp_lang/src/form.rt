@@ -18,27 +18,35 @@ pub enum Kind {
     Label,
 }
 
-/// 0 to 65,535.
-const COUNT: Kind = Kind::Number {
+/// The largest number of bytes, and the largest offset.
+pub const LARGEST_COUNT: u64 = 65_535;
+
+/// A number of bytes, or an offset in a packet.
+pub(crate) const COUNT: Kind = Kind::Number {
     least: 0,
-    most: 65_535,
+    most: LARGEST_COUNT,
 };
 
-/// 0 to the greatest number of 64 bits.
-const CONSTANT: Kind = Kind::Number {
+/// Any number of 64 bits.
+pub(crate) const CONSTANT: Kind = Kind::Number {
     least: 0,
     most: u64::MAX,
 };
 
-const POOL: Kind = Kind::Number { least: 0, most: 7 };
+/// The number of a pool.
+pub(crate) const POOL: Kind = Kind::Number { least: 0, most: 7 };
 
-const TABLE: Kind = Kind::Number { least: 0, most: 3 };
+/// The number of a table of routes.
+pub(crate) const TABLE: Kind = Kind::Number { least: 0, most: 3 };
 
-const RING: Kind = Kind::Number { least: 0, most: 7 };
+/// The number of a ring.
+pub(crate) const RING: Kind = Kind::Number { least: 0, most: 7 };
 
-const SHIFT: Kind = Kind::Number { least: 0, most: 63 };
+/// How many bits a register is shifted by.
+pub(crate) const SHIFT: Kind = Kind::Number { least: 0, most: 63 };
 
-const POSITIVE: Kind = Kind::Number {
+/// Any number of 64 bits but 0.
+pub(crate) const POSITIVE: Kind = Kind::Number {
     least: 1,
     most: u64::MAX,
 };

@@ -6,7 +6,7 @@ ghost use Rattle.dp_lang.specs.Views.{Gives};
 
 use crate::assembler::read_lines;
 use crate::cause::AsmError;
-use crate::cut;
+use crate::lines;
 use crate::statement::Statement;
 use std::alloc::{AllocError, Global};
 
@@ -27,7 +27,7 @@ fn lines_of(alloc: Global, statements: &[Statement<'_>]) -> Result<Vec<usize>, A
 pub fn source_lines(alloc: Global, text: &[u8]) -> Result<Vec<usize>, AsmError>
     ensures { Gives (λ lines. lines.items) result (spec.source_lines text.now) }
 {
-    let lines = cut::split(alloc, text, b'\n')?;
+    let lines = lines::split(alloc, text, b'\n')?;
     let source = read_lines(alloc, &lines)?;
     Ok(lines_of(alloc, &source.statements)?)
 }

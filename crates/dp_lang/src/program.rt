@@ -6,7 +6,10 @@ ghost use Rattle.dp_lang.specs.Programs.{IsProgram};
 use dp_model::Instr;
 use std::marker::Model;
 
-/// A program of a node: from 1 to 1,024 instructions, each with numbers that the language has, and with a label
+/// The most instructions that a program has.
+pub const MOST_INSTRS: usize = 1_024;
+
+/// A program of a node: from 1 to [`MOST_INSTRS`] instructions, each with numbers that the language has, and with a label
 /// that is the number of one of them.
 #[derive(Drop)]
 pub struct Program {
@@ -39,7 +42,7 @@ impl Program {
     pub fn instrs(&self) -> &[Instr]
         ensures same { result.now ≡ self.now }
         ensures some { 1 ≤ length result.now }
-        ensures few { length result.now ≤ 1024 }
+        ensures few { length result.now ≤ MOST_INSTRS }
         ensures program { IsProgram result.now }
     {
         &self.instrs

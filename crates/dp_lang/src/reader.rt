@@ -13,10 +13,11 @@ ghost use Rattle.dp_lang.specs.Sources as view;
 
 use crate::argument::Named;
 use crate::cause::Cause;
-use crate::cut;
 use crate::form::{Form, Kind};
 use crate::labels::Labels;
+use crate::lines;
 use crate::operand::{argument_of, is_name};
+use crate::program::MOST_INSTRS;
 use crate::source::Source;
 use crate::statement::Statement;
 use std::alloc::{AllocError, Global};
@@ -43,7 +44,7 @@ fn each_argument<'a>(
     let mut arguments = Vec::new(alloc);
     let mut fault = None;
     for (i, kind) in kinds.iter().enumerate() {
-        match argument_of(*kind, cut::trim(parts[i])) {
+        match argument_of(*kind, lines::trim(parts[i])) {
             Ok(argument) => arguments.push(argument)?,
             Err(cause) => fault = Some(or_less(fault, cause)),
         }
@@ -81,11 +82,11 @@ fn statement_in<'a>(
     if instruction.is_empty() {
         return Ok(Ok(None));
     }
-    let (word, rest) = cut::word_and_rest(instruction);
+    let (word, rest) = lines::word_and_rest(instruction);
     let Some(form) = Form::of_word(word) else {
         return Ok(Err(Cause::BadWord));
     };
-    let parts = cut::operands_in(alloc, rest)?;
+    let parts = lines::operands_in(alloc, rest)?;
     match arguments_of(alloc, form.kinds(), &parts)? {
         Ok(arguments) => Ok(Ok(Some(Statement {
             line,
@@ -120,7 +121,7 @@ fn add_labels<'a>(
 {
     let mut fault = None;
     for piece in pieces {
-        let name = cut::trim_start(piece);
+        let name = lines::trim_start(piece);
         if let Err(cause) = label_fault(labels, name) {
             fault = Some(or_less(fault, cause));
         }
@@ -169,7 +170,7 @@ fn read_pieces<'a>(
     ensures same { source.new.statements ≡ source.old.statements }
 {
     let last = pieces.len() - 1;
-    let statement = statement_in(alloc, line, cut::trim_start(pieces[last]))?;
+    let statement = statement_in(alloc, line, lines::trim_start(pieces[last]))?;
     let number = source.statements.len() as u16;
     let labels = add_labels(&mut source.labels, number, &pieces[..last])?;
     Ok(merged(statement, labels))
@@ -185,15 +186,15 @@ pub fn add_line<'a>(
 ) -> Result<Result<(), Cause>, AllocError>
     ensures { IfOk result (λ read. Shows (λ _. view.source source.new) read (line_of line (view.source source.old) text.now)) }
 {
-    if !cut::is_text(text) {
+    if !lines::is_text(text) {
         return Ok(Err(Cause::BadByte));
     }
-    let pieces = cut::pieces(alloc, text)?;
+    let pieces = lines::pieces(alloc, text)?;
     match read_pieces(alloc, source, line, &pieces)? {
         Err(cause) => Ok(Err(cause)),
         Ok(None) => Ok(Ok(())),
         Ok(Some(statement)) => {
-            if source.statements.len() == 1024 {
+            if source.statements.len() == MOST_INSTRS {
                 return Ok(Err(Cause::Size));
             }
             source.statements.push(statement)?;

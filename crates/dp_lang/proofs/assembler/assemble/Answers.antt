@@ -1,3 +1,4 @@
+-- `assemble`: the instructions of all statements are a program.
 use Rattle.std.proofs.Common.{◌≤◌, length, rules}
 use Rattle.dp_lang.proofs.Assembled.{is_program}
 use Rattle.dp_lang.proofs.assembler.assemble.Goals as goal

@@ -1,6 +1,5 @@
 -- The lines of what is read.
-use Rattle.std.proofs.Common.{List, map, ap, ◌∙◌}
-use Rattle.std.specs.Prelude.{ℕ}
+use Rattle.std.proofs.Common.{map, ap, ◌∙◌}
 use Rattle.dp_lang.proofs.SourceLines.{lines_are}
 use Rattle.dp_lang.proofs.line_numbers.source_lines.Goals as goal
 

@@ -1,3 +1,4 @@
+-- `numeral`: one digit more, and a number that is too large.
 use Rattle.std.proofs.Common.{rules, ◌<◌, ◌+◌, ◌*◌, get_or, arith}
 use Rattle.std.specs.Char.{digit_value}
 use Rattle.dp_lang.specs.Forms as spec

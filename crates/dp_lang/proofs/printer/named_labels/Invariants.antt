@@ -1,3 +1,4 @@
+-- `named_labels`: a mark for each label of the instructions so far.
 use Rattle.dp_lang.proofs.Labelled.{AreNamed}
 use Rattle.dp_lang.proofs.printer.named_labels.Given as goal
 

@@ -1,3 +1,4 @@
+-- `print`: one instruction more, and the end.
 use Rattle.std.proofs.Common.{◌≡◌, ◌∙◌, ap, string_bytes}
 use Rattle.std.proofs.lemmas.Option.{get_or_from_slice_get}
 use Rattle.dp_lang.specs.Printing.{printed, is_named}

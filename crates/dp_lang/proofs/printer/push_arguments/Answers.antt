@@ -1,3 +1,4 @@
+-- `push_arguments`: one operand more, and the end.
 use Rattle.std.proofs.Common.{◌≡◌, map, drop, [], ◌∙◌, sym, append-nil, string_bytes}
 use Rattle.std.proofs.lemmas.List.{drop_all}
 use Rattle.dp_lang.specs.Views.{numbered}

@@ -1,3 +1,4 @@
+-- `add_labels`: no piece is left.
 use Rattle.std.proofs.Common.{[]}
 use Rattle.dp_lang.proofs.Loops.{label_goes_on, label_fault_goes_on}
 use Rattle.dp_lang.proofs.reader.add_labels.Goals as goal

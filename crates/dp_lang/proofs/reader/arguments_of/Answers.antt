@@ -1,3 +1,4 @@
+-- `arguments_of`: the operands that were read are of the form's kinds.
 use Rattle.std.proofs.Common.{map, ◌∙◌, sym, Bor, List, ℕ}
 use Rattle.std.proofs.lemmas.List.{length-map}
 use Rattle.dp_lang.specs.Views.{argument}

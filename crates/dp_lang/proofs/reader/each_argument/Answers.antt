@@ -1,3 +1,4 @@
+-- `each_argument`: one operand more, and the end.
 use Rattle.std.proofs.Common.{map, [], arith, length, ◌<◌}
 use Rattle.std.proofs.lemmas.List.{map_push}
 use Rattle.dp_lang.specs.declared.form.Kind.TheVariants as kinds

@@ -1,3 +1,4 @@
+-- `read_pieces`: the last piece is the instruction, and the others are labels.
 use Rattle.std.proofs.Common.{map, [], sym, ◌∙◌, take, length, ◌-◌}
 use Rattle.dp_lang.specs.Lines.{trim_start}
 use Rattle.dp_lang.specs.Reading.{statement_of, labels_after}

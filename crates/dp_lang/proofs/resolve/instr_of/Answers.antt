@@ -1,4 +1,5 @@
-use Rattle.std.proofs.Common.{rules, ◌≡◌, Option, Some, None, refl, sym, ◌∙◌}
+-- `instr_of`: what is built of the operands spells the statement.
+use Rattle.std.proofs.Common.{rules, ◌≡◌, Some, None, refl, sym, ◌∙◌}
 use Rattle.dp_lang.specs.Building.{label_in, given, built}
 use Rattle.dp_lang.specs.Forms.{kinds_of}
 use Rattle.dp_lang.specs.Reading.{target_in}

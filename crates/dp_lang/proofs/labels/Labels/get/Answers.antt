@@ -1,3 +1,4 @@
+-- `get`: what the map has under the bytes of a label.
 use Rattle.std.proofs.Common.{◌∙◌, ap, sym}
 use Rattle.std.specs.FinMap as map
 use Rattle.dp_lang.proofs.LabelMaps.{get-by_bytes}

@@ -1,3 +1,4 @@
+-- `insert`: the map with the bytes of a label.
 use Rattle.std.proofs.Common.{◌∙◌, ap}
 use Rattle.std.specs.FinMap as map
 use Rattle.dp_lang.proofs.LabelMaps.{insert-by_bytes}

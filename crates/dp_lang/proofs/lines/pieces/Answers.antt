@@ -1,3 +1,4 @@
+-- `pieces`: a line is cut into one piece at least.
 use Rattle.std.proofs.Common.{◌≡◌, ◌<◌, ℕ, Bool, List, length, map, Result, Ok, Err, Bor, ap, arith}
 use Rattle.std.specs.Prelude.{IfOk}
 use Rattle.std.specs.Global.{Vec}
@@ -5,7 +6,7 @@ use Rattle.std.specs.List.{slice_split}
 use Rattle.std.proofs.lemmas.List.{length-map}
 use Rattle.std.proofs.lemmas.List.Splits.{length-slice_split}
 use Rattle.dp_lang.specs.Lines as spec
-use Rattle.dp_lang.proofs.cut.pieces.Goals as goal
+use Rattle.dp_lang.proofs.lines.pieces.Goals as goal
 
 some : {E : Type 0} (p : ℕ → Bool) (bytes : List ℕ) (r : Result (Vec (Bor (List ℕ))) E) → IfOk r (λ v. map (λ part. part.now) v.items ≡ slice_split p bytes) →
     IfOk r (λ v. 0 < length v.items)

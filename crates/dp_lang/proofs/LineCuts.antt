@@ -1,4 +1,4 @@
--- Where a text is cut.
+-- How the parts of a text are found, and that a line has at least one.
 use Rattle.std.proofs.Common.{◌≡◌, ℕ, zero, suc, ◌+◌, ◌-◌, ◌<◌, Bool, true, false, not, List, [], ◌∷◌, ◌++◌, length, take, drop, get_or, refl, ap, ◌∙◌, arith}
 use Rattle.std.specs.List.{list_all, slice_split, before_first, after_first, position_or_len, suffix_len}
 use Rattle.std.proofs.lemmas.List.Sums.{suffix_len_is}
@@ -24,9 +24,9 @@ pub split_none : (p : ℕ → Bool) (s : List ℕ) → Free p s → slice_split 
 split_none p [] h = refl
 split_none p (b ∷ s) h = rw (head_no p b s h, split_none p s (tail_free p b s h)) refl
 
-place_at : (p : ℕ → Bool) (s : List ℕ) (y : ℕ) (rest : List ℕ) → Free p s → p y ≡ true → position_or_len p (s ++ y ∷ rest) ≡ length s
-place_at p [] y rest h k = rw k refl
-place_at p (b ∷ s) y rest h k = rw (head_no p b s h, place_at p s y rest (tail_free p b s h) k) (omega arith)
+found_at : (p : ℕ → Bool) (s : List ℕ) (y : ℕ) (rest : List ℕ) → Free p s → p y ≡ true → position_or_len p (s ++ y ∷ rest) ≡ length s
+found_at p [] y rest h k = rw k refl
+found_at p (b ∷ s) y rest h k = rw (head_no p b s h, found_at p s y rest (tail_free p b s h) k) (omega arith)
 
 place_none : (p : ℕ → Bool) (s : List ℕ) → Free p s → position_or_len p s ≡ length s
 place_none p [] h = refl
@@ -49,11 +49,11 @@ drop_whole [] = refl
 drop_whole (b ∷ s) = drop_whole s
 
 pub before_at : (p : ℕ → Bool) (s : List ℕ) (y : ℕ) (rest : List ℕ) → Free p s → p y ≡ true → before_first p (s ++ y ∷ rest) ≡ s
-before_at p s y rest h k = ap (λ n. take n (s ++ y ∷ rest)) (place_at p s y rest h k) ∙ take_front s (y ∷ rest)
+before_at p s y rest h k = ap (λ n. take n (s ++ y ∷ rest)) (found_at p s y rest h k) ∙ take_front s (y ∷ rest)
 
 pub after_at : (p : ℕ → Bool) (s : List ℕ) (y : ℕ) (rest : List ℕ) → Free p s → p y ≡ true → after_first p (s ++ y ∷ rest) ≡ rest
 after_at p s y rest h k =
-    let next : position_or_len p (s ++ y ∷ rest) + 1 ≡ suc (length s) = omega (arith, place_at p s y rest h k) in
+    let next : position_or_len p (s ++ y ∷ rest) + 1 ≡ suc (length s) = omega (arith, found_at p s y rest h k) in
     ap (λ n. drop n (s ++ y ∷ rest)) next ∙ drop_front s y rest
 
 pub before_none : (p : ℕ → Bool) (s : List ℕ) → Free p s → before_first p s ≡ s

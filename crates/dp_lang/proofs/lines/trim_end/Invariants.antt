@@ -1,9 +1,10 @@
+-- `trim_end`: what is left is trimmed alike.
 use Rattle.std.proofs.Common.{◌≡◌, length}
 use Rattle.dp_lang.specs.Lines as spec
-use Rattle.dp_lang.proofs.cut.trim_start.Given as goal
+use Rattle.dp_lang.proofs.lines.trim_end.Given as goal
 
 abbrev pub invariant-loop-rest : goal.invariant-loop-rest
-invariant-loop-rest l = spec.trim_start l.rest ≡ spec.trim_start l.bytes
+invariant-loop-rest l = spec.trim_end l.rest ≡ spec.trim_end l.bytes
 
 abbrev pub decreases-loop-rest : goal.decreases-loop-rest
 decreases-loop-rest l = length l.rest
