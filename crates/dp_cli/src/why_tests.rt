@@ -55,7 +55,7 @@ fn a_reason_stands_behind_the_line_of_a_fault(rt: HostRuntime) {
 fn a_pipeline_has_the_words_of_its_cause(rt: HostRuntime) {
     let part = PipeError::BadKey {
         part: Part::Ring,
-        place: 3,
+        index: 3,
     };
     let route = PipeError::BadTable {
         table: 1,

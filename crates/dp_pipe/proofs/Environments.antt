@@ -4,9 +4,9 @@ use Rattle.std.proofs.lemmas.List.{length-map}
 use Rattle.dp_model.specs.declared.env.PoolSpec.{PoolSpec}
 use Rattle.dp_model.specs.declared.env.RingSpec.{RingSpec}
 use Rattle.dp_model.specs.declared.env.PortSpec.{PortSpec}
-use Rattle.dp_pipe.specs.declared.says.Setup.{Setup}
+use Rattle.dp_pipe.specs.declared.setup.Setup.{Setup}
 use Rattle.dp_pipe.specs.Config.{environment_of}
-use Rattle.dp_pipe.specs.Views.{setup, table_says}
+use Rattle.dp_pipe.specs.Views.{setup, table_part}
 
 pub map_twice : {A B C : Type 0} (f : A → B) (g : B → C) (xs : List A) → map g (map f xs) ≡ map (λ x. g (f x)) xs
 map_twice f g [] = refl
@@ -16,4 +16,4 @@ pub same_environment : (s : Setup) (pools : List PoolSpec) (tables : ℕ) (rings
     → pools ≡ s.pools.items → tables ≡ min (length s.tables.items) 255 → rings ≡ map (λ r. r.spec) s.rings.items → ports ≡ map (λ p. p.spec) s.ports.items
     → environment_of (setup s) ≡ record { pools = pools; tables = tables; rings = rings; ports = ports }
 same_environment s pools tables rings ports same_pools count same_rings same_ports =
-    rw (same_pools, count, same_rings, same_ports, length-map s.tables.items table_says, map_twice, map_twice) refl
+    rw (same_pools, count, same_rings, same_ports, length-map s.tables.items table_part, map_twice, map_twice) refl

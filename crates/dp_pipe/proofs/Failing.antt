@@ -9,7 +9,7 @@ use Rattle.dp_pipe.specs.Views.{FailsAs}
 pub fails_first : {A B : Type 0} (e : PipeError) (read : Result A Bad) (next : A → Result B Bad) → FailsAs e read → FailsAs e (and_then read next)
 fails_first errors.Memory read next h = tt
 fails_first errors.NotToml read next h = absurd h
-fails_first (errors.BadKey kind place) read next h = rw h refl
+fails_first (errors.BadKey kind index) read next h = rw h refl
 fails_first (errors.BadEnv cause) read next h = absurd h
 fails_first (errors.BadTable table route cause) read next h = absurd h
 fails_first (errors.File entry) read next h = absurd h

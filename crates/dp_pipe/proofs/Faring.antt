@@ -44,7 +44,7 @@ pub fared_badly : {D : Type 0} (is_broken : D → Bool) (failures : D → ℕ) (
     Fared is_broken failures true d d'
 fared_badly is_broken failures d d' is more = record { broken = is; count = more }
 
--- so it did at its own place
+-- so it did at its own index
 pub failed_here : {D : Type 0} (is_broken : D → Bool) (failures : D → ℕ) (n : ℕ) (d d' : D) → is_broken d' ≡ true → failures d' ≡ failures d + 1 →
     Fared is_broken failures (n == n) d d'
 failed_here is_broken failures n d d' is more = subst (λ b. Fared is_broken failures b d d') (sym (eq-eqb n n refl))
@@ -119,7 +119,7 @@ pub sound_writers : {D A : Type 0} (is_broken : D → Bool) (failures : D → �
 sound_writers is_broken failures (Ok done) olds news many fared sound ok = still_sound is_broken failures olds news many fared sound
 sound_writers is_broken failures (Err cause) olds news many fared sound ok = cc
 
--- ---- what a cause says of the others
+-- ---- what a cause leaves of the others
 
 -- a fault of one input is none of another's reader
 pub not_other : (error : PcapError) (port q : ℕ) → q ≢ port → is_read_of (In port error) q ≡ false

@@ -50,7 +50,7 @@ appends_on (Some a) None c xs first next = absurd first
 appends_on (Some a) (Some b) None xs first next = absurd next
 appends_on (Some a) (Some b) (Some c) xs first next = next ∙ ap (λ l. l ++ xs) (first ∙ append-nil a)
 
--- a place of a list is another one, or it is this one
+-- an index of a list is another one, or it is this one
 pub split : (q n : ℕ) → (q ≡ n) ⊎ (q ≢ n)
 split zero zero = inl refl
 split zero (suc n) = inr (λ e. absurd (omega (arith, e)))

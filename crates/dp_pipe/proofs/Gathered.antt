@@ -18,7 +18,7 @@ use Rattle.dp_pipe.specs.Setup.{NodeFiles}
 use Rattle.dp_pipe.specs.Files.{FileMap}
 use Rattle.dp_pipe.specs.Nodes.{Node, numbered, nodes_of, IsProgramOf, IsCertOf, HasCert, IsLoaded, IsMissing, IsBadCert, IsRefusedBy, IsWithoutCert}
 use Rattle.dp_pipe.specs.Nodes.{HasNoProgram, HasNoCert, Fails, AreLoaded, FailsAtFirst}
-use Rattle.dp_pipe.proofs.Places.{taken_more, parted, zipped_more, length-numbered}
+use Rattle.dp_pipe.proofs.Indices.{taken_more, parted, zipped_more, length-numbered}
 
 -- ---- one node
 

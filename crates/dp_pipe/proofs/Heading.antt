@@ -78,7 +78,7 @@ order (suc a) (suc b) = go (order a b)
     go (inl l) = inl (omega (arith, l))
     go (inr l) = inr (omega (arith, l))
 
--- what a device tells, where the list of what all tell has it
+-- the known bytes of a device, where the list of those of all has them
 pub told_at : {W A : Type 0} (f : W → A) (xs : List W) (q : ℕ) (a : A) → slice_get (map f xs) q ≡ Some a → (w : W) × (slice_get xs q ≡ Some w) × (a ≡ f w)
 told_at f [] zero a e = absurd (no_place f zero a e)
 told_at f [] (suc q) a e = absurd (no_place f (suc q) a e)
@@ -113,7 +113,7 @@ pub all_changed : {W : Type 0} (R : W → W → Type 0) (n : ℕ) (olds news : L
     → (q : ℕ) (w w' : W) → slice_get olds q ≡ Some w → slice_get news q ≡ Some w' → R w w'
 all_changed R n olds news c e q w w' here there = c.done q w w' (omega (arith, e, slice_get_within olds q w here)) here there
 
--- a fact of what devices tell, before and after
+-- a fact of the known bytes of devices, before and after
 pub in_told : {W A : Type 0} (f : W → A) (P : A → A → Type 0) (olds news : List W) (q : ℕ) →
     ((w w' : W) → slice_get olds q ≡ Some w → slice_get news q ≡ Some w' → P (f w) (f w'))
     → (a a' : A) → slice_get (map f olds) q ≡ Some a → slice_get (map f news) q ≡ Some a' → P a a'
@@ -252,9 +252,9 @@ read_more {R = R} remaining failures is_broken n olds news inputs r u p c at far
             WhereKnown (remaining x) (remaining x') (λ bytes rest. HasRead bytes i.source [] rest)
         go (inl (l, front)) = c.read q i x x' front here (sym (get_set_other news n q u (λ e. absurd (omega (arith, l, e, c.many)))) ∙ there)
         go (inr (e, is)) =
-            let place : q ≡ n = e ∙ c.many in
-            let old : x ≡ r = old_of _ n olds news r x c.changed at (ap (slice_get olds) (sym place) ∙ here) in
-            let new : x' ≡ u = new_of n news r u x' at (ap (slice_get (slice_set news n u)) (sym place) ∙ there) in
+            let index : q ≡ n = e ∙ c.many in
+            let old : x ≡ r = old_of _ n olds news r x c.changed at (ap (slice_get olds) (sym index) ∙ here) in
+            let new : x' ≡ u = new_of n news r u x' at (ap (slice_get (slice_set news n u)) (sym index) ∙ there) in
             rw (old, new, is) known
 
 -- all headers were read: the inputs stand at their first records

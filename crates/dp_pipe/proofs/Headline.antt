@@ -10,9 +10,9 @@ use Rattle.dp_pipe.specs.declared.running.RunFault.{RunFault}
 use Rattle.dp_pipe.specs.Forwarding.{Input, Went, arrivals_of, capture_at, unit_for, units_of}
 use Rattle.dp_pipe.specs.Headline.{PacketRun, HasNumbers, AreGiven, capture_text, Forwarded}
 use Rattle.dp_pipe.specs.Pipelines.{Plan}
-use Rattle.dp_pipe.specs.Running.{RunAnswers, RanOn, GoesForward, HeadersWritten, Tells}
+use Rattle.dp_pipe.specs.Running.{RunAnswers, RanOn, GoesForward, HeadersWritten, IsReportOf}
 use Rattle.dp_pipe.proofs.Loaded.{few}
-use Rattle.dp_pipe.proofs.Numbers.{numbers_told}
+use Rattle.dp_pipe.proofs.Numbers.{numbers_reported}
 use Rattle.dp_pipe.proofs.PacketRuns.{IsReady, IsFirst, run_of, counted_run}
 use Rattle.dp_pipe.proofs.Texts.{given_all}
 
@@ -35,8 +35,8 @@ pub record Done (p : Plan) (pattern : List ℕ) (held holds : List (Option (List
 pub went_on : (p : Plan) (pattern : List ℕ) (first last : EngineState) (unit : TimeUnit) (olds news held mids holds : List (Option (List ℕ)))
     (inputs : List Input) (progress : List Progress) (r : Report)
     → IsReady p pattern → IsFirst p pattern first → length mids ≡ length held → HeadersWritten unit held mids → Went unit first last olds news mids holds inputs
-    → map (λ (i : Input). i.state) inputs ≡ map (λ (x : Progress). x.state) progress → Tells last progress r → Done p pattern held holds inputs r
-went_on p pattern first last unit olds news held mids holds inputs progress r ready is many headers went states tells =
+    → map (λ (i : Input). i.state) inputs ≡ map (λ (x : Progress). x.state) progress → IsReportOf last progress r → Done p pattern held holds inputs r
+went_on p pattern first last unit olds news held mids holds inputs progress r ready is many headers went states reported =
     let (few_ports, few_rings, few_tables) = few p.env ready.limits in
     let ports = ports_in p pattern first is in
     let run = run_of p pattern first last (arrivals_of inputs) went.captures ready is went.run in
@@ -45,9 +45,9 @@ went_on p pattern first last unit olds news held mids holds inputs progress r re
       run = run;
       wrote = subst (λ (u : TimeUnit). AreGiven held holds (capture_text u went.captures)) went.unit_is
           (given_all unit went.captures held mids holds many headers went.wrote);
-      numbers = numbers_told p pattern (arrivals_of inputs) run last progress inputs (λ port. length (capture_at went.captures port)) r few_ports few_rings
+      numbers = numbers_reported p pattern (arrivals_of inputs) run last progress inputs (λ port. length (capture_at went.captures port)) r few_ports few_rings
           (went.inputs_many ∙ ports) states
-          (counted_run p pattern first last (arrivals_of inputs) went.captures ready is went.run (went.many ∙ ports)) tells;
+          (counted_run p pattern first last (arrivals_of inputs) went.captures ready is went.run (went.many ∙ ports)) reported;
     }
 
 -- all inputs were forwarded
@@ -61,7 +61,7 @@ forwarded p pattern olds news held holds (Ok r) ready ran = go ran.went
     go (inr made) =
         let (inputs, states, went, over) = made.rounds in
         let done = went_on p pattern ran.first ran.last made.unit olds news held made.mids holds inputs ran.progress r ready
-        (is_first p pattern olds news held holds (Ok r) ran) made.mids_many made.headers went states ran.tells in
+        (is_first p pattern olds news held holds (Ok r) ran) made.mids_many made.headers went states ran.reported in
         record {
           room = ran.room;
           inputs = inputs;

@@ -17,7 +17,7 @@ use Rattle.dp_engine.specs.Reports.{port_report, IsWhole}
 use Rattle.dp_engine.specs.Tallies.{refused_of}
 use Rattle.dp_pipe.specs.declared.forwarding.Progress.{Progress}
 use Rattle.dp_pipe.specs.Pipelines.{Plan}
-use Rattle.dp_pipe.specs.Running.{IsBegun, IsIdle, Tells, with_states}
+use Rattle.dp_pipe.specs.Running.{IsBegun, IsIdle, IsReportOf, with_states}
 use Rattle.dp_pipe.proofs.Numbers.{left_only}
 use Rattle.dp_pipe.proofs.PacketRuns.{IsFirst}
 
@@ -44,26 +44,26 @@ none_refused least [] ascends = refl
 none_refused least (n ∷ pattern) (more, ascends) =
     ap (λ b. (if b then 1 else 0) + refused_of pattern 0) (lt-leb n 0 (omega (arith, more))) ∙ zero-add (refused_of pattern 0) ∙ none_refused n pattern ascends
 
-pub idle_told : (p : Plan) (pattern : List ℕ) (first : EngineState) (progress : List Progress) (r : Report) → IsFirst p pattern first → IsAscending 0 pattern
-    → length p.env.ports ≤ 8 → length p.env.rings ≤ 8 → AllByRecursion IsBegun progress → Tells first progress r → IsIdle p.env r
-idle_told p pattern first progress r is ascends few_ports few_rings begun tells =
+pub idle_reported : (p : Plan) (pattern : List ℕ) (first : EngineState) (progress : List Progress) (r : Report) → IsFirst p pattern first → IsAscending 0 pattern
+    → length p.env.ports ≤ 8 → length p.env.rings ≤ 8 → AllByRecursion IsBegun progress → IsReportOf first progress r → IsIdle p.env r
+idle_reported p pattern first progress r is ascends few_ports few_rings begun reported =
     let states = map (λ (x : Progress). x.state) progress in
     let none : RingSpec → ℕ = λ _. 0 in
     record {
-      ports = tells.ports
+      ports = reported.ports
           ∙ ap (λ (s : Setting). with_states states (map (port_report Open) (take (length s.env.ports) first.tallies))) is.setting
           ∙ ap (λ (l : List Tallies). with_states states (map (port_report Open) (take (length p.env.ports) l))) is.tallies
           ∙ open_ports progress p.env.ports 8 begun few_ports;
-      rings = tells.rings
+      rings = reported.rings
           ∙ ap (λ (s : Setting). take (length s.env.rings) (with_left first.left (map length first.world.rings))) is.setting
           ∙ ap (λ l. take (length p.env.rings) (with_left l (map length first.world.rings))) is.left
           ∙ ap (λ (l : List (List Packet)). take (length p.env.rings) (with_left (replicate 8 0) (map length l))) is.start.rings
           ∙ ap (λ (l : List ℕ). take (length p.env.rings) (with_left (replicate 8 0) l)) (no_packets p.env.rings)
           ∙ ap (λ n. take n (with_left (replicate 8 0) (map none p.env.rings))) (sym (length-map p.env.rings none))
           ∙ left_only 8 (map none p.env.rings) (omega (arith, few_rings, length-map p.env.rings none));
-      pools = subst (λ (s : Setting). IsWhole s.env r) is.setting tells.pools;
-      calls = tells.calls ∙ is.start.calls;
-      refused = tells.refused ∙ ap (λ (s : Setting). refused_of s.pattern first.world.calls) is.setting ∙ ap (refused_of pattern) is.start.calls
+      pools = subst (λ (s : Setting). IsWhole s.env r) is.setting reported.pools;
+      calls = reported.calls ∙ is.start.calls;
+      refused = reported.refused ∙ ap (λ (s : Setting). refused_of s.pattern first.world.calls) is.setting ∙ ap (refused_of pattern) is.start.calls
           ∙ none_refused 0 pattern ascends;
-      cut = tells.cut ∙ is.start.cuts;
+      cut = reported.cut ∙ is.start.cuts;
     }

@@ -89,9 +89,9 @@ round_more {T} (x ∷ inputs) zero s xs r e few =
     let zero_more : s + 0 ≡ s = omega arith in
     rw (none, past, get_last xs r, zero_more) refl
 round_more {T} (x ∷ inputs) (suc p) s xs r e few =
-    let place : s + 1 + p ≡ s + suc p = omega arith in
+    let index : s + 1 + p ≡ s + suc p = omega arith in
     let more : round_of (length xs) (s + 1) (slice_set inputs p (xs ++ r ∷ [])) ≡ round_of (length xs) (s + 1) inputs ++ arriving (s + suc p) r ∷ [] =
-    rw place at (round_more inputs p (s + 1) xs r e (λ q ys lt at. few (suc q) ys (omega (arith, lt)) at)) in
+    rw index at (round_more inputs p (s + 1) xs r e (λ q ys lt at. few (suc q) ys (omega (arith, lt)) at)) in
     ap (λ l. option_to_list (option_map (arriving s) (slice_get x (length xs))) ++ l) more
     ∙ sym (append_assoc (option_to_list (option_map (arriving s) (slice_get x (length xs)))) (round_of (length xs) (s + 1) inputs)
     (arriving (s + suc p) r ∷ []))

@@ -27,7 +27,7 @@ use Rattle.dp_pipe.proofs.Forwarded.{split, tallies_other, tallies_same}
 use Rattle.dp_pipe.proofs.Heading.{order}
 use Rattle.dp_pipe.proofs.Numbers.{IsCounted}
 use Rattle.dp_pipe.proofs.PacketRuns.{IsReady, IsFirst, packet_run, ran, run_of, counted_run, rings_there}
-use Rattle.dp_pipe.proofs.Places.{behind}
+use Rattle.dp_pipe.proofs.Indices.{behind}
 use Rattle.dp_pipe.proofs.RunOn.{counted_sent, outcomes_many, shown_in, tally_more, turn_tally}
 use Rattle.dp_pipe.proofs.Through.{stays_failed}
 

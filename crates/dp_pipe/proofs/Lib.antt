@@ -1,3 +1,4 @@
+-- The lemmas of dp_pipe, by subject.
 pub mod Digits
 pub mod Each
 pub mod Elements
@@ -7,7 +8,7 @@ pub mod Fetching
 pub mod Gathered
 pub mod Loaded
 pub mod Named
-pub mod Places
+pub mod Indices
 pub mod Planned
 pub mod Taking
 pub mod Interleaving

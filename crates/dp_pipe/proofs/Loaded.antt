@@ -12,7 +12,7 @@ use Rattle.dp_pipe.specs.declared.config.Config.{Config}
 use Rattle.dp_pipe.specs.declared.error.PipeError.{PipeError}
 use Rattle.dp_pipe.specs.declared.error.PipeError.TheVariants.{Memory}
 use Rattle.dp_pipe.specs.declared.nodes.How.{How}
-use Rattle.dp_pipe.specs.Setup.{Setup, TableSays, NodeFiles}
+use Rattle.dp_pipe.specs.Setup.{Setup, TablePart, NodeFiles}
 use Rattle.dp_pipe.specs.Views.{node_names, port_names}
 use Rattle.dp_pipe.specs.Config.{environment_of, names_of_port, HoldAll, IsConfig, IsConfigOf}
 use Rattle.dp_pipe.specs.Files.{FileMap}
@@ -40,7 +40,7 @@ few e h =
     let (h4, tables) = and_parts (nat_le 1 (length e.pools) && nat_le (length e.pools) 8) (nat_le e.tables 4) h3 in
     (leb-true (length e.ports) 8 ports, leb-true (length e.rings) 8 rings, leb-true e.tables 4 tables)
 
-held_length : (ts : List TableSays) (tables : List RouteTable) → HoldAll ts tables → length tables ≡ length ts
+held_length : (ts : List TablePart) (tables : List RouteTable) → HoldAll ts tables → length tables ≡ length ts
 held_length [] [] all = refl
 held_length [] (x ∷ tables) all = absurd all
 held_length (t ∷ ts) [] all = absurd all

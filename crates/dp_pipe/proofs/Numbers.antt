@@ -19,7 +19,7 @@ use Rattle.dp_pipe.specs.declared.forwarding.Progress.{Progress}
 use Rattle.dp_pipe.specs.Forwarding.{Input, tally_of}
 use Rattle.dp_pipe.specs.Headline.{PacketRun, HasNumbers, outcomes_at, port_numbers}
 use Rattle.dp_pipe.specs.Pipelines.{Plan}
-use Rattle.dp_pipe.specs.Running.{Tells, with_states, setting_in}
+use Rattle.dp_pipe.specs.Running.{IsReportOf, with_states, setting_in}
 
 -- ---- what became of the records of a port
 
@@ -124,17 +124,17 @@ pub record IsCounted (p : Plan) (pattern : List ℕ) (arrivals : List (Arrival T
   pub calls : e.world.calls ≡ run.last.calls
   pub cuts : e.world.cuts ≡ run.last.cuts
 
-pub numbers_told : (p : Plan) (pattern : List ℕ) (arrivals : List (Arrival Time)) (run : PacketRun p pattern arrivals) (e : EngineState)
+pub numbers_reported : (p : Plan) (pattern : List ℕ) (arrivals : List (Arrival Time)) (run : PacketRun p pattern arrivals) (e : EngineState)
     (progress : List Progress) (inputs : List Input) (sent : ℕ → ℕ) (r : Report)
     → length p.env.ports ≤ 8 → length p.env.rings ≤ 8 → length inputs ≡ length p.env.ports → map (λ (i : Input). i.state) inputs
     ≡ map (λ (x : Progress). x.state) progress
-    → IsCounted p pattern arrivals run e sent → Tells e progress r → HasNumbers p pattern arrivals run inputs sent r
-numbers_told p pattern arrivals run e progress inputs sent r few_ports few_rings many states c tells =
+    → IsCounted p pattern arrivals run e sent → IsReportOf e progress r → HasNumbers p pattern arrivals run inputs sent r
+numbers_reported p pattern arrivals run e progress inputs sent r few_ports few_rings many states c is_report =
     let ports_same : length e.setting.env.ports ≡ length p.env.ports = ap (λ (s : Setting). length s.env.ports) c.setting in
     let rings_same : length e.setting.env.rings ≡ length p.env.rings = ap (λ (s : Setting). length s.env.rings) c.setting in
     let told = map (port_report Open) (take (length e.setting.env.ports) e.tallies) in
     record {
-      many = ap length tells.ports ∙ states_many (map (λ (x : Progress). x.state) progress) told
+      many = ap length is_report.ports ∙ states_many (map (λ (x : Progress). x.state) progress) told
           ∙ length-map (take (length e.setting.env.ports) e.tallies) (port_report Open)
           ∙ length-take-le (length e.setting.env.ports) e.tallies (omega (arith, ports_same, few_ports, c.tallies_many)) ∙ ports_same;
       ports = λ q i at.
@@ -142,16 +142,16 @@ numbers_told p pattern arrivals run e progress inputs sent r few_ports few_rings
           let here = tally_at (length e.setting.env.ports) e.tallies q (omega (arith, within, ports_same))
           (omega (arith, ports_same, few_ports, c.tallies_many)) in
           let numbers = reported q arrivals run.outcomes (tallies_at e.tallies q) (sent q) (c.tallies q within) in
-          ap (λ l. slice_get l q) tells.ports
+          ap (λ l. slice_get l q) is_report.ports
           ∙ states_at (map (λ (x : Progress). x.state) progress) told q i.state (port_report Open (tallies_at e.tallies q))
           (ap (λ l. slice_get l q) (sym states) ∙ state_at inputs q i at) here
           ∙ ap (λ (x : PortReport). Some (record x { state = i.state })) numbers;
-      rings = tells.rings ∙ ap (λ l. take (length e.setting.env.rings) (with_left l (left_in_rings e.world))) c.left
+      rings = is_report.rings ∙ ap (λ l. take (length e.setting.env.rings) (with_left l (left_in_rings e.world))) c.left
           ∙ ap (λ l. take (length e.setting.env.rings) (with_left (replicate 8 0) (map length l))) c.rings
           ∙ ap (λ m. take m (with_left (replicate 8 0) (left_in_rings run.last))) (rings_same ∙ sym c.rings_many ∙ sym (length-map run.last.rings length))
           ∙ left_only 8 (left_in_rings run.last) (omega (arith, length-map run.last.rings length, c.rings_many, few_rings));
-      pools = subst (λ (s : Setting). IsWhole s.env r) c.setting tells.pools;
-      calls = tells.calls ∙ c.calls;
-      refused = tells.refused ∙ ap (λ (s : Setting). refused_of s.pattern e.world.calls) c.setting ∙ ap (refused_of pattern) c.calls;
-      cut = tells.cut ∙ c.cuts;
+      pools = subst (λ (s : Setting). IsWhole s.env r) c.setting is_report.pools;
+      calls = is_report.calls ∙ c.calls;
+      refused = is_report.refused ∙ ap (λ (s : Setting). refused_of s.pattern e.world.calls) c.setting ∙ ap (refused_of pattern) c.calls;
+      cut = is_report.cut ∙ c.cuts;
     }

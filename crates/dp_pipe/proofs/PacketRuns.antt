@@ -32,7 +32,7 @@ pub record AreLaws : Type 0 where
       → fault_of c.env ≡ None → IsStart c.env w → Run c nodes arrivals w shown w'
       → Captures c.env c.tables nodes arrivals shown.told shown.captures w'.cuts
 
--- a pipeline of checked programs, within the limits, whose tables are as its environment says
+-- a pipeline of checked programs, within the limits, whose tables are as its environment has them
 pub record IsReady (p : Plan) (pattern : List ℕ) : Type 0 where
   pub limits : fault_of p.env ≡ None
   pub pipeline : IsPipeline (setting_in p pattern) (programs_in p)

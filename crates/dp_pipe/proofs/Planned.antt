@@ -20,7 +20,7 @@ use Rattle.dp_pipe.specs.Files.{FileMap}
 use Rattle.dp_pipe.specs.Nodes.{Node, numbered, nodes_of, IsLoaded, AreLoaded}
 use Rattle.dp_pipe.specs.Pipelines.{Plan, IsPlan, IsFor, HasNodes}
 use Rattle.dp_engine.specs.Schemes.{AreNodes}
-use Rattle.dp_pipe.proofs.Places.{length-numbered, numbered_entry, front_of, behind, zipped_length, zipped_at}
+use Rattle.dp_pipe.proofs.Indices.{length-numbered, numbered_entry, front_of, behind, zipped_length, zipped_at}
 
 for_entry : (known : Option FileMap) (env : Environment) (entry : Entry) (node : Node) (q : Question) → node.entry ≡ entry → IsLoaded known env node q →
     IsFor env entry q
@@ -40,9 +40,9 @@ ring_is : (known : Option FileMap) (env : Environment) (how : How) (ports rings 
     → (ring : ℕ) (q : Question) → slice_get nodes (length ports + ring) ≡ Some q → IsFor env (Ring ring) q
 ring_is known env how ports rings nodes all ring q e =
     let (node, at, loaded) = zipped_at (IsLoaded known env) (nodes_of how ports rings) nodes (length ports + ring) q all e in
-    let place : length (numbered how Port 0 ports) + ring ≡ length ports + ring = ap (λ n. n + ring) (length-numbered how Port 0 ports) in
+    let index : length (numbered how Port 0 ports) + ring ≡ length ports + ring = ap (λ n. n + ring) (length-numbered how Port 0 ports) in
     let here : slice_get (numbered how Ring 0 rings) ring ≡ Some node =
-    sym (behind (numbered how Port 0 ports) (numbered how Ring 0 rings) ring) ∙ ap (slice_get (nodes_of how ports rings)) place ∙ at in
+    sym (behind (numbered how Port 0 ports) (numbered how Ring 0 rings) ring) ∙ ap (slice_get (nodes_of how ports rings)) index ∙ at in
     for_entry known env (Ring ring) node q (numbered_entry how Ring 0 rings ring node here ∙ ap Ring (zero-add ring)) loaded
 
 -- the nodes that are loaded are one for each port and each ring of the environment
@@ -77,9 +77,9 @@ port_node p shown k q e inv lt is few =
 
 pub ring_node : (p shown : Plan) (k : ℕ) (q : Question) → p ≡ shown → IsPlan p → k < length shown.env.ports + length shown.env.rings → q ≡ get_or p.nodes k q
     → (ring : ℕ) → k ≡ length shown.env.ports + ring → IsFor shown.env (Ring ring) q
-ring_node p shown k q e inv lt is ring place =
+ring_node p shown k q e inv lt is ring index =
     let plan : IsPlan shown = subst IsPlan e inv in
-    plan.nodes.rings ring q (ap (slice_get shown.nodes) (sym place) ∙ node_shown p shown k q e plan lt is)
+    plan.nodes.rings ring q (ap (slice_get shown.nodes) (sym index) ∙ node_shown p shown k q e plan lt is)
 
 -- nodes of a pipeline are those of an engine
 pub are_nodes : (env : Environment) (nodes : List Question) → HasNodes env nodes → AreNodes env nodes

@@ -17,12 +17,12 @@ use Rattle.dp_pipe.specs.declared.running.RunFault.{RunFault}
 use Rattle.dp_pipe.specs.Forwarding.{Input, FailedAt, capture_at}
 use Rattle.dp_pipe.specs.Headline.{StoppedWriting, StoppedBy, WroteFront, capture_text}
 use Rattle.dp_pipe.specs.Pipelines.{Plan}
-use Rattle.dp_pipe.specs.Running.{RunAnswers, RanOn, GoesForward, HeadersWritten, IsBegun, IsIdle, IsUnopened, Tells, all_begun, begun, answer_of}
+use Rattle.dp_pipe.specs.Running.{RunAnswers, RanOn, GoesForward, HeadersWritten, IsBegun, IsIdle, IsUnopened, IsReportOf, all_begun, begun, answer_of}
 use Rattle.dp_pipe.proofs.Headline.{is_first, ports_in, went_on}
-use Rattle.dp_pipe.proofs.Idle.{idle_told}
+use Rattle.dp_pipe.proofs.Idle.{idle_reported}
 use Rattle.dp_pipe.proofs.LastTurn.{records_long, captures_long, earlier, through, goes_on_by, own_sent, counted_failed, given_ahead, given_own, given_behind}
 use Rattle.dp_pipe.proofs.Loaded.{few}
-use Rattle.dp_pipe.proofs.Numbers.{numbers_told}
+use Rattle.dp_pipe.proofs.Numbers.{numbers_reported}
 use Rattle.dp_pipe.proofs.PacketRuns.{IsReady, IsFirst}
 use Rattle.dp_pipe.proofs.Through.{not_before}
 
@@ -37,9 +37,9 @@ stopped_writing : (p : Plan) (pattern : List ℕ) (first last : EngineState) (un
     (inputs : List Input) (progress : List Progress) (port : ℕ) (r : Report)
     → IsReady p pattern → IsFirst p pattern first → bytes_needed p.env ≤ p.region → length held ≡ length p.env.ports → length hdr ≡ length held →
     HeadersWritten unit held hdr → FailedAt unit first last olds news hdr holds inputs port
-    → map (λ (i : Input). i.state) inputs ≡ map (λ (x : Progress). x.state) progress → Tells last progress r →
+    → map (λ (i : Input). i.state) inputs ≡ map (λ (x : Progress). x.state) progress → IsReportOf last progress r →
     StoppedWriting p pattern olds news held holds port r
-stopped_writing p pattern first last unit olds news held hdr holds inputs progress port r ready is room held_many many headers f states tells =
+stopped_writing p pattern first last unit olds news held hdr holds inputs progress port r ready is room held_many many headers f states reported =
     let (few_ports, few_rings, few_tables) = few p.env ready.limits in
     let ports = ports_in p pattern first is in
     let before = earlier p pattern first last unit olds news hdr holds inputs port ready is f few_ports in
@@ -73,8 +73,8 @@ stopped_writing p pattern first last unit olds news held hdr holds inputs progre
       behind = λ q old new less here at. subst (λ (u : TimeUnit). Appends old new (capture_text u f.captures q)) f.unit_is
           (given_behind unit f.captures f.last.time f.behind last held hdr f.mids holds port many f.mids_many headers f.wrote long new_long f.stopped q old
           new less here at);
-      numbers = numbers_told p pattern _ run last progress inputs _ r few_ports few_rings (f.inputs_many ∙ ports) states
-          (counted_failed p pattern first last unit olds news hdr holds inputs port ready is f few_ports) tells;
+      numbers = numbers_reported p pattern _ run last progress inputs _ r few_ports few_rings (f.inputs_many ∙ ports) states
+          (counted_failed p pattern first last unit olds news hdr holds inputs port ready is f few_ports) reported;
     }
   where
     there : length f.behind.setting.env.ports ≡ length p.env.ports
@@ -84,26 +84,26 @@ stopped_writing p pattern first last unit olds news held hdr holds inputs progre
 stopped_by : (p : Plan) (pattern : List ℕ) (first last : EngineState) (olds news held holds : List (Option (List ℕ))) (progress : List Progress)
     (cause : RunCause) (r : Report)
     → IsReady p pattern → IsAscending 0 pattern → IsFirst p pattern first → bytes_needed p.env ≤ p.region → length held ≡ length p.env.ports →
-    GoesForward first last olds news held holds progress (Err cause) → Tells last progress r
+    GoesForward first last olds news held holds progress (Err cause) → IsReportOf last progress r
     → StoppedBy p pattern olds news held holds cause r
-stopped_by p pattern first last olds news held holds progress Memory r ready ascends is room many (inl fails) tells = absurd fails
-stopped_by p pattern first last olds news held holds progress Memory r ready ascends is room many (inr made) tells = absurd made.rounds
-stopped_by p pattern first last olds news held holds progress NoRoom r ready ascends is room many (inl fails) tells = absurd fails
-stopped_by p pattern first last olds news held holds progress NoRoom r ready ascends is room many (inr made) tells = absurd made.rounds
-stopped_by p pattern first last olds news held holds progress (In port error) r ready ascends is room many (inl (fault, kept, begun, same)) tells =
+stopped_by p pattern first last olds news held holds progress Memory r ready ascends is room many (inl fails) reported = absurd fails
+stopped_by p pattern first last olds news held holds progress Memory r ready ascends is room many (inr made) reported = absurd made.rounds
+stopped_by p pattern first last olds news held holds progress NoRoom r ready ascends is room many (inl fails) reported = absurd fails
+stopped_by p pattern first last olds news held holds progress NoRoom r ready ascends is room many (inr made) reported = absurd made.rounds
+stopped_by p pattern first last olds news held holds progress (In port error) r ready ascends is room many (inl (fault, kept, begun, same)) reported =
     let (few_ports, few_rings, few_tables) = few p.env ready.limits in
     inl (record {
       room = room;
       fault = fault;
       kept = kept;
-      idle = idle_told p pattern first progress r is ascends few_ports few_rings begun
-          (subst (λ (e : EngineState). Tells e progress r) same tells);
+      idle = idle_reported p pattern first progress r is ascends few_ports few_rings begun
+          (subst (λ (e : EngineState). IsReportOf e progress r) same reported);
     })
-stopped_by p pattern first last olds news held holds progress (In port error) r ready ascends is room many (inr made) tells =
+stopped_by p pattern first last olds news held holds progress (In port error) r ready ascends is room many (inr made) reported =
     let (inputs, states, went, fault) = made.rounds in
-    let done = went_on p pattern first last made.unit olds news held made.mids holds inputs progress r ready is made.mids_many made.headers went states tells in
+    let done = went_on p pattern first last made.unit olds news held made.mids holds inputs progress r ready is made.mids_many made.headers went states reported in
     inr (record { room = room; inputs = inputs; many = done.many; read = went.read; fault = fault; run = done.run; wrote = done.wrote; numbers = done.numbers })
-stopped_by p pattern first last olds news held holds progress (Out port) r ready ascends is room many (inl (begun_many, read, stopped, begun_all, same)) tells =
+stopped_by p pattern first last olds news held holds progress (Out port) r ready ascends is room many (inl (begun_many, read, stopped, begun_all, same)) reported =
     let (few_ports, few_rings, few_tables) = few p.env ready.limits in
     inl (record {
       room = room;
@@ -112,12 +112,12 @@ stopped_by p pattern first last olds news held holds progress (Out port) r ready
       read = read;
       none = none_read progress begun_all;
       stopped = stopped;
-      idle = idle_told p pattern first progress r is ascends few_ports few_rings begun_all (subst (λ (e : EngineState). Tells e progress r) same tells);
+      idle = idle_reported p pattern first progress r is ascends few_ports few_rings begun_all (subst (λ (e : EngineState). IsReportOf e progress r) same reported);
     })
-stopped_by p pattern first last olds news held holds progress (Out port) r ready ascends is room many (inr made) tells =
+stopped_by p pattern first last olds news held holds progress (Out port) r ready ascends is room many (inr made) reported =
     let (inputs, states, failed) = made.rounds in
     inr (stopped_writing p pattern first last made.unit olds news held made.mids holds inputs progress port r ready is room many made.mids_many made.headers
-    failed states tells)
+    failed states reported)
 
 pub stopped_so : (p : Plan) (pattern : List ℕ) (olds news held holds : List (Option (List ℕ))) (answer : Result Report RunFault) → IsReady p pattern →
     IsAscending 0 pattern → length held ≡ length p.env.ports → RanOn p pattern olds news held holds answer
@@ -125,7 +125,7 @@ pub stopped_so : (p : Plan) (pattern : List ℕ) (olds news held holds : List (O
 stopped_so p pattern olds news held holds (Ok r) ready ascends many ran = tt
 stopped_so p pattern olds news held holds (Err fault) ready ascends many ran =
     stopped_by p pattern ran.first ran.last olds news held holds ran.progress fault.cause fault.report ready ascends
-    (is_first p pattern olds news held holds (Err fault) ran) ran.room many ran.went ran.tells
+    (is_first p pattern olds news held holds (Err fault) ran) ran.room many ran.went ran.reported
 
 -- no engine was opened
 pub unopened_so : (p : Plan) (pattern : List ℕ) (olds news held holds : List (Option (List ℕ))) (cause : RunCause) (r : Report) → IsUnopened p cause →

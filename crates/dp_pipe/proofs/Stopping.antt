@@ -115,7 +115,7 @@ read_set olds news inputs n i b read here now q j old new at a c = go (split q n
         rw (← x, ← z) (now old (ap (slice_get olds) (sym same) ∙ a))
     go (inr other) = read q j old new at a (sym (get_set_other news n q b other) ∙ c)
 
--- what a refusal says of the bytes
+-- what a refusal leaves of the bytes
 refuses_of : (error : PcapError) (s s' : Standing) (unit : TimeUnit) (records : List PacketRecord) (bytes rest buf : List ℕ) → s.unit ≡ unit →
     ReadsOn bytes records s s' rest buf (Err error) → Refuses unit records error bytes
 refuses_of BadMagic s s' unit records bytes rest buf same has = rw (← same) has

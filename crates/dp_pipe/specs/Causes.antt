@@ -44,14 +44,14 @@ part_text part.Port = codes "port"
 
 -- a node
 abbrev pub node_text : Entry → List ℕ
-node_text (entry.Port place) = codes "port " ++ decimal place
-node_text (entry.Ring place) = codes "ring " ++ decimal place
+node_text (entry.Port index) = codes "port " ++ decimal index
+node_text (entry.Ring index) = codes "ring " ++ decimal index
 
 -- causes 1 to 7 as a number, a name, and where and why; 8 and 9 as what became of the node
 abbrev pub text_of : PipeError → List ℕ
 text_of Memory = codes "memory"
 text_of NotToml = codes "1 NotToml"
-text_of (BadKey kind place) = codes "2 BadKey " ++ (part_text kind ++ (codes " " ++ decimal place))
+text_of (BadKey kind index) = codes "2 BadKey " ++ (part_text kind ++ (codes " " ++ decimal index))
 text_of (BadEnv error) = codes "3 BadEnv " ++ (decimal (number_of_cause error) ++ (codes " " ++ decimal (place_of_cause error)))
 text_of (BadTable table route cause) = codes "4 BadTable " ++ (decimal table
     ++ (codes " " ++ (decimal route ++ (codes " " ++ decimal (number_of_route cause)))))

@@ -10,7 +10,7 @@ use Rattle.dp_pipe.specs.declared.error.PipeError.{PipeError}
 use Rattle.dp_pipe.specs.declared.error.PipeError.TheVariants.{Memory, NotToml, BadKey, BadEnv, BadTable}
 use Rattle.dp_pipe.specs.declared.error.RouteError.{RouteError}
 use Rattle.dp_pipe.specs.Routes.{TakesAll, IsFirstRefused}
-use Rattle.dp_pipe.specs.Setup.{Setup, TableSays, PortSays, NodeFiles, setup_in}
+use Rattle.dp_pipe.specs.Setup.{Setup, TablePart, PortPart, NodeFiles, setup_in}
 use Rattle.dp_pipe.specs.Views.{node_names, port_names}
 
 -- the bytes are a TOML text, and this is its table
@@ -26,33 +26,33 @@ abbrev pub environment_of : Setup → Environment
 environment_of s = record { pools = s.pools; tables = min (length s.tables) 255; rings = map (λ r. r.spec) s.rings; ports = map (λ p. p.spec) s.ports }
 
 -- the names of a port: those of its node, its input and its output
-abbrev pub names_of_port : PortSays → NodeFiles × List ℕ × List ℕ
+abbrev pub names_of_port : PortPart → NodeFiles × List ℕ × List ℕ
 names_of_port p = (p.files, p.input, p.output)
 
 -- a table without routes
-abbrev pub empty_of : TableSays → RouteTable
+abbrev pub empty_of : TablePart → RouteTable
 empty_of t = record { routes = []; max_rules = t.rules; groups = t.groups }
 
 -- the table holds the routes of its list, added one after the other
-abbrev pub Holds : TableSays → RouteTable → Type 0
+abbrev pub Holds : TablePart → RouteTable → Type 0
 Holds t table = TakesAll (empty_of t) table t.routes
 
 -- each table holds the routes of its list
-abbrev pub HoldAll : List TableSays → List RouteTable → Type 0
+abbrev pub HoldAll : List TablePart → List RouteTable → Type 0
 HoldAll [] [] = Unit {0}
 HoldAll (t ∷ ts) (table ∷ tables) = Holds t table × HoldAll ts tables
 HoldAll _ _ = ⊥
 
--- the route is the first of the table at this place that is refused
-abbrev pub IsRouteFault : Option TableSays → ℕ → RouteError → Type 0
+-- the route is the first of the table of this index that is refused
+abbrev pub IsRouteFault : Option TablePart → ℕ → RouteError → Type 0
 IsRouteFault None route cause = ⊥
 IsRouteFault (Some t) route cause = IsFirstRefused (empty_of t) t.routes route cause
 
--- the tables before that of the place hold their routes, and this is its first route that is refused
-pub record IsTableFault (ts : List TableSays) (place route : ℕ) (cause : RouteError) : Type 0 where
+-- the tables before that of the index hold their routes, and this is its first route that is refused
+pub record IsTableFault (ts : List TablePart) (index route : ℕ) (cause : RouteError) : Type 0 where
   pub filled : List RouteTable
-  pub before : HoldAll (take place ts) filled
-  pub here : IsRouteFault (slice_get ts place) route cause
+  pub before : HoldAll (take index ts) filled
+  pub here : IsRouteFault (slice_get ts index) route cause
 
 -- what a configuration is
 pub record IsConfig (s : Setup) (c : Config) : Type 0 where
@@ -63,7 +63,7 @@ pub record IsConfig (s : Setup) (c : Config) : Type 0 where
   pub ports : map port_names c.ports.items ≡ map names_of_port s.ports
   pub rings : map node_names c.rings.items ≡ map (λ r. r.files) s.rings
 
--- why there is no configuration of what a file says
+-- why there is no configuration of a setup
 abbrev pub IsSetupFault : Setup → PipeError → Type 0
 IsSetupFault s Memory = Unit {0}
 IsSetupFault s (BadEnv cause) = fault_of (environment_of s) ≡ Some cause
@@ -78,8 +78,8 @@ pub record IsConfigOf (text : List ℕ) (c : Config) : Type 0 where
   pub reads : setup_in top ≡ Ok setup
   pub config : IsConfig setup c
 
--- there is a table of the text, and this holds of what it says
-pub record Says (text : List ℕ) (P : Setup → Type 0) : Type 0 where
+-- there is a table of the text, and this holds of its setup
+pub record HasSetup (text : List ℕ) (P : Setup → Type 0) : Type 0 where
   pub top : Members
   pub setup : Setup
   pub toml : IsTable text top
@@ -90,9 +90,9 @@ pub record Says (text : List ℕ) (P : Setup → Type 0) : Type 0 where
 abbrev pub IsFaultOf : List ℕ → PipeError → Type 0
 IsFaultOf text Memory = Unit {0}
 IsFaultOf text NotToml = IsNotToml text
-IsFaultOf text (BadKey kind place) = (top : Members) × IsTable text top × (setup_in top ≡ Err (kind, place))
-IsFaultOf text (BadEnv cause) = Says text (λ s. IsSetupFault s (BadEnv cause))
-IsFaultOf text (BadTable table route cause) = Says text (λ s. IsSetupFault s (BadTable table route cause))
+IsFaultOf text (BadKey kind index) = (top : Members) × IsTable text top × (setup_in top ≡ Err (kind, index))
+IsFaultOf text (BadEnv cause) = HasSetup text (λ s. IsSetupFault s (BadEnv cause))
+IsFaultOf text (BadTable table route cause) = HasSetup text (λ s. IsSetupFault s (BadTable table route cause))
 IsFaultOf text _ = ⊥
 
 -- ---- the parts of the above that single calls answer
@@ -114,14 +114,14 @@ IsEnvFault s Memory = Unit {0}
 IsEnvFault s (BadEnv cause) = fault_of (environment_of s) ≡ Some cause
 IsEnvFault s _ = ⊥
 
--- why the table at a place does not hold its routes
-abbrev pub IsFillFault : ℕ → TableSays → PipeError → Type 0
-IsFillFault place t Memory = Unit {0}
-IsFillFault place t (BadTable table route cause) = (table ≡ place) × IsFirstRefused (empty_of t) t.routes route cause
-IsFillFault place t _ = ⊥
+-- why the table of an index does not hold its routes
+abbrev pub IsFillFault : ℕ → TablePart → PipeError → Type 0
+IsFillFault index t Memory = Unit {0}
+IsFillFault index t (BadTable table route cause) = (table ≡ index) × IsFirstRefused (empty_of t) t.routes route cause
+IsFillFault index t _ = ⊥
 
 -- why the tables do not all hold their routes
-abbrev pub IsTablesFault : List TableSays → PipeError → Type 0
+abbrev pub IsTablesFault : List TablePart → PipeError → Type 0
 IsTablesFault ts Memory = Unit {0}
 IsTablesFault ts (BadTable table route cause) = IsTableFault ts table route cause
 IsTablesFault ts _ = ⊥

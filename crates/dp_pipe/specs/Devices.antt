@@ -7,7 +7,7 @@ use Rattle.dp_pipe.specs.declared.forwarding.RunCause.TheVariants.{In, Out}
 
 -- ---- which one failed
 
--- whether a cause says that the reader of a port failed, and whether that its writer did
+-- whether a cause is that the reader of a port failed, and whether it is that its writer did
 abbrev pub is_read_of : RunCause → ℕ → Bool
 is_read_of (In port Read) q = q == port
 is_read_of cause q = false
@@ -16,7 +16,7 @@ abbrev pub is_write_of : RunCause → ℕ → Bool
 is_write_of (Out port) q = q == port
 is_write_of cause q = false
 
--- whether an answer says so
+-- whether an answer has such a cause
 abbrev pub failed_reader : {A : Type 0} → Result A RunCause → ℕ → Bool
 failed_reader (Ok done) q = false
 failed_reader (Err cause) q = is_read_of cause q
@@ -46,7 +46,7 @@ abbrev pub AllFared : {D : Type 0} → (D → Bool) → (D → ℕ) → (ℕ →
 AllFared {D} is_broken failures failed olds news =
     (q : ℕ) (old new : D) → slice_get olds q ≡ Some old → slice_get news q ≡ Some new → Fared is_broken failures (failed q) old new
 
--- the device of a port fared so, and none at another place failed
+-- the device of a port fared so, and no other failed
 pub record FaredAlone {D : Type 0} (is_broken : D → Bool) (failures : D → ℕ) (failed : ℕ → Bool) (port : ℕ) (old new : D) : Type 0 where
   pub own : Fared is_broken failures (failed port) old new
   pub others : (q : ℕ) → q ≢ port → failed q ≡ false

@@ -1,5 +1,6 @@
--- Files, as far as they are told.
+-- Files, as far as they are known.
 use Rattle.std.specs.Prelude.{◌≡◌, ℕ, nat_le, List, length, Option, Some, None, if◌then◌else◌}
+use Rattle.dp_pipe.specs.declared.files.TheConstants.{LONGEST_FILE}
 
 -- the bytes of each file, by its name
 abbrev pub FileMap : Type 0
@@ -8,24 +9,24 @@ FileMap = List ℕ → Option (List ℕ)
 -- the bytes, where there are some and not too many
 abbrev pub if_short : Option (List ℕ) → Option (List ℕ)
 if_short None = None
-if_short (Some bytes) = if nat_le (length bytes) 1048576 then Some bytes else None
+if_short (Some bytes) = if nat_le (length bytes) LONGEST_FILE then Some bytes else None
 
--- the bytes of a file that is there and has at most 1,048,576
+-- the bytes of a file that is there and is not too long
 abbrev pub fetched : FileMap → List ℕ → Option (List ℕ)
 fetched files name = if_short (files name)
 
--- where the files are told, the one of this name has these bytes
+-- where the files are known, the one of this name has these bytes
 abbrev pub HasBytes : Option FileMap → List ℕ → List ℕ → Type 0
 HasBytes known name bytes = (files : FileMap) → known ≡ Some files → files name ≡ Some bytes
 
--- where the files are told, there is none of this name
+-- where the files are known, there is none of this name
 abbrev pub HasNone : Option FileMap → List ℕ → Type 0
 HasNone known name = (files : FileMap) → known ≡ Some files → files name ≡ None
 
--- where the files are told, the one of this name has these bytes, which are not too many
+-- where the files are known, the one of this name has these bytes, which are not too many
 abbrev pub IsFile : Option FileMap → List ℕ → List ℕ → Type 0
 IsFile known name bytes = (files : FileMap) → known ≡ Some files → fetched files name ≡ Some bytes
 
--- where the files are told, there is none of this name, or it is too long
+-- where the files are known, there is none of this name, or it is too long
 abbrev pub IsNoFile : Option FileMap → List ℕ → Type 0
 IsNoFile known name = (files : FileMap) → known ≡ Some files → fetched files name ≡ None

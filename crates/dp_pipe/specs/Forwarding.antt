@@ -4,6 +4,7 @@ use Rattle.std.specs.Prelude.{flat_map, take, Option, None, Some, slice_get, Res
 use Rattle.std.specs.List.{list_any, AllByRecursion}
 use Rattle.std.specs.Option.{option_map_or}
 use Rattle.std.specs.Io.KnownBytes.{Appends}
+use Rattle.dp_pcap.specs.declared.format.TheConstants.{MOST_RECORDS}
 use Rattle.dp_pcap.specs.declared.time.Time.{Time}
 use Rattle.dp_pcap.specs.declared.time.Unit.{Unit as TimeUnit}
 use Rattle.dp_pcap.specs.declared.time.Unit.TheVariants.{Micro, Nano}
@@ -242,7 +243,7 @@ pub record Stands (p : Progress) (i : Input) : Type 0 where
   pub unit : p.source.unit ≡ i.unit
   pub state : p.state ≡ i.state
   pub goes_on : IsGoingOn i.state p.source (length i.records)
-  pub few : length i.records ≤ 16777216
+  pub few : length i.records ≤ MOST_RECORDS
 
 pub record AllStand (olds news : List (Option (List ℕ))) (progress : List Progress) (inputs : List Input) : Type 0 where
   pub many : length progress ≡ length inputs

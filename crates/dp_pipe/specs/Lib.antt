@@ -1,3 +1,4 @@
+-- The definitions that contracts of dp_pipe name.
 pub mod Causes
 pub mod Config
 pub mod Devices

@@ -16,7 +16,7 @@ use Rattle.dp_pipe.specs.Pipelines.{Plan}
 abbrev pub nodes_in : How → Setup → List Node
 nodes_in how s = nodes_of how (map (λ port. port.files) s.ports) (map (λ ring. ring.files) s.rings)
 
--- the pipeline of what a file says
+-- the pipeline of a configuration
 pub record IsPlanOf (known : Option FileMap) (how : How) (s : Setup) (p : Plan) : Type 0 where
   pub region : p.region ≡ s.region
   pub env : p.env ≡ environment_of s

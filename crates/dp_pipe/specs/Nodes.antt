@@ -38,7 +38,7 @@ cert_read Inferred files = None
 abbrev pub node_of : How → Entry → NodeFiles → Node
 node_of how entry files = record { entry = entry; program = files.node; cert = cert_read how files }
 
--- nodes with entries of one kind, from this place on
+-- nodes with entries of one kind, from this index on
 abbrev pub numbered : How → (ℕ → Entry) → ℕ → List NodeFiles → List Node
 numbered how kind k [] = []
 numbered how kind k (files ∷ more) = node_of how (kind k) files ∷ numbered how kind (k + 1) more
@@ -140,7 +140,7 @@ NodeAnswers known env node (Err e) = Fails known env node e
 
 -- ---- all nodes
 
--- all nodes are loaded, each in its place
+-- all nodes are loaded, each at its index
 abbrev pub AreLoaded : Option FileMap → Environment → List Node → List Question → Type 0
 AreLoaded known env nodes loaded = AllZip (IsLoaded known env) nodes loaded
 

@@ -77,8 +77,8 @@ abbrev pub TakesAll : RouteTable → RouteTable → List Data → Type 0
 TakesAll old new [] = old ≡ new
 TakesAll old new (value ∷ values) = (middle : RouteTable) × Takes old middle value × TakesAll middle new values
 
--- the value at the place is the first that is not taken in, and why
-pub record IsFirstRefused (old : RouteTable) (values : List Data) (place : ℕ) (cause : RouteError) : Type 0 where
+-- the value at the index is the first that is not taken in, and why
+pub record IsFirstRefused (old : RouteTable) (values : List Data) (index : ℕ) (cause : RouteError) : Type 0 where
   pub reached : RouteTable
-  pub before : TakesAll old reached (take place values)
-  pub refused : option_and_then (λ value. refusal reached (route_of value)) (slice_get values place) ≡ Some cause
+  pub before : TakesAll old reached (take index values)
+  pub refused : option_and_then (λ value. refusal reached (route_of value)) (slice_get values index) ≡ Some cause

@@ -141,7 +141,7 @@ GoesForward e e' olds news held holds progress answer =
     HeadersFail e e' olds news held holds progress answer ⊎ RoundsMade e e' olds news held holds progress answer
 
 -- the numbers of an engine whose inputs were read so far
-pub record Tells (e : EngineState) (progress : List Progress) (r : Report) : Type 0 where
+pub record IsReportOf (e : EngineState) (progress : List Progress) (r : Report) : Type 0 where
   pub ports : r.ports.items ≡ with_states (map (λ (p : Progress). p.state) progress) (map (port_report Open) (take (length e.setting.env.ports) e.tallies))
   pub rings : r.rings.items ≡ take (length e.setting.env.rings) (flushed e).left
   pub pools : IsWhole e.setting.env r
@@ -174,7 +174,7 @@ pub record RanOn (p : Plan) (pattern : List ℕ) (olds news held holds : List (O
   pub last : EngineState
   pub progress : List Progress
   pub went : GoesForward first last olds news held holds progress (answer_of answer)
-  pub tells : Tells last progress (report_of answer)
+  pub reported : IsReportOf last progress (report_of answer)
 
 -- why no engine was opened
 abbrev pub IsUnopened : Plan → RunCause → Type 0

@@ -1,4 +1,4 @@
--- What the table of a pipeline file says.
+-- The setup of a pipeline file: how the table of its text is read, part by part.
 use Rattle.std.specs.Prelude.{ℕ, ◌+◌, ◌%◌, Bool, true, ◌&&◌, ◌==◌, nat_le, List, [], ◌∷◌, Option, Some, None, option_and_then, option_map, ok_or, Result, Ok}
 use Rattle.std.specs.Prelude.{Err, if◌then◌else◌, codes}
 use Rattle.toml.specs.Data.{Data, Members, get_member, as_table}
@@ -9,6 +9,7 @@ use Rattle.dp_model.specs.declared.env.RingSpec.{RingSpec}
 use Rattle.dp_model.specs.declared.env.PortSpec.{PortSpec}
 use Rattle.dp_pipe.specs.declared.error.Part.{Part}
 use Rattle.dp_pipe.specs.declared.error.Part.TheVariants.{Top, Pool, Table, Ring, Port}
+use Rattle.dp_pipe.specs.declared.setup.TheConstants.{MOST_RULES, MOST_GROUPS, LARGEST_COUNT, LARGEST_SMALL, SMALLEST_REGION, LARGEST_REGION, REGION_UNIT}
 use Rattle.dp_pipe.specs.Keys.{elements_at, elements_of, is_array_of, is_text, is_table, has_only, number_at, text_at, text_if_any}
 
 -- the file names of a node
@@ -17,18 +18,18 @@ pub record NodeFiles : Type 0 where
   pub cert : Option (List ℕ)
 
 -- a table of routes: the most rules and groups, and the values of its list
-pub record TableSays : Type 0 where
+pub record TablePart : Type 0 where
   pub rules : ℕ
   pub groups : ℕ
   pub routes : List Data
 
 -- a ring: its count and its fact, and the names of its node's files
-pub record RingSays : Type 0 where
+pub record RingPart : Type 0 where
   pub spec : RingSpec
   pub files : NodeFiles
 
 -- a port: its pool, segments and queue, and the names of its files
-pub record PortSays : Type 0 where
+pub record PortPart : Type 0 where
   pub spec : PortSpec
   pub files : NodeFiles
   pub input : List ℕ
@@ -38,9 +39,9 @@ pub record PortSays : Type 0 where
 pub record Setup : Type 0 where
   pub region : ℕ
   pub pools : List PoolSpec
-  pub tables : List TableSays
-  pub rings : List RingSays
-  pub ports : List PortSays
+  pub tables : List TablePart
+  pub rings : List RingPart
+  pub ports : List PortPart
 
 -- the greatest whole number of a key without another limit
 abbrev pub greatest : ℕ
@@ -62,9 +63,9 @@ pool_in table =
 abbrev pub rules_if : ℕ → Option ℕ
 rules_if n = if nat_le 1 n then Some n else None
 
--- the most rules of a table of routes, 1 to 65,536
+-- the most rules of a table of routes, at least 1
 abbrev pub rules_in : Members → Option ℕ
-rules_in table = option_and_then rules_if (number_at (codes "rules") 65536 table)
+rules_in table = option_and_then rules_if (number_at (codes "rules") MOST_RULES table)
 
 -- the elements of an array of texts
 abbrev pub texts_in : Data → Option (List Data)
@@ -74,13 +75,13 @@ texts_in d = if is_array_of is_text d then Some (elements_of d) else None
 abbrev pub texts_at : List ℕ → Members → Option (List Data)
 texts_at key table = option_and_then texts_in (get_member key table)
 
--- a `[[table]]`: its rules, its groups, at most 256, and its routes
-abbrev pub table_in : Members → Option TableSays
+-- a `[[table]]`: its rules, its groups and its routes
+abbrev pub table_in : Members → Option TablePart
 table_in table =
     if has_only (codes "rules" ∷ codes "groups" ∷ codes "routes" ∷ []) table then
     option_and_then (λ rules. option_and_then (λ groups. option_map (λ routes. record { rules = rules; groups = groups; routes = routes })
     (texts_at (codes "routes") table))
-    (number_at (codes "groups") 256 table))
+    (number_at (codes "groups") MOST_GROUPS table))
     (rules_in table)
     else None
 
@@ -96,12 +97,12 @@ abbrev pub fact_in : Members → Option Fact
 fact_in table =
     option_and_then (λ share. option_and_then (λ head. option_and_then
     (λ tail. option_and_then (λ first. option_and_then (λ last. option_map (λ segs. Held share head tail first last segs)
-    (number_at (codes "segs") 255 table))
-    (number_at (codes "last") 65535 table))
-    (number_at (codes "first") 65535 table))
-    (number_at (codes "tail") 65535 table))
-    (number_at (codes "head") 65535 table))
-    (number_at (codes "share") 255 table)
+    (number_at (codes "segs") LARGEST_SMALL table))
+    (number_at (codes "last") LARGEST_COUNT table))
+    (number_at (codes "first") LARGEST_COUNT table))
+    (number_at (codes "tail") LARGEST_COUNT table))
+    (number_at (codes "head") LARGEST_COUNT table))
+    (number_at (codes "share") LARGEST_SMALL table)
 
 -- the keys of a `[[ring]]`
 abbrev pub ring_keys : List (List ℕ)
@@ -117,7 +118,7 @@ ring_spec_in table =
     (number_at (codes "count") greatest table)
 
 -- a `[[ring]]`
-abbrev pub ring_in : Members → Option RingSays
+abbrev pub ring_in : Members → Option RingPart
 ring_in table =
     if has_only ring_keys table then
     option_and_then (λ spec. option_map (λ files. record { spec = spec; files = files })
@@ -135,11 +136,11 @@ abbrev pub port_spec_in : Members → Option PortSpec
 port_spec_in table =
     option_and_then (λ pool. option_and_then (λ segs. option_map (λ queue. record { pool = pool; segs = segs; queue = queue })
     (number_at (codes "queue") greatest table))
-    (number_at (codes "segs") 255 table))
+    (number_at (codes "segs") LARGEST_SMALL table))
     (number_at (codes "pool") greatest table)
 
 -- a `[[port]]`
-abbrev pub port_in : Members → Option PortSays
+abbrev pub port_in : Members → Option PortPart
 port_in table =
     if has_only port_keys table then
     option_and_then (λ spec. option_and_then (λ files. option_and_then
@@ -152,9 +153,9 @@ port_in table =
 
 -- ---- the whole
 
--- a number that is a multiple of 64 and at least 4,096
+-- a number that is a multiple of the unit and not too small
 abbrev pub region_if : ℕ → Option ℕ
-region_if n = if nat_le 4096 n && n % 64 == 0 then Some n else None
+region_if n = if nat_le SMALLEST_REGION n && n % REGION_UNIT == 0 then Some n else None
 
 -- an array of tables, or nothing at all
 abbrev pub is_tables : Option Data → Bool
@@ -171,28 +172,28 @@ is_top top =
     has_only top_keys top && is_tables (get_member (codes "pool") top) && is_tables (get_member (codes "table") top)
     && is_tables (get_member (codes "ring") top) && is_tables (get_member (codes "port") top)
 
--- the region, a multiple of 64 from 4,096 to 1,073,741,824, if no key at the top is bad
+-- the region, if no key at the top is bad
 abbrev pub region_in : Members → Option ℕ
 region_in top =
-    if is_top top then option_and_then region_if (number_at (codes "region") 1073741824 top) else None
+    if is_top top then option_and_then region_if (number_at (codes "region") LARGEST_REGION top) else None
 
 -- the second reading, with what the first gave, if it gave anything
 abbrev pub and_then : {A B E : Type 0} → Result A E → (A → Result B E) → Result B E
 and_then (Ok x) next = next x
 and_then (Err e) next = Err e
 
--- a part with a bad key: its kind, and its place among its kind
+-- a part with a bad key: its kind, and its index among its kind
 abbrev pub Bad : Type 0
 Bad = Part × ℕ
 
--- what each table of an array says, or the first that has a bad key; k is the place of the first of them
+-- the parts of an array, or the first that has a bad key; k is the index of the first of them
 abbrev pub each : {A : Type 0} → Part → (Members → Option A) → ℕ → List Data → Result (List A) Bad
 each kind read k [] = Ok []
 each kind read k (d ∷ ds) =
     and_then (ok_or (option_and_then read (as_table d)) (kind, k)) (λ x.
     and_then (each kind read (k + 1) ds) (λ xs. Ok (x ∷ xs)))
 
--- what a file says, or the first part with a bad key: the top, then the pools, the tables, the rings and the ports
+-- the setup of a file, or the first part with a bad key: the top, then the pools, the tables, the rings and the ports
 abbrev pub setup_in : Members → Result Setup Bad
 setup_in top =
     and_then (ok_or (region_in top) (Top, 0)) (λ region.

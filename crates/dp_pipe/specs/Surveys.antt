@@ -1,4 +1,4 @@
--- What a pipeline file says of one node.
+-- The names that a pipeline file gives of one node.
 use Rattle.std.specs.Prelude.{Option, option_map, slice_get}
 use Rattle.dp_model.specs.declared.env.Entry.{Entry}
 use Rattle.dp_model.specs.declared.env.Entry.TheVariants.{Port, Ring}

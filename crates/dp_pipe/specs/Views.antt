@@ -1,4 +1,4 @@
--- What the values of the reader stand for.
+-- Internal, but for `node_names`: what the values of the reader stand for.
 use Rattle.std.specs.Prelude.{◌≡◌, ℕ, List, map, option_map, string_bytes, Result, Ok, Err}
 use Rattle.toml.specs.Data.{Data}
 use Rattle.toml.specs.View as toml
@@ -7,11 +7,11 @@ use Rattle.dp_pipe.specs.declared.error.PipeError.{PipeError}
 use Rattle.dp_pipe.specs.declared.error.PipeError.TheVariants.{Memory, BadKey}
 use Rattle.dp_pipe.specs.declared.names.NodeNames.{NodeNames}
 use Rattle.dp_pipe.specs.declared.names.PortNames.{PortNames}
-use Rattle.dp_pipe.specs.declared.says.NodeFiles.{NodeFiles}
-use Rattle.dp_pipe.specs.declared.says.TableSays.{TableSays}
-use Rattle.dp_pipe.specs.declared.says.RingSays.{RingSays}
-use Rattle.dp_pipe.specs.declared.says.PortSays.{PortSays}
-use Rattle.dp_pipe.specs.declared.says.Setup.{Setup}
+use Rattle.dp_pipe.specs.declared.setup.NodeFiles.{NodeFiles}
+use Rattle.dp_pipe.specs.declared.setup.TablePart.{TablePart}
+use Rattle.dp_pipe.specs.declared.setup.RingPart.{RingPart}
+use Rattle.dp_pipe.specs.declared.setup.PortPart.{PortPart}
+use Rattle.dp_pipe.specs.declared.setup.Setup.{Setup}
 use Rattle.dp_pipe.specs.Setup as spec
 
 -- the data of values
@@ -22,22 +22,22 @@ values vs = map toml.view vs
 abbrev pub node_files : NodeFiles → spec.NodeFiles
 node_files f = record { node = f.node.now; cert = option_map (λ text. text.now) f.cert }
 
-abbrev pub table_says : TableSays → spec.TableSays
-table_says t = record { rules = t.rules; groups = t.groups; routes = values t.routes.now }
+abbrev pub table_part : TablePart → spec.TablePart
+table_part t = record { rules = t.rules; groups = t.groups; routes = values t.routes.now }
 
-abbrev pub ring_says : RingSays → spec.RingSays
-ring_says r = record { spec = r.spec; files = node_files r.files }
+abbrev pub ring_part : RingPart → spec.RingPart
+ring_part r = record { spec = r.spec; files = node_files r.files }
 
-abbrev pub port_says : PortSays → spec.PortSays
-port_says p = record { spec = p.spec; files = node_files p.files; input = p.input.now; output = p.output.now }
+abbrev pub port_part : PortPart → spec.PortPart
+port_part p = record { spec = p.spec; files = node_files p.files; input = p.input.now; output = p.output.now }
 
 abbrev pub setup : Setup → spec.Setup
 setup s = record {
   region = s.region;
   pools = s.pools.items;
-  tables = map table_says s.tables.items;
-  rings = map ring_says s.rings.items;
-  ports = map port_says s.ports.items;
+  tables = map table_part s.tables.items;
+  rings = map ring_part s.rings.items;
+  ports = map port_part s.ports.items;
 }
 
 -- names that are kept
@@ -51,7 +51,7 @@ port_names n = (node_names n.files, string_bytes n.input, string_bytes n.output)
 -- the error is what reading gives, unless memory ran out
 abbrev pub FailsAs : {Y : Type 0} → PipeError → Result Y spec.Bad → Type 0
 FailsAs Memory read = Unit {0}
-FailsAs (BadKey kind place) read = read ≡ Err (kind, place)
+FailsAs (BadKey kind index) read = read ≡ Err (kind, index)
 FailsAs _ read = ⊥
 
 -- what was returned is what reading gives, as `view` sees it, unless memory ran out

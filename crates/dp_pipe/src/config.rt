@@ -9,13 +9,13 @@ use crate::error::PipeError;
 use crate::names::{NodeNames, PortNames};
 use crate::reader::setup_in;
 use crate::routes::add_routes;
-use crate::says::{NodeFiles, PortSays, RingSays, Setup, TableSays};
+use crate::setup::{NodeFiles, PortPart, RingPart, Setup, TablePart};
 use dp_lpm::Lpm;
 use dp_model::{Env, PortSpec, RingSpec};
 use std::alloc::{AllocError, Global};
 use toml::Table;
 
-/// What a pipeline file says.
+/// The configuration that a pipeline file gives.
 #[derive(Drop)]
 pub(crate) struct Config {
     /// The size of the region in bytes: a multiple of 64 from 4,096 to 1,073,741,824.
@@ -42,13 +42,13 @@ fn table_of(alloc: Global, text: &[u8]) -> Result<Table, PipeError>
     }
 }
 
-fn specs_of_rings(alloc: Global, rings: &[RingSays<'_>]) -> Result<Vec<RingSpec>, AllocError>
+fn specs_of_rings(alloc: Global, rings: &[RingPart<'_>]) -> Result<Vec<RingSpec>, AllocError>
     ensures { IfOk result (λ v. v.items ≡ map (λ r. r.spec) rings.now) }
 {
     rings.iter().map(|ring| ring.spec).collect(alloc)
 }
 
-fn specs_of_ports(alloc: Global, ports: &[PortSays<'_>]) -> Result<Vec<PortSpec>, AllocError>
+fn specs_of_ports(alloc: Global, ports: &[PortPart<'_>]) -> Result<Vec<PortSpec>, AllocError>
     ensures { IfOk result (λ v. v.items ≡ map (λ p. p.spec) ports.now) }
 {
     ports.iter().map(|port| port.spec).collect(alloc)
@@ -87,7 +87,7 @@ fn kept_files(alloc: Global, files: NodeFiles<'_>) -> Result<NodeNames, AllocErr
 }
 
 /// The names of each ring's files.
-fn names_of_rings(alloc: Global, rings: &[RingSays<'_>]) -> Result<Vec<NodeNames>, AllocError>
+fn names_of_rings(alloc: Global, rings: &[RingPart<'_>]) -> Result<Vec<NodeNames>, AllocError>
     ensures { IfOk result (λ v. map view.node_names v.items ≡ map (λ r. view.node_files r.files) rings.now) }
 {
     let mut names = Vec::new(alloc);
@@ -97,8 +97,8 @@ fn names_of_rings(alloc: Global, rings: &[RingSays<'_>]) -> Result<Vec<NodeNames
     Ok(names)
 }
 
-fn port_names(alloc: Global, port: &PortSays<'_>) -> Result<PortNames, AllocError>
-    ensures { IfOk result (λ names. view.port_names names ≡ spec.names_of_port (view.port_says port.now)) }
+fn port_names(alloc: Global, port: &PortPart<'_>) -> Result<PortNames, AllocError>
+    ensures { IfOk result (λ names. view.port_names names ≡ spec.names_of_port (view.port_part port.now)) }
 {
     Ok(PortNames {
         files: kept_files(alloc, port.files)?,
@@ -108,8 +108,8 @@ fn port_names(alloc: Global, port: &PortSays<'_>) -> Result<PortNames, AllocErro
 }
 
 /// The names of each port's files.
-fn names_of_ports(alloc: Global, ports: &[PortSays<'_>]) -> Result<Vec<PortNames>, AllocError>
-    ensures { IfOk result (λ v. map view.port_names v.items ≡ map (λ p. spec.names_of_port (view.port_says p)) ports.now) }
+fn names_of_ports(alloc: Global, ports: &[PortPart<'_>]) -> Result<Vec<PortNames>, AllocError>
+    ensures { IfOk result (λ v. map view.port_names v.items ≡ map (λ p. spec.names_of_port (view.port_part p)) ports.now) }
 {
     let mut names = Vec::new(alloc);
     for port in ports {
@@ -118,19 +118,19 @@ fn names_of_ports(alloc: Global, ports: &[PortSays<'_>]) -> Result<Vec<PortNames
     Ok(names)
 }
 
-/// The table at a place, with its routes.
-fn filled(alloc: Global, place: usize, says: &TableSays<'_>) -> Result<Lpm, PipeError>
-    ensures ok { IfOk result (λ table. spec.Holds (view.table_says says.now) table) }
-    ensures err { IfErr result (spec.IsFillFault place (view.table_says says.now)) }
+/// The table of this index, with its routes.
+fn filled(alloc: Global, index: usize, part: &TablePart<'_>) -> Result<Lpm, PipeError>
+    ensures ok { IfOk result (λ table. spec.Holds (view.table_part part.now) table) }
+    ensures err { IfErr result (spec.IsFillFault index (view.table_part part.now)) }
 {
-    let mut table = match Lpm::new(alloc, says.rules, says.groups) {
+    let mut table = match Lpm::new(alloc, part.rules, part.groups) {
         Ok(table) => table,
         Err(_) => return Err(PipeError::Memory),
     };
-    match add_routes(&mut table, says.routes) {
+    match add_routes(&mut table, part.routes) {
         Ok(()) => Ok(table),
         Err((route, cause)) => Err(PipeError::BadTable {
-            table: place,
+            table: index,
             route,
             cause,
         }),
@@ -138,18 +138,18 @@ fn filled(alloc: Global, place: usize, says: &TableSays<'_>) -> Result<Lpm, Pipe
 }
 
 /// The tables, each with its routes.
-fn tables_of(alloc: Global, tables: &[TableSays<'_>]) -> Result<Vec<Lpm>, PipeError>
-    ensures ok { IfOk result (λ v. spec.HoldAll (map view.table_says tables.now) v.items) }
-    ensures err { IfErr result (spec.IsTablesFault (map view.table_says tables.now)) }
+fn tables_of(alloc: Global, tables: &[TablePart<'_>]) -> Result<Vec<Lpm>, PipeError>
+    ensures ok { IfOk result (λ v. spec.HoldAll (map view.table_part tables.now) v.items) }
+    ensures err { IfErr result (spec.IsTablesFault (map view.table_part tables.now)) }
 {
     let mut filled_tables = Vec::new(alloc);
-    for (place, says) in tables.iter().enumerate() {
-        filled_tables.push(filled(alloc, place, says)?)?;
+    for (index, part) in tables.iter().enumerate() {
+        filled_tables.push(filled(alloc, index, part)?)?;
     }
     Ok(filled_tables)
 }
 
-/// The configuration of what a file says.
+/// The configuration of a setup.
 fn config_of(alloc: Global, setup: &Setup<'_>) -> Result<Config, PipeError>
     ensures ok { IfOk result (spec.IsConfig (view.setup setup.now)) }
     ensures err { IfErr result (spec.IsSetupFault (view.setup setup.now)) }

@@ -42,7 +42,7 @@ pub enum RouteError {
     Unreadable,
 }
 
-/// Why a pipeline is not loaded, in the order in which the causes are looked for. Places count from 0.
+/// Why a pipeline is not loaded, in the order in which the causes are looked for. Indices count from 0.
 #[derive(Clone, Copy, Debug, PartialEq, Eq)]
 pub enum PipeError {
     /// There is not enough memory.
@@ -54,7 +54,7 @@ pub enum PipeError {
         /// The kind of part.
         part: Part,
         /// Which of its kind, 0 at the top.
-        place: usize,
+        index: usize,
     },
     /// There is no such environment.
     BadEnv(EnvError),
@@ -67,7 +67,7 @@ pub enum PipeError {
         /// Why.
         cause: RouteError,
     },
-    /// A node's program or certificate file cannot be fetched, or is longer than 1,048,576 bytes.
+    /// A node's program or certificate file cannot be fetched, or is longer than [`LONGEST_FILE`](crate::LONGEST_FILE).
     File(Entry),
     /// A node's program text has a fault.
     Asm(Entry, dp_lang::Fault),

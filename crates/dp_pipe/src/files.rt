@@ -6,15 +6,18 @@ ghost use Rattle.dp_pipe.specs.Files.{HasBytes, HasNone};
 use crate::error::FetchFault;
 use std::alloc::Global;
 
+/// The most bytes of a program, of a certificate and of a pipeline file.
+pub const LONGEST_FILE: usize = 1_048_576;
+
 /// Files that are fetched by their names, such as those of a folder.
 ///
-/// In a contract it may tell its files.
+/// In a contract its files may be known.
 pub trait Files {
-    // The bytes of each file by its name, where it tells them.
+    // The bytes of each file by its name, where they are known.
     ghost known: { Self → Option (List ℕ → Option (List ℕ)) };
 
-    /// The bytes of a file. One that is longer than 1,048,576 bytes may be cut behind that many and one more, unless the
-    /// files are told.
+    /// The bytes of a file. One that is longer than [`LONGEST_FILE`] may be cut behind that many and one more, unless
+    /// the files are known.
     ///
     /// # Errors
     ///

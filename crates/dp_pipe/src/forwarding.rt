@@ -10,9 +10,15 @@ ghost use Rattle.dp_pcap.specs.declared.time.Unit.{Unit as TimeUnit};
 
 use dp_engine::{Engine, InputState};
 use dp_pcap::{
-    Feed, Next, PcapError, Sink, Source, Time, Unit, next_record, pass_record, put_header,
-    read_header, record_at_hand,
+    Feed, HEAD_SIZE, LARGEST_RECORD, MOST_RECORDS, Next, PcapError, Sink, Source, Time, Unit,
+    next_record, pass_record, put_header, read_header, record_at_hand,
 };
+
+/// The most turns of a run: eight inputs of as many records as a capture has.
+pub const MOST_TURNS: u64 = 8 * MOST_RECORDS as u64;
+
+/// The most rounds of a run: one for each record of an input, and one in which all have ended.
+pub(crate) const ROUNDS: u32 = MOST_RECORDS + 1;
 
 /// Why a run stopped.
 #[derive(Clone, Copy, Debug, PartialEq, Eq)]
@@ -37,13 +43,13 @@ pub(crate) struct Progress {
 // The bytes of a record: those that the reader has at hand, or those in the buffer.
 #[inline(always)]
 fn bytes_of<'a, R: Feed>(r: &'a R, buf: &'a [u8], is_held: bool, len: usize) -> &'a [u8]
-    requires held { IsTrue is_held → 16 + len ≤ length (R.at_hand r.now) }
+    requires held { IsTrue is_held → HEAD_SIZE + len ≤ length (R.at_hand r.now) }
     requires copied { is_held ≡ false → len ≤ length buf.now }
     ensures held { IsTrue is_held → (result.now ≡ body_in (R.at_hand r.now) len) × (R.is_broken r.now ≡ false) }
     ensures copied { is_held ≡ false → result.now ≡ take len buf.now }
 {
     if is_held {
-        &r.held()[16..16 + len]
+        &r.held()[HEAD_SIZE..HEAD_SIZE + len]
     } else {
         &buf[..len]
     }
@@ -60,9 +66,9 @@ fn next_turn<R: Feed>(
     buf: &mut [u8],
 ) -> Result<Next, PcapError>
     requires exists { port < length engine.old.setting.env.ports }
-    requires buf { 262144 ≤ length buf.old }
+    requires buf { LARGEST_RECORD ≤ length buf.old }
     // Eight inputs of so many records at most are as many turns as an engine takes.
-    requires limit { engine.old.turns + 16777216 ≤ 134217728 + source.old.given }
+    requires limit { engine.old.turns + MOST_RECORDS ≤ MOST_TURNS + source.old.given }
     requires open { source.old.is_open ≡ true }
     ensures turn { ReadsTurn port engine.old engine.new source.old source.new (R.remaining r.old) (R.remaining r.new) result }
     ensures in_range { IsInRange source.old result }
@@ -122,10 +128,10 @@ fn advance<R: Feed, W: Sink>(
     requires many { length outs.old ≡ length engine.old.setting.env.ports }
     requires few { length outs.old ≤ 8 }
     requires counted { length engine.old.tallies ≡ 8 }
-    requires buf { 262144 ≤ length buf.old }
+    requires buf { LARGEST_RECORD ≤ length buf.old }
     requires open { input.old.source.is_open ≡ true }
     requires state { input.old.state ≡ InputState.Open }
-    requires limit { engine.old.turns + 16777216 ≤ 134217728 + input.old.source.given }
+    requires limit { engine.old.turns + MOST_RECORDS ≤ MOST_TURNS + input.old.source.given }
     ensures step { Advances port unit engine.old engine.new input.old input.new (R.remaining r.old) (R.remaining r.new) (map W.contents outs.old)
         (map W.contents outs.new) result }
     ensures many { length outs.new ≡ length outs.old }
@@ -172,9 +178,9 @@ fn ask<R: Feed, W: Sink>(
     requires many { length outs.old ≡ length engine.old.setting.env.ports }
     requires few { length outs.old ≤ 8 }
     requires counted { length engine.old.tallies ≡ 8 }
-    requires buf { 262144 ≤ length buf.old }
+    requires buf { LARGEST_RECORD ≤ length buf.old }
     requires open { input.old.state ≡ InputState.Open → input.old.source.is_open ≡ true }
-    requires limit { input.old.state ≡ InputState.Open → engine.old.turns + 16777216 ≤ 134217728 + input.old.source.given }
+    requires limit { input.old.state ≡ InputState.Open → engine.old.turns + MOST_RECORDS ≤ MOST_TURNS + input.old.source.given }
     ensures step { input.old.state ≡ InputState.Open → Advances port unit engine.old engine.new input.old input.new (R.remaining r.old) (R.remaining r.new)
         (map W.contents outs.old) (map W.contents outs.new) result }
     ensures over { (input.old.state ≡ InputState.Open → ⊥) → (result ≡ Ok tt) × (engine.new ≡ engine.old) × (input.new ≡ input.old) × (r.new ≡ r.old)
@@ -204,7 +210,7 @@ fn round<R: Feed, W: Sink>(
     requires outs { length outs.old ≡ length engine.old.setting.env.ports }
     requires few { length outs.old ≤ 8 }
     requires counted { length engine.old.tallies ≡ 8 }
-    requires buf { 262144 ≤ length buf.old }
+    requires buf { LARGEST_RECORD ≤ length buf.old }
     requires along { (e0 : EngineState) × (olds : List (Option (List ℕ))) × (held : List (Option (List ℕ))) × (read : List Input) × (k : ℕ)
         × Along unit e0 engine.old olds (map R.remaining ins.old) held (map W.contents outs.old) inputs.old read k 0 }
     ensures goes { (e0 : EngineState) (olds held : List (Option (List ℕ))) (read : List Input) (k : ℕ) →
@@ -234,7 +240,7 @@ fn is_any_open(inputs: &[Progress]) -> bool
     false
 }
 
-// Round by round, until every input has ended. An input has at most 16,777,216 records.
+// Round by round, until every input has ended.
 pub(crate) fn rounds<R: Feed, W: Sink>(
     engine: &mut Engine,
     inputs: &mut [Progress],
@@ -248,7 +254,7 @@ pub(crate) fn rounds<R: Feed, W: Sink>(
     requires outs { length outs.old ≡ length engine.old.setting.env.ports }
     requires few { length outs.old ≤ 8 }
     requires counted { length engine.old.tallies ≡ 8 }
-    requires buf { 262144 ≤ length buf.old }
+    requires buf { LARGEST_RECORD ≤ length buf.old }
     requires along { (e0 : EngineState) × (olds : List (Option (List ℕ))) × (held : List (Option (List ℕ))) × (read : List Input)
         × Along unit e0 engine.old olds (map R.remaining ins.old) held (map W.contents outs.old) inputs.old read 0 0 }
     ensures goes { (e0 : EngineState) (olds held : List (Option (List ℕ))) (read : List Input) →
@@ -258,7 +264,7 @@ pub(crate) fn rounds<R: Feed, W: Sink>(
     ensures fared_readers { AllFared R.is_broken R.failures (failed_reader result) ins.old ins.new }
     ensures fared_writers { AllSound W.is_broken outs.old → AllFared W.is_broken W.failures (failed_writer result) outs.old outs.new }
 {
-    for k in 0..16_777_217u32 {
+    for k in 0..ROUNDS {
         if !is_any_open(inputs) {
             return Ok(());
         }

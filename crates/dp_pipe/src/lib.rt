@@ -1,6 +1,7 @@
-//! Pipeline files: what they say, and the node programs that they name.
+//! Pipeline files, the node programs that they name, and runs of both.
 #![tactic(auto)]
 
+mod causes;
 mod config;
 mod error;
 mod files;
@@ -15,21 +16,20 @@ mod pipeline;
 mod reader;
 mod routes;
 mod running;
-mod says;
+mod setup;
 mod surveying;
-mod text;
 mod tracing;
 
+pub use causes::NodeName;
 pub use error::{FetchFault, Part, PipeError, RouteError};
-pub use files::Files;
-pub use forwarding::RunCause;
+pub use files::{Files, LONGEST_FILE};
+pub use forwarding::{MOST_TURNS, RunCause};
 pub use listed::{Listed, NamedBytes};
 pub use loading::load;
 pub use nodes::How;
 pub use pipeline::Pipeline;
 pub use running::{RunFault, run};
 pub use surveying::{Survey, survey_of};
-pub use text::NodeName;
 pub use tracing::{Traced, Tracer, trace};
 
 #[cfg(test)]

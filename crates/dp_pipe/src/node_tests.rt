@@ -232,7 +232,7 @@ fn shows(rt: &HostRuntime, error: PipeError, text: &str) -> Result<bool, Fail> {
 fn causes_are_shown_by_their_numbers(rt: HostRuntime) -> Result<(), Fail> {
     let key = PipeError::BadKey {
         part: Part::Ring,
-        place: 3,
+        index: 3,
     };
     assert!(&rt; shows(&rt, PipeError::NotToml, "1 NotToml")?);
     assert!(&rt; shows(&rt, key, "2 BadKey ring 3")?);

@@ -1,4 +1,4 @@
-//! What one table of each kind says.
+//! The parts of a pipeline file: how each kind is read from its table.
 
 ghost use Rattle.std.specs.Prelude.{◌≡◌, ◌≤◌, Option, option_and_then, option_map, IfSome};
 ghost use Rattle.dp_model.specs.declared.env.PoolSpec.{PoolSpec};
@@ -10,11 +10,14 @@ ghost use Rattle.dp_pipe.specs.Views as view;
 use crate::keys::{
     elements_of, has_only, is_tables, is_texts, number_at, text_at, text_if_any, value_at,
 };
-use crate::says::{NodeFiles, PortSays, RingSays, TableSays};
+use crate::setup::{
+    LARGEST_COUNT, LARGEST_REGION, LARGEST_SMALL, MOST_GROUPS, MOST_RULES, NodeFiles, PortPart,
+    REGION_UNIT, RingPart, SMALLEST_REGION, TablePart,
+};
 use dp_model::{Fact, PoolSpec, PortSpec, RingSpec};
 use toml::{Table, Value};
 
-/// What a `[[pool]]` says.
+/// A `[[pool]]`.
 fn pool_in(table: &Table) -> Option<PoolSpec>
     ensures { result ≡ spec.pool_in (table_view table.now) }
 {
@@ -28,12 +31,12 @@ fn pool_in(table: &Table) -> Option<PoolSpec>
     })
 }
 
-/// The most rules of a table of routes, 1 to 65,536.
+/// The most rules of a table of routes, at least 1.
 fn rules_in(table: &Table) -> Option<u32>
     ensures number { result ≡ spec.rules_in (table_view table.now) }
-    ensures most { IfSome result (λ n. n ≤ 65536) }
+    ensures most { IfSome result (λ n. n ≤ MOST_RULES) }
 {
-    let rules = number_at(table, "rules", 65_536)?;
+    let rules = number_at(table, "rules", MOST_RULES)?;
     if rules >= 1 { Some(rules) } else { None }
 }
 
@@ -49,16 +52,16 @@ fn texts_at<'a>(table: &'a Table, key: &str) -> Option<&'a [Value]>
     }
 }
 
-/// What a `[[table]]` says.
-fn table_in(table: &Table) -> Option<TableSays<'_>>
-    ensures { option_map view.table_says result ≡ spec.table_in (table_view table.now) }
+/// A `[[table]]`.
+fn table_in(table: &Table) -> Option<TablePart<'_>>
+    ensures { option_map view.table_part result ≡ spec.table_in (table_view table.now) }
 {
     if !has_only(table, &["rules", "groups", "routes"]) {
         return None;
     }
-    Some(TableSays {
+    Some(TablePart {
         rules: rules_in(table)?,
-        groups: number_at(table, "groups", 256)?,
+        groups: number_at(table, "groups", MOST_GROUPS)?,
         routes: texts_at(table, "routes")?,
     })
 }
@@ -78,12 +81,12 @@ fn fact_in(table: &Table) -> Option<Fact>
     ensures { result ≡ spec.fact_in (table_view table.now) }
 {
     Some(Fact::Held {
-        share: number_at(table, "share", 255)? as u8,
-        head: number_at(table, "head", 65_535)? as u16,
-        tail: number_at(table, "tail", 65_535)? as u16,
-        first: number_at(table, "first", 65_535)? as u16,
-        last: number_at(table, "last", 65_535)? as u16,
-        segs: number_at(table, "segs", 255)? as u8,
+        share: number_at(table, "share", LARGEST_SMALL)? as u8,
+        head: number_at(table, "head", LARGEST_COUNT)? as u16,
+        tail: number_at(table, "tail", LARGEST_COUNT)? as u16,
+        first: number_at(table, "first", LARGEST_COUNT)? as u16,
+        last: number_at(table, "last", LARGEST_COUNT)? as u16,
+        segs: number_at(table, "segs", LARGEST_SMALL)? as u8,
     })
 }
 
@@ -96,9 +99,9 @@ fn ring_spec_in(table: &Table) -> Option<RingSpec>
     })
 }
 
-/// What a `[[ring]]` says.
-fn ring_in(table: &Table) -> Option<RingSays<'_>>
-    ensures { option_map view.ring_says result ≡ spec.ring_in (table_view table.now) }
+/// A `[[ring]]`.
+fn ring_in(table: &Table) -> Option<RingPart<'_>>
+    ensures { option_map view.ring_part result ≡ spec.ring_in (table_view table.now) }
 {
     let keys = [
         "count", "share", "head", "tail", "first", "last", "segs", "node", "cert",
@@ -106,7 +109,7 @@ fn ring_in(table: &Table) -> Option<RingSays<'_>>
     if !has_only(table, &keys) {
         return None;
     }
-    Some(RingSays {
+    Some(RingPart {
         spec: ring_spec_in(table)?,
         files: node_files_in(table)?,
     })
@@ -117,20 +120,20 @@ fn port_spec_in(table: &Table) -> Option<PortSpec>
 {
     Some(PortSpec {
         pool: number_at(table, "pool", u32::MAX)?,
-        segs: number_at(table, "segs", 255)?,
+        segs: number_at(table, "segs", LARGEST_SMALL)?,
         queue: number_at(table, "queue", u32::MAX)?,
     })
 }
 
-/// What a `[[port]]` says.
-fn port_in(table: &Table) -> Option<PortSays<'_>>
-    ensures { option_map view.port_says result ≡ spec.port_in (table_view table.now) }
+/// A `[[port]]`.
+fn port_in(table: &Table) -> Option<PortPart<'_>>
+    ensures { option_map view.port_part result ≡ spec.port_in (table_view table.now) }
 {
     let keys = ["pool", "segs", "queue", "node", "cert", "in", "out"];
     if !has_only(table, &keys) {
         return None;
     }
-    Some(PortSays {
+    Some(PortPart {
         spec: port_spec_in(table)?,
         files: node_files_in(table)?,
         input: text_at(table, "in")?,
@@ -166,8 +169,8 @@ pub fn region_in(top: &Table) -> Option<u32>
     if !is_top(top) {
         return None;
     }
-    let region = number_at(top, "region", 0x4000_0000)?;
-    if region >= 4_096 && region % 64 == 0 {
+    let region = number_at(top, "region", LARGEST_REGION)?;
+    if region >= SMALLEST_REGION && region % REGION_UNIT == 0 {
         Some(region)
     } else {
         None
@@ -176,22 +179,22 @@ pub fn region_in(top: &Table) -> Option<u32>
 
 /// A part of which a file has an array: a pool, a table, a ring or a port.
 pub trait ArrayPart<'a>: Sized {
-    // What such a part says by the definitions, and how that is read from its table.
-    ghost Said: { Type 0 };
+    // What such a part is by the definitions, and how that is read from its table.
+    ghost Meaning: { Type 0 };
 
-    ghost said: { Self → Said };
+    ghost meaning: { Self → Meaning };
 
-    ghost read: { Members → Option Said };
+    ghost read: { Members → Option Meaning };
 
-    /// What an element of the array says, or nothing where it has a bad key.
+    /// The part that an element of the array is, or nothing where it has a bad key.
     fn in_element(element: &'a Value) -> Option<Self>
-        ensures { option_map said result ≡ option_and_then read (as_table (data_of element.now)) };
+        ensures { option_map meaning result ≡ option_and_then read (as_table (data_of element.now)) };
 }
 
 impl<'a> ArrayPart<'a> for PoolSpec {
-    ghost Said = { PoolSpec };
+    ghost Meaning = { PoolSpec };
 
-    ghost said = { λ pool. pool };
+    ghost meaning = { λ pool. pool };
 
     ghost read = { spec.pool_in };
 
@@ -200,38 +203,38 @@ impl<'a> ArrayPart<'a> for PoolSpec {
     }
 }
 
-impl<'a> ArrayPart<'a> for TableSays<'a> {
-    ghost Said = { spec.TableSays };
+impl<'a> ArrayPart<'a> for TablePart<'a> {
+    ghost Meaning = { spec.TablePart };
 
-    ghost said = { view.table_says };
+    ghost meaning = { view.table_part };
 
     ghost read = { spec.table_in };
 
-    fn in_element(element: &'a Value) -> Option<TableSays<'a>> {
+    fn in_element(element: &'a Value) -> Option<TablePart<'a>> {
         table_in(element.as_table()?)
     }
 }
 
-impl<'a> ArrayPart<'a> for RingSays<'a> {
-    ghost Said = { spec.RingSays };
+impl<'a> ArrayPart<'a> for RingPart<'a> {
+    ghost Meaning = { spec.RingPart };
 
-    ghost said = { view.ring_says };
+    ghost meaning = { view.ring_part };
 
     ghost read = { spec.ring_in };
 
-    fn in_element(element: &'a Value) -> Option<RingSays<'a>> {
+    fn in_element(element: &'a Value) -> Option<RingPart<'a>> {
         ring_in(element.as_table()?)
     }
 }
 
-impl<'a> ArrayPart<'a> for PortSays<'a> {
-    ghost Said = { spec.PortSays };
+impl<'a> ArrayPart<'a> for PortPart<'a> {
+    ghost Meaning = { spec.PortPart };
 
-    ghost said = { view.port_says };
+    ghost meaning = { view.port_part };
 
     ghost read = { spec.port_in };
 
-    fn in_element(element: &'a Value) -> Option<PortSays<'a>> {
+    fn in_element(element: &'a Value) -> Option<PortPart<'a>> {
         port_in(element.as_table()?)
     }
 }

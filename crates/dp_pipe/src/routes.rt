@@ -128,14 +128,14 @@ fn add_route(table: &mut Lpm, value: &Value) -> Result<(), RouteError>
     }
 }
 
-/// A table takes values in as routes, one after the other, up to the first that is refused: its place, and why.
+/// A table takes values in as routes, one after the other, up to the first that is refused: its index, and why.
 pub fn add_routes(table: &mut Lpm, routes: &[Value]) -> Result<(), (usize, RouteError)>
     ensures ok { OnOk result (spec.TakesAll table.old table.new (values routes.now)) }
     ensures refused { IfErr result (λ e. spec.IsFirstRefused table.old (values routes.now) e.0 e.1) }
 {
-    for (place, value) in routes.iter().enumerate() {
+    for (index, value) in routes.iter().enumerate() {
         if let Err(cause) = add_route(table, value) {
-            return Err((place, cause));
+            return Err((index, cause));
         }
     }
     Ok(())

@@ -23,12 +23,9 @@ use dp_copies::clones_are_copies;
 use dp_engine::{Engine, InputState, OpenFault, PoolReport, PortReport, Report};
 use dp_lpm::Lpm;
 use dp_model::{Env, PoolSpec, PortSpec, RingSpec, runs_keep_safe};
-use dp_pcap::{Feed, Sink, Time, Unit, put_header, read_header};
+use dp_pcap::{Feed, LARGEST_RECORD, Sink, Time, Unit, put_header, read_header};
 use dp_region::Region;
 use std::alloc::Global;
-
-/// How many bytes of a record are read at once where the reader does not have it at hand.
-pub(crate) const BUFFER: usize = 262_144;
 
 /// A run that stopped.
 #[derive(Drop)]
@@ -143,7 +140,7 @@ fn forward<R: Feed, W: Sink>(
     requires few { length engine.old.setting.env.ports ≤ 8 }
     requires none { (inputs.old.items ≡ []) × (vec_len inputs.old ≡ 0) }
     requires room { 8 ≤ vec_capacity inputs.old }
-    requires buf { 262144 ≤ length buf.old }
+    requires buf { LARGEST_RECORD ≤ length buf.old }
     ensures forward { spec.GoesForward engine.old engine.new (map R.remaining ins.old) (map R.remaining ins.new) (map W.contents outs.old)
         (map W.contents outs.new) inputs.new.items result }
     ensures many { length inputs.new.items ≤ length engine.old.setting.env.ports }
@@ -159,8 +156,8 @@ fn forward<R: Feed, W: Sink>(
     rounds(engine, inputs.as_mut_slice(), ins, outs, unit, buf)
 }
 
-// Sets how far the inputs were read.
-fn tell_states(ports: &mut [PortReport], inputs: &[Progress])
+// Sets how far each input was read.
+fn set_states(ports: &mut [PortReport], inputs: &[Progress])
     requires { length inputs.now ≤ length ports.old }
     ensures { ports.new ≡ spec.with_states (map (λ p. p.state) inputs.now) ports.old }
 {
@@ -184,9 +181,9 @@ fn run_through<R: Feed, W: Sink>(
     requires few { length engine.setting.env.ports ≤ 8 }
     requires none { (inputs.old.items ≡ []) × (vec_len inputs.old ≡ 0) }
     requires room { 8 ≤ vec_capacity inputs.old }
-    requires buf { 262144 ≤ length buf.old }
+    requires buf { LARGEST_RECORD ≤ length buf.old }
     ensures through { (last : EngineState) × spec.GoesForward engine last (map R.remaining ins.old) (map R.remaining ins.new) (map W.contents outs.old)
-        (map W.contents outs.new) inputs.new.items (spec.answer_of result) × spec.Tells last inputs.new.items (spec.report_of result) }
+        (map W.contents outs.new) inputs.new.items (spec.answer_of result) × spec.IsReportOf last inputs.new.items (spec.report_of result) }
     ensures free { spec.AllFree engine.setting.env result }
     ensures sound { IsOk result → AllSound R.is_broken ins.new × AllSound W.is_broken outs.new }
     ensures fared_readers { AllFared R.is_broken R.failures (failed_reader (spec.answer_of result)) ins.old ins.new }
@@ -196,7 +193,7 @@ fn run_through<R: Feed, W: Sink>(
     let outcome = forward(&mut engine, inputs, ins, outs, buf);
     let (mut report, region) = engine.finish();
     region.close();
-    tell_states(report.ports.as_mut_slice(), inputs.as_slice());
+    set_states(report.ports.as_mut_slice(), inputs.as_slice());
     match outcome {
         Ok(()) => Ok(report),
         Err(cause) => Err(RunFault { cause, report }),
@@ -210,7 +207,7 @@ fn free_pools(specs: &[PoolSpec]) -> ArrayVec<PoolReport, 8>
 {
     let mut pools = ArrayVec::new();
     for spec in specs {
-        let count = spec.count as u64;
+        let count = u64::from(spec.count);
         pools.push(PoolReport { free: count, count });
     }
     pools
@@ -266,7 +263,7 @@ fn unopened(cause: RunCause, env: &Env) -> RunFault
 }
 
 // What every table is known to keep: no hop is above 16,777,215.
-fn tell_hops(tables: &[Lpm])
+fn hops_are_small(tables: &[Lpm])
     ensures { (k : ℕ) (t : RouteTable) → slice_get tables.now k ≡ Some t → AllByRecursion (λ (route : Route). route.hop ≤ 16777215) t.routes }
 {
     for table in tables {
@@ -322,7 +319,7 @@ pub fn run<R: Feed, W: Sink>(
     let Ok(mut inputs) = Vec::with_capacity(alloc, 8) else {
         return Err(unopened(RunCause::Memory, pipeline.env()));
     };
-    let Ok(mut buf) = vec![in alloc; 0u8; BUFFER] else {
+    let Ok(mut buf) = vec![in alloc; 0u8; LARGEST_RECORD] else {
         return Err(unopened(RunCause::Memory, pipeline.env()));
     };
     let Ok(region) = Region::new(alloc, pipeline.region()) else {
@@ -330,7 +327,7 @@ pub fn run<R: Feed, W: Sink>(
     };
     let (env, tables, nodes) = pipeline.into_parts();
     env.within_limits();
-    tell_hops(tables.as_slice());
+    hops_are_small(tables.as_slice());
     // The laws of such runs.
     runs_keep_safe::<Time>();
     clones_are_copies::<Time>();

@@ -1,4 +1,4 @@
-//! What a pipeline file says of its nodes, before any of their files is opened.
+//! The nodes that a pipeline file names, before any of their files is opened.
 
 ghost use Rattle.std.specs.Prelude.{◌≡◌, option_map, option_and_then, string_bytes, IfOk, IfErr};
 ghost use Rattle.dp_pipe.specs.Config.{IsConfigOf, IsFaultOf};
@@ -11,7 +11,7 @@ use crate::names::NodeNames;
 use dp_model::{Entry, Env};
 use std::alloc::Global;
 
-/// What a pipeline file says: its environment, and the names of its nodes' files.
+/// A pipeline file alone: its environment, and the names of its nodes' files.
 #[derive(Drop)]
 pub struct Survey {
     config: Config,
@@ -30,11 +30,11 @@ impl Survey {
         ensures { option_map (λ names. node_names names.now) result ≡ files_at self.now.config node }
     {
         match node {
-            Entry::Port(port) => match self.config.ports.get(port as usize) {
+            Entry::Port(port) => match self.config.ports.get(usize::from(port)) {
                 Some(port) => Some(&port.files),
                 None => None,
             },
-            Entry::Ring(ring) => self.config.rings.get(ring as usize),
+            Entry::Ring(ring) => self.config.rings.get(usize::from(ring)),
         }
     }
 
@@ -56,7 +56,7 @@ impl Survey {
     }
 }
 
-/// What a pipeline's text says, where its format and its environment are in order.
+/// The survey of a pipeline's text, where its format and its environment are in order.
 ///
 /// # Errors
 ///

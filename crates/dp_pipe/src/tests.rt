@@ -35,8 +35,8 @@ fn changed(rt: &HostRuntime, old: &str, new: &str) -> Result<String, AllocError>
     }
 }
 
-fn bad(part: Part, place: usize) -> Option<PipeError> {
-    Some(PipeError::BadKey { part, place })
+fn bad(part: Part, index: usize) -> Option<PipeError> {
+    Some(PipeError::BadKey { part, index })
 }
 
 #[test]

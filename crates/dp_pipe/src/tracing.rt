@@ -6,17 +6,14 @@ ghost use Rattle.dp_engine.specs.Engines.{IsAscending};
 ghost use Rattle.dp_engine.specs.Needs.{bytes_needed};
 ghost use Rattle.dp_pipe.specs.Tracing.{IsOfInput, one_if_some};
 
-use crate::forwarding::{Progress, RunCause, is_open};
+use crate::forwarding::{MOST_TURNS, Progress, ROUNDS, RunCause, is_open};
 use crate::pipeline::Pipeline;
-use crate::running::{BUFFER, read_headers};
+use crate::running::read_headers;
 use dp_engine::{Engine, InputState, OpenFault, Turn, View, Watch};
-use dp_pcap::{Feed, Next, OfWrite, PcapError, Time, Unit, next_record};
+use dp_pcap::{Feed, LARGEST_RECORD, Next, OfWrite, PcapError, Time, Unit, next_record};
 use dp_region::Region;
 use std::alloc::Global;
 use std::io;
-
-/// The most rounds of a run: as many as a capture has records, and one in which it ends.
-const ROUNDS: u32 = 16_777_217;
 
 /// Looks on at a traced run: at each record, each node run and each instruction.
 pub trait Tracer: Watch {
@@ -30,7 +27,7 @@ pub trait Tracer: Watch {
 /// Which records are traced.
 #[derive(Clone, Copy, Debug, PartialEq, Eq)]
 pub struct Traced {
-    /// How many at most: up to 134,217,728.
+    /// How many at most: up to [`MOST_TURNS`].
     pub records: u32,
     /// Those of one port, or those of all in the order of a run.
     pub port: Option<u8>,
@@ -69,8 +66,8 @@ fn trace_next<R: Feed, T: Tracer>(
     tracer: &mut T,
 ) -> Result<Option<Time>, PcapError>
     requires exists { port < length engine.old.setting.env.ports }
-    requires buf { 262144 ≤ length buf.old }
-    requires limit { engine.old.turns < 134217728 }
+    requires buf { LARGEST_RECORD ≤ length buf.old }
+    requires limit { engine.old.turns < MOST_TURNS }
     ensures setting { engine.new.setting ≡ engine.old.setting }
     ensures turns { IfOk result (λ time. engine.new.turns ≡ engine.old.turns + one_if_some time) }
     ensures nano { IfOk result (λ time. IfSome time (λ t. t.nano < 1000000000)) }
@@ -106,11 +103,11 @@ fn trace_round<R: Feed, T: Tracer>(
     requires inputs { length inputs.old ≡ length engine.old.setting.env.ports }
     requires ins { length ins.old ≡ length engine.old.setting.env.ports }
     requires few { length ins.old ≤ 8 }
-    requires buf { 262144 ≤ length buf.old }
-    requires limit { engine.old.turns + which.old.records ≤ 134217728 }
+    requires buf { LARGEST_RECORD ≤ length buf.old }
+    requires limit { engine.old.turns + which.old.records ≤ MOST_TURNS }
     ensures setting { engine.new.setting ≡ engine.old.setting }
     ensures many { (length inputs.new ≡ length inputs.old) × (length ins.new ≡ length ins.old) × (length buf.new ≡ length buf.old) }
-    ensures limit { OnOk result (engine.new.turns + which.new.records ≤ 134217728) }
+    ensures limit { OnOk result (engine.new.turns + which.new.records ≤ MOST_TURNS) }
     ensures cause { IfErr result IsOfInput }
 {
     let ports = ins.len() as u8;
@@ -153,8 +150,8 @@ fn trace_records<R: Feed, T: Tracer>(
     requires few { length ins.old ≤ 8 }
     requires none { (inputs.old.items ≡ []) × (vec_len inputs.old ≡ 0) }
     requires room { 8 ≤ vec_capacity inputs.old }
-    requires buf { 262144 ≤ length buf.old }
-    requires limit { which.records ≤ 134217728 }
+    requires buf { LARGEST_RECORD ≤ length buf.old }
+    requires limit { which.records ≤ MOST_TURNS }
     ensures cause { IfErr result IsOfInput }
 {
     read_headers(ins, inputs)?;
@@ -186,14 +183,14 @@ pub fn trace<R: Feed, T: Tracer>(
 ) -> Result<(), RunCause>
     requires readers { length ins.old ≡ length pipeline.env.ports }
     requires pattern { IsAscending 0 pattern.items }
-    requires limit { which.records ≤ 134217728 }
+    requires limit { which.records ≤ MOST_TURNS }
     ensures no_room { (result ≡ Err RunCause.Memory) ⊎ ((result ≡ Err RunCause.NoRoom) ↔ (pipeline.region < bytes_needed pipeline.env)) }
     ensures untouched { IfErr result (λ cause. (cause ≡ RunCause.Memory) ⊎ (cause ≡ RunCause.NoRoom) → (ins.new ≡ ins.old) × (tracer.new ≡ tracer.old)) }
 {
     let Ok(mut inputs) = Vec::with_capacity(alloc, 8) else {
         return Err(RunCause::Memory);
     };
-    let Ok(mut buf) = vec![in alloc; 0u8; BUFFER] else {
+    let Ok(mut buf) = vec![in alloc; 0u8; LARGEST_RECORD] else {
         return Err(RunCause::Memory);
     };
     let Ok(region) = Region::new(alloc, pipeline.region()) else {

@@ -1,6 +1,7 @@
+-- `config_of`: its parts are those of the setup.
 use Rattle.std.proofs.Common.{◌∙◌, refl, sym}
 use Rattle.dp_pipe.specs.Config.{names_of_port}
-use Rattle.dp_pipe.specs.Views.{port_says, ring_says}
+use Rattle.dp_pipe.specs.Views.{port_part, ring_part}
 use Rattle.dp_pipe.proofs.Environments.{map_twice}
 use Rattle.dp_pipe.proofs.config.config_of.Goals as goal
 
@@ -10,6 +11,6 @@ returns-clause-ok c = record {
   fits = c.in_ok-env.ensures.ok.fits;
   env = c.in_ok-env.ensures.ok.same;
   tables = rw c.deref.ensures.value at c.in_ok-tables_of.ensures.ok;
-  ports = c.in_ok-names_of_ports.ensures ∙ rw c.deref-2.ensures.value (sym (map_twice port_says names_of_port c.args.setup.now.ports.items));
-  rings = c.in_ok-names_of_rings.ensures ∙ rw c.deref-3.ensures.value (sym (map_twice ring_says (λ r. r.files) c.args.setup.now.rings.items));
+  ports = c.in_ok-names_of_ports.ensures ∙ rw c.deref-2.ensures.value (sym (map_twice port_part names_of_port c.args.setup.now.ports.items));
+  rings = c.in_ok-names_of_rings.ensures ∙ rw c.deref-3.ensures.value (sym (map_twice ring_part (λ r. r.files) c.args.setup.now.rings.items));
 }

@@ -1,3 +1,4 @@
+-- `names_of_rings`: the names of the rings so far.
 use Rattle.std.proofs.Common.{◌≡◌, take, map}
 use Rattle.dp_pipe.specs.Views.{node_files, node_names}
 use Rattle.dp_pipe.proofs.config.names_of_rings.Given as goal

@@ -1,3 +1,4 @@
+-- `tables_of`: one table more, and the first that is not filled.
 use Rattle.std.proofs.Common.{sym}
 use Rattle.std.proofs.lemmas.Result.{err_from_is_err_and}
 use Rattle.dp_pipe.proofs.Taking.{table_more, table_fault}
@@ -6,10 +7,10 @@ use Rattle.dp_pipe.proofs.config.tables_of.Goals as goal
 pub returns-in_err-filled-clause-err : goal.returns-in_err-filled-clause-err
 returns-in_err-filled-clause-err c =
     let p = err_from_is_err_and c.from_residual.result c.from_residual.ensures.1 in
-    rw (p.1, p.2) (table_fault c.args.tables.now c.loop-place.filled_tables.items c.loop-place.place c.index-tables-place.result c.in_err-filled.field-0.0
-    c.loop-place-test.true (sym c.index-tables-place.is) c.loop-place.invariant c.in_err-filled.ensures.err)
+    rw (p.1, p.2) (table_fault c.args.tables.now c.loop-index.filled_tables.items c.loop-index.index c.index-tables-index.result c.in_err-filled.field-0.0
+    c.loop-index-test.true (sym c.index-tables-index.is) c.loop-index.invariant c.in_err-filled.ensures.err)
 
-pub loop-place-preserved : goal.loop-place-preserved
-loop-place-preserved c =
-    rw c.in_ok-push.ensures.items (table_more c.args.tables.now c.loop-place.filled_tables.items c.loop-place.place c.index-tables-place.result
-    c.in_ok-filled.field-0 c.loop-place-test.true (sym c.index-tables-place.is) c.loop-place.invariant c.in_ok-filled.ensures.ok)
+pub loop-index-preserved : goal.loop-index-preserved
+loop-index-preserved c =
+    rw c.in_ok-push.ensures.items (table_more c.args.tables.now c.loop-index.filled_tables.items c.loop-index.index c.index-tables-index.result
+    c.in_ok-filled.field-0 c.loop-index-test.true (sym c.index-tables-index.is) c.loop-index.invariant c.in_ok-filled.ensures.ok)

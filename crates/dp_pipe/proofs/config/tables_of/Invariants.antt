@@ -1,7 +1,8 @@
+-- `tables_of`: the tables so far hold their routes.
 use Rattle.std.proofs.Common.{take, map}
 use Rattle.dp_pipe.specs.Config.{HoldAll}
-use Rattle.dp_pipe.specs.Views.{table_says}
+use Rattle.dp_pipe.specs.Views.{table_part}
 use Rattle.dp_pipe.proofs.config.tables_of.Given as goal
 
-abbrev pub invariant-loop-place : goal.invariant-loop-place
-invariant-loop-place l = HoldAll (take l.place (map table_says l.tables)) l.filled_tables.items
+abbrev pub invariant-loop-index : goal.invariant-loop-index
+invariant-loop-index l = HoldAll (take l.index (map table_part l.tables)) l.filled_tables.items

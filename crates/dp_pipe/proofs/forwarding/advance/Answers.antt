@@ -1,3 +1,4 @@
+-- `advance`: an input at a record, at its end, or at a fault.
 use Rattle.std.proofs.Common.{◌≡◌, refl, ap, ◌∙◌, Ok, Err, List, length, map, sym}
 use Rattle.std.specs.Prelude.{OnOk, IfErr}
 use Rattle.dp_pipe.proofs.GoingOn.{goes_on}

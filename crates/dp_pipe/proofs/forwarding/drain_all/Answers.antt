@@ -1,3 +1,4 @@
+-- `drain_all`: one port more, and the first that is not written.
 use Rattle.std.proofs.Common.{ℕ, suc, ◌≡◌, ◌+◌, ◌<◌, false, List, [], ◌∷◌, length, map, refl, sym, ap, ◌∙◌, subst, arith}
 use Rattle.std.specs.Prelude.{slice_get, slice_set, Some, IsTrue}
 use Rattle.std.proofs.lemmas.Option.{slice_get_read, same_Some}

@@ -1,3 +1,4 @@
+-- `drain_all`: the ports so far are drained.
 use Rattle.std.proofs.Common.{◌≡◌, false, length, map}
 use Rattle.dp_pipe.specs.Devices.{AllSound, AllFared}
 use Rattle.dp_pipe.specs.Forwarding.{DrainedFirst}

@@ -1,3 +1,4 @@
+-- `is_any_open`: no input so far is open.
 use Rattle.std.proofs.Common.{◌≡◌, ◌<◌, ℕ, Some}
 use Rattle.std.specs.Prelude.{slice_get}
 use Rattle.dp_engine.specs.declared.report.InputState.TheVariants.{Open}

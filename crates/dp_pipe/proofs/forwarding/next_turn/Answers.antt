@@ -1,3 +1,4 @@
+-- `next_turn`: a turn with the record at hand, or with one that was read.
 use Rattle.std.proofs.Common.{ap, ℕ, Bool}
 use Rattle.std.specs.Prelude.{Ok}
 use Rattle.dp_pcap.specs.declared.source.Next.TheVariants.{Record}

@@ -1,3 +1,4 @@
+-- `round`: the run goes along, port by port.
 use Rattle.std.proofs.Common.{◌≡◌, ℕ, false, List, Option, length, map}
 use Rattle.dp_engine.specs.Engines.{EngineState}
 use Rattle.dp_pipe.specs.Devices.{AllSound, AllFared}

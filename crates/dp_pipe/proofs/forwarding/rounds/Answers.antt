@@ -1,3 +1,4 @@
+-- `rounds`: one round more, the end of all inputs, and a stop.
 use Rattle.std.proofs.Common.{rules, ◌≡◌, ℕ, ◌≤◌, List, Err, Ok, length, refl, sym, ap, ◌∙◌, arith}
 use Rattle.dp_engine.specs.Engines.{EngineState}
 use Rattle.dp_pipe.specs.Forwarding.{Input}

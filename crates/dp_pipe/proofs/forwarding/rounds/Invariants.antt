@@ -1,3 +1,4 @@
+-- `rounds`: the run goes along, round by round.
 use Rattle.std.proofs.Common.{◌≡◌, ℕ, false, List, Option, length, map}
 use Rattle.dp_engine.specs.Engines.{EngineState}
 use Rattle.dp_pipe.specs.Devices.{AllSound, AllFared}

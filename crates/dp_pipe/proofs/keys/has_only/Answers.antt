@@ -1,3 +1,4 @@
+-- `has_only`: the keys of a table are among the known ones.
 use Rattle.std.proofs.Common.{◌∙◌}
 use Rattle.dp_pipe.proofs.Elements.{all_keys}
 use Rattle.dp_pipe.proofs.keys.has_only.Goals as goal

@@ -1,3 +1,4 @@
+-- `is_tables`: an array whose elements are tables.
 use Rattle.std.proofs.Common.{sym, ◌∙◌}
 use Rattle.toml.specs.View.{view}
 use Rattle.dp_pipe.specs.Keys.{is_table}

@@ -1,3 +1,4 @@
+-- `is_texts`: an array whose elements are texts.
 use Rattle.std.proofs.Common.{sym, ◌∙◌}
 use Rattle.toml.specs.View.{view}
 use Rattle.dp_pipe.specs.Keys.{is_text}

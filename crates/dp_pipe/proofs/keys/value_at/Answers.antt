@@ -1,3 +1,4 @@
+-- `value_at`: the member of a table.
 use Rattle.toml.proofs.Views.{table_get}
 use Rattle.dp_pipe.proofs.keys.value_at.Goals as goal
 

@@ -1,8 +1,9 @@
+-- `add_routes`: one route more.
 use Rattle.std.proofs.Common.{sym}
 use Rattle.dp_pipe.proofs.Taking.{route_more}
 use Rattle.dp_pipe.proofs.routes.add_routes.Goals as goal
 
-pub loop-place-preserved : goal.loop-place-preserved
-loop-place-preserved c =
-    route_more c.args.table.now c.loop-place.table c.add_route.new.table c.args.routes.now c.loop-place.place c.index-routes-place.result
-    c.loop-place-test.true (sym c.index-routes-place.is) c.loop-place.invariant c.in_default.ensures.ok
+pub loop-index-preserved : goal.loop-index-preserved
+loop-index-preserved c =
+    route_more c.args.table.now c.loop-index.table c.add_route.new.table c.args.routes.now c.loop-index.index c.index-routes-index.result
+    c.loop-index-test.true (sym c.index-routes-index.is) c.loop-index.invariant c.in_default.ensures.ok

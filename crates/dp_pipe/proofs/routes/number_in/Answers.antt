@@ -1,3 +1,4 @@
+-- `number_in`: a number of so many digits.
 use Rattle.std.proofs.Common.{length, arith}
 use Rattle.dp_pipe.proofs.Digits.{within}
 use Rattle.dp_pipe.proofs.routes.number_in.Goals as goal

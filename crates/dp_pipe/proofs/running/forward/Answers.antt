@@ -1,3 +1,4 @@
+-- `forward`: headers in, headers out, and all rounds.
 use Rattle.std.proofs.Common.{rules, ◌≡◌, ◌∙◌, ◌≤◌, ◌++◌, inl, inr, Err, sym, ap, subst, arith, length, map, take, drop}
 use Rattle.std.proofs.lemmas.List.{length-map}
 use Rattle.dp_engine.specs.Engines.{EngineState}

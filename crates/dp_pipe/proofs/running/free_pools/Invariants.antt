@@ -1,3 +1,4 @@
+-- `free_pools`: the pools so far.
 use Rattle.std.proofs.Common.{◌≡◌, map, take}
 use Rattle.dp_pipe.proofs.running.free_pools.Given as goal
 

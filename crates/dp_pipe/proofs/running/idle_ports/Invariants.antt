@@ -1,3 +1,4 @@
+-- `idle_ports`: the ports so far.
 use Rattle.std.proofs.Common.{◌≡◌, map, take}
 use Rattle.dp_engine.specs.declared.report.InputState.TheVariants.{Open}
 use Rattle.dp_engine.specs.Engines.{no_tallies}

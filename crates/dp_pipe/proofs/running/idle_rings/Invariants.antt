@@ -1,3 +1,4 @@
+-- `idle_rings`: the rings so far.
 use Rattle.std.proofs.Common.{◌≡◌, map, take}
 use Rattle.dp_pipe.proofs.running.idle_rings.Given as goal
 

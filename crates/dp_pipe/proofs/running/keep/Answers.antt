@@ -1,3 +1,4 @@
+-- `keep`: an input more.
 use Rattle.dp_pipe.proofs.running.keep.Goals as goal
 
 pub returns-clause-capacity : goal.returns-clause-capacity

@@ -1,3 +1,4 @@
+-- `put_headers`: the headers so far, and that their writers are sound.
 use Rattle.std.proofs.Common.{◌≡◌, false}
 use Rattle.std.specs.Io.KnownBytes.{Appends}
 use Rattle.dp_pcap.specs.Text.{header_text}

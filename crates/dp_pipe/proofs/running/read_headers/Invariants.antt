@@ -1,3 +1,4 @@
+-- `read_headers`: the headers so far, and that their readers are sound.
 use Rattle.std.proofs.Common.{◌≡◌, ◌≤◌, vec_len}
 use Rattle.std.specs.Vec.{vec_capacity}
 use Rattle.dp_pipe.proofs.Heading.{ReadFirst}

@@ -1,3 +1,4 @@
+-- `run`: what the engine that was opened came to, as the pipeline's run.
 use Rattle.std.proofs.Common.{rules, ◌≡◌, ◌∙◌, ◌≤◌, inl, sym, ap, subst, arith, length, map}
 use Rattle.dp_model.specs.Machine.{Setting}
 use Rattle.dp_model.specs.Starts.{IsStart}
@@ -33,7 +34,7 @@ run_through-requires-clause-room g c = c.in-Ok.ensures.capacity
 
 pub returns-in-Ok-open-clause-answers : goal.returns-in-Ok-open-clause-answers
 returns-in-Ok-open-clause-answers g c =
-    let (last, went, tells) = c.run_through.ensures.through in
+    let (last, went, reported) = c.run_through.ensures.through in
     let opened = c.in-Ok-open.ensures.opened in
     let parts = c.into_parts-env.ensures in
     let s = ap (λ (x : EngineState). x.setting) c.refuse.ensures ∙ ap (λ (x : Setting). record x { pattern = c.args.pattern.items }) opened.setting in
@@ -53,7 +54,7 @@ returns-in-Ok-open-clause-answers g c =
       last = last;
       progress = c.run_through.new.inputs.items;
       went = went;
-      tells = tells;
+      reported = reported;
     })
 
 pub returns-in-Ok-open-clause-free : goal.returns-in-Ok-open-clause-free
@@ -64,7 +65,7 @@ returns-in-Ok-open-clause-free g c =
 
 pub returns-in-Ok-open-clause-untouched : goal.returns-in-Ok-open-clause-untouched
 returns-in-Ok-open-clause-untouched g c =
-    let (last, went, tells) = c.run_through.ensures.through in
+    let (last, went, reported) = c.run_through.ensures.through in
     unless_before _ c.refuse.new.self last (map g.R.Feed.remaining c.args.ins.now) (map g.R.Feed.remaining c.run_through.new.ins)
     (map g.W.Sink.contents c.args.outs.now) (map g.W.Sink.contents c.run_through.new.outs)
     c.run_through.new.inputs.items c.run_through.result went
@@ -73,7 +74,7 @@ pub returns-in-Ok-open-clause-forwarded : goal.returns-in-Ok-open-clause-forward
 returns-in-Ok-open-clause-forwarded g c =
     let ready = is_ready_in c.args.pipeline c.args.pattern.items c.into_parts-env.result.0 c.into_parts-env.result.1.items _ c.into_parts-env.ensures.env
     c.into_parts-env.ensures.tables c.as_slice.ensures.value
-    c.within_limits.ensures c.into_parts-env.ensures.plan c.tell_hops.ensures
+    c.within_limits.ensures c.into_parts-env.ensures.plan c.hops_are_small.ensures
     (record { safe = c.runs_keep_safe.ensures; copies = c.clones_are_copies.ensures }) in
     all_forwarded c.args.pipeline c.args.pattern.items (map g.R.Feed.remaining c.args.ins.now) (map g.R.Feed.remaining c.run_through.new.ins)
     (map g.W.Sink.contents c.args.outs.now) (map g.W.Sink.contents c.run_through.new.outs)
@@ -83,7 +84,7 @@ pub returns-in-Ok-open-clause-stopped : goal.returns-in-Ok-open-clause-stopped
 returns-in-Ok-open-clause-stopped g c =
     let ready = is_ready_in c.args.pipeline c.args.pattern.items c.into_parts-env.result.0 c.into_parts-env.result.1.items _ c.into_parts-env.ensures.env
     c.into_parts-env.ensures.tables c.as_slice.ensures.value
-    c.within_limits.ensures c.into_parts-env.ensures.plan c.tell_hops.ensures
+    c.within_limits.ensures c.into_parts-env.ensures.plan c.hops_are_small.ensures
     (record { safe = c.runs_keep_safe.ensures; copies = c.clones_are_copies.ensures }) in
     all_stopped c.args.pipeline c.args.pattern.items (map g.R.Feed.remaining c.args.ins.now) (map g.R.Feed.remaining c.run_through.new.ins)
     (map g.W.Sink.contents c.args.outs.now) (map g.W.Sink.contents c.run_through.new.outs)

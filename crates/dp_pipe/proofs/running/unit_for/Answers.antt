@@ -1,3 +1,4 @@
+-- `unit_for`: nanoseconds where any input has them.
 use Rattle.std.proofs.Common.{◌≡◌, refl, if◌then◌else◌}
 use Rattle.dp_pcap.specs.declared.time.Unit.TheVariants.{Micro, Nano}
 use Rattle.dp_pipe.proofs.Heading.{any_nano}

@@ -1,3 +1,4 @@
+-- `send_nowhere`: the engine keeps its setting and its turns.
 use Rattle.std.proofs.Common.{◌≡◌}
 use Rattle.dp_pipe.proofs.tracing.send_nowhere.Given as goal
 

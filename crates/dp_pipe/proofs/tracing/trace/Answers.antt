@@ -1,3 +1,4 @@
+-- `trace`: the engine that was opened is that of the pipeline.
 use Rattle.std.proofs.Common.{◌≤◌, ◌∙◌, ap, subst, length}
 use Rattle.std.proofs.lemmas.List.{length-replicate}
 use Rattle.dp_engine.specs.Needs.{bytes_needed}

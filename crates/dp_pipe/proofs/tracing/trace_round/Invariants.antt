@@ -1,3 +1,4 @@
+-- `trace_round`: the engine keeps its setting, and turns are left.
 use Rattle.std.proofs.Common.{◌≡◌, ◌+◌, ◌≤◌, length}
 use Rattle.dp_pipe.proofs.tracing.trace_round.Given as goal
 

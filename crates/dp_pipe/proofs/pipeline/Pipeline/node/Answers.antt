@@ -1,4 +1,4 @@
--- The invariant at a node's place.
+-- The invariant at a node's index.
 use Rattle.dp_pipe.proofs.Planned.{port_node, ring_node}
 use Rattle.dp_pipe.proofs.pipeline.Pipeline.node.Goals as goal
 

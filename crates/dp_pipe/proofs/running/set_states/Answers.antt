@@ -1,6 +1,7 @@
+-- `set_states`: one state more.
 use Rattle.std.proofs.Common.{sym, add-one}
 use Rattle.dp_pipe.proofs.Heading.{told_more}
-use Rattle.dp_pipe.proofs.running.tell_states.Goals as goal
+use Rattle.dp_pipe.proofs.running.set_states.Goals as goal
 
 pub loop-port-preserved : goal.loop-port-preserved
 loop-port-preserved c =

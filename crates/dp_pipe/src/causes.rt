@@ -69,8 +69,8 @@ impl fmt::Display for NodeName {
 
     fn fmt<W: fmt::Write>(&self, f: &mut fmt::Formatter<W>) -> fmt::Result {
         match self.0 {
-            Entry::Port(place) => write!(f, "port {place}"),
-            Entry::Ring(place) => write!(f, "ring {place}"),
+            Entry::Port(index) => write!(f, "port {index}"),
+            Entry::Ring(index) => write!(f, "ring {index}"),
         }
     }
 }
@@ -86,7 +86,7 @@ impl fmt::Display for PipeError {
         match *self {
             PipeError::Memory => write!(f, "memory"),
             PipeError::NotToml => write!(f, "1 NotToml"),
-            PipeError::BadKey { part, place } => write!(f, "2 BadKey {part} {place}"),
+            PipeError::BadKey { part, index } => write!(f, "2 BadKey {part} {index}"),
             PipeError::BadEnv(error) => write!(f, "3 BadEnv {} {}", error.number(), error.place()),
             PipeError::BadTable {
                 table,

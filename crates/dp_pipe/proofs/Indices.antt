@@ -1,4 +1,4 @@
--- Elements of lists by their places.
+-- Elements of lists by their indices.
 use Rattle.std.proofs.Common.{◌≡◌, ℕ, zero, suc, ◌+◌, ◌<◌, List, [], ◌∷◌, ◌++◌, length, take, drop, Some, refl, ap, sym, ◌∙◌, arith, add-one, add-zero}
 use Rattle.std.proofs.Common.{zero-add, subst}
 use Rattle.std.specs.Prelude.{slice_get}
@@ -73,7 +73,7 @@ numbered_entry how kind k (g ∷ files) (suc i) node e =
     let next : (k + 1) + i ≡ k + suc i = omega arith in
     numbered_entry how kind (k + 1) files i node e ∙ ap kind next
 
--- ---- lists that fit, place by place
+-- ---- lists that fit, index by index
 
 pub zipped_length : {A B : Type 0} (R : A → B → Type 0) (xs : List A) (ys : List B) → AllZip R xs ys → length ys ≡ length xs
 zipped_length R [] [] all = refl

@@ -1,5 +1,5 @@
 -- The last arm, which the search leaves.
-use Rattle.dp_pipe.proofs.text.PipeErrorDisplay.fmt.Goals as goal
+use Rattle.dp_pipe.proofs.causes.PipeErrorDisplay.fmt.Goals as goal
 
 pub returns-in-Refused-clause-writes : goal.returns-in-Refused-clause-writes
 returns-in-Refused-clause-writes g c = rw c.in-Refused.is c.write-in-Refused.ensures.writes
