@@ -8,6 +8,7 @@ pub mod Facts
 pub mod Groups
 pub mod Jumps
 pub mod Laws
+pub mod Limits
 pub mod Machine
 pub mod Meaning
 pub mod Packets

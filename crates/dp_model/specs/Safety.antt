@@ -6,6 +6,7 @@ use Rattle.dp_model.specs.declared.env.Entry.TheVariants.{Port, Ring}
 use Rattle.dp_model.specs.declared.env.PortSpec.{PortSpec}
 use Rattle.dp_model.specs.declared.instr.Instr.{Instr}
 use Rattle.dp_model.specs.declared.row.Row.{Row}
+use Rattle.dp_model.specs.Limits.{most_segments, most_ring_runs}
 use Rattle.dp_model.specs.Environments.{room_at, fault_of}
 use Rattle.dp_model.specs.Buffers.{Number, Buffers}
 use Rattle.dp_model.specs.Packets.{Packet, needed, received, Filled, AreFresh, AreOwned, IsWellFormed}
@@ -21,7 +22,7 @@ use Rattle.dp_model.specs.Laws.{RowHoldsAt, Ready, Begins, AreChecked}
 
 -- a packet has 1 to 64 segments
 abbrev pub IsPacket : Packet → Type 0
-IsPacket k = (1 ≤ length k) × (length k ≤ 64)
+IsPacket k = (1 ≤ length k) × (length k ≤ most_segments)
 
 -- what a register holds is one, if it holds anything
 abbrev pub IsPacketOrNone : Option Packet → Type 0
@@ -125,7 +126,7 @@ pub record IsOfRing (c : Setting) (nodes : Nodes) (port : ℕ) (bytes : List ℕ
   pub mid : World
   pub arrives : Arrives c own port spec bytes w outcome told mid
   pub served : ℕ
-  pub few : served < 32
+  pub few : served < most_ring_runs
   pub last : World
   pub has_served : HasServed c nodes.rings served mid last
   pub next : Waiting Packet

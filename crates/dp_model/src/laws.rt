@@ -3,7 +3,8 @@
 ghost use Rattle.std.specs.Prelude.{◌≡◌, ◌+◌, ◌*◌, ◌<◌, ◌≤◌, ℕ, List, Bool, Some, length, slice_get};
 ghost use Rattle.std.specs.List.{AllByRecursion};
 ghost use Rattle.dp_model.specs.Laws.{Begins, IsSound, Ready, AreChecked};
-ghost use Rattle.dp_model.specs.Machine.{Setting, World};
+ghost use Rattle.dp_model.specs.Limits.{most_ring_runs};
+ghost use Rattle.dp_model.specs.Machine.{Setting, World, jump_budget};
 ghost use Rattle.dp_model.specs.Meaning.{TablesFit};
 ghost use Rattle.dp_model.specs.Packets.{Packet};
 ghost use Rattle.dp_model.specs.Rules.{Question, IsCertified};
@@ -26,7 +27,8 @@ pub fn accepted_programs_are_safe<T>()
         IsSafeTurn c nodes port spec bytes w }
     ensures calls { (c : Setting) (nodes : Nodes) (most port : ℕ) (bytes : List ℕ) (w w' : World) (outcome : Outcome) (runs : ℕ) (told : List Bool) →
         IsPipeline c nodes → AreShort most nodes.ports → AreShort most nodes.rings → IsAtRest c w →
-        Turn c nodes port bytes w outcome runs told w' → (w'.calls ≡ w.calls + length told) × (length told ≤ 1 + 33 * (257 * most)) }
+        Turn c nodes port bytes w outcome runs told w' →
+        (w'.calls ≡ w.calls + length told) × (length told ≤ 1 + (most_ring_runs + 1) * ((jump_budget + 1) * most)) }
     ensures runs { (c : Setting) (nodes : Nodes) (arrivals : List (Arrival T)) (w : World) →
         TablesFit c → IsPipeline c nodes → IsStart c.env w → AllByRecursion (CanArrive c) arrivals →
         AreSafe c nodes arrivals w }

@@ -3,6 +3,7 @@
 ghost use Rattle.std.specs.Prelude.{◌≡◌, ◌≢◌, ℕ, ◌+◌, ◌*◌, ◌^◌, ◌<◌, ◌≤◌, Bool, true, ◌↔◌, length, IsTrue, slice_index, slice_get, Some, None};
 ghost use Rattle.dp_model.specs.Arithmetic.{bytes_in};
 ghost use Rattle.dp_model.specs.Environments.{room_at};
+ghost use Rattle.dp_model.specs.Limits.{least_port_room, longest_packet, most_segments};
 ghost use Rattle.dp_model.specs.Packets.{Segment, headroom, tailroom, first_len, last_len, segment_bytes, packet_bytes, needed, available, IsHeadSole};
 ghost use Rattle.dp_model.specs.Packets.{IsTailSole, at_front, at_end, more_before, less_before, more_behind, less_behind, zeroed_before, zeroed_behind};
 ghost use Rattle.dp_model.specs.Packets.{stored, loaded};
@@ -62,8 +63,8 @@ pub trait PacketLayer {
 
     /// A packet with these bytes, or none where too few buffers are free.
     fn receive(&mut self, pool: u32, bytes: &[u8]) -> Option<Packet>
-        requires room { 129 ≤ room_at (store self.old).pools pool }
-        requires fits { needed (store self.old).pools pool (length bytes.now) ≤ 64 }
+        requires room { least_port_room ≤ room_at (store self.old).pools pool }
+        requires fits { needed (store self.old).pools pool (length bytes.now) ≤ most_segments }
         ensures packets { ReceivesInto (store self.old) pool bytes.now (store self.new) result }
         ensures kept { frame self.new ≡ frame self.old };
 
@@ -107,7 +108,7 @@ pub trait PacketLayer {
     /// The second packet's segments behind the first's.
     fn chain(&mut self, head: Packet, tail: Packet)
         requires two { head ≢ tail }
-        requires few { HasSome (store self.old) head (λ k. HasSome (store self.old) tail (λ t. length k + length t ≤ 64)) }
+        requires few { HasSome (store self.old) head (λ k. HasSome (store self.old) tail (λ t. length k + length t ≤ most_segments)) }
         ensures packets { Chains (store self.old) head tail (store self.new) }
         ensures kept { frame self.new ≡ frame self.old };
 
@@ -146,7 +147,7 @@ pub trait PacketLayer {
     fn length(&self, packet: Packet) -> u32
         requires { IsLive (store self.now) packet }
         ensures value { Of (store self.now) packet (λ k. result ≡ length (packet_bytes (store self.now).buffers k)) }
-        ensures bound { result ≤ 262144 };
+        ensures bound { result ≤ longest_packet };
 
     /// How many segments it has, 1 to 64.
     fn segments(&self, packet: Packet) -> u32

@@ -7,6 +7,7 @@ mod env;
 mod instr;
 mod laws;
 mod layer;
+mod limits;
 mod registers;
 mod row;
 mod rule;
@@ -20,6 +21,10 @@ pub use laws::{
     turns_stay_ready,
 };
 pub use layer::{Packet, PacketLayer};
+pub use limits::{
+    DEFAULT_HEADROOM, LARGEST_HOP, LARGEST_RING, LARGEST_ROOM, LEAST_PORT_ROOM, MOST_BUFFERS,
+    MOST_CACHED, MOST_SEGMENTS,
+};
 pub use registers::{NumberRegister, Operand, PacketRegister, Width};
 pub use row::{Fact, Row};
 pub use rule::Rule;

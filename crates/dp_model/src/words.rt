@@ -4,7 +4,8 @@ ghost use Rattle.std.specs.Prelude.{◌≡◌, ◌≢◌, ◌↔◌, ◌⊎◌, 
 ghost use Rattle.dp_model.specs.Arithmetic.{all_ones, big_endian, spelled};
 ghost use Rattle.dp_model.specs.Buffers.{Number, Buffers, bytes_of};
 ghost use Rattle.dp_model.specs.Environments.{Environment, room_at, count_at, fault_of};
-ghost use Rattle.dp_model.specs.Machine.{Setting, State, World, At, Move, Acts, Step, live, without_packet, without_packets};
+ghost use Rattle.dp_model.specs.Limits.{least_port_room, most_buffers, most_ring_runs, most_segments};
+ghost use Rattle.dp_model.specs.Machine.{Setting, State, World, At, Move, Acts, Step, live, without_packet, without_packets, jump_budget};
 ghost use Rattle.dp_model.specs.Jumps.{label_of};
 ghost use Rattle.dp_model.specs.Laws.{AreChecked};
 ghost use Rattle.dp_model.specs.Meaning.{TablesFit};
@@ -31,13 +32,13 @@ pub fn worlds_stay_well_formed()
     ensures drains { (c : Setting) (w : World) → IsAtRest c w → IsAtRest c (with_empty_outboxes w) }
     ensures starts { (c : Setting) (w : World) → TablesFit c → IsStart c.env w → IsAtRest c w }
     ensures few { (env : Environment) (segments : List Segment) (b : Number) →
-        fault_of env ≡ None → AreOwned env.pools segments → refs segments b ≤ 65535 }
+        fault_of env ≡ None → AreOwned env.pools segments → refs segments b ≤ most_buffers }
 {}
 
 /// Packet layers stay well formed at each call that takes packets or changes one.
 pub fn layers_stay_well_formed()
     ensures alloc { (s s' : Store) (pool h : ℕ) → IsWellFormedStore s → Allocates s pool s' (Some h) → IsWellFormedStore s' }
-    ensures receive { (s s' : Store) (pool h : ℕ) (bytes : List ℕ) → 129 ≤ room_at s.pools pool → IsWellFormedStore s →
+    ensures receive { (s s' : Store) (pool h : ℕ) (bytes : List ℕ) → least_port_room ≤ room_at s.pools pool → IsWellFormedStore s →
         ReceivesInto s pool bytes s' (Some h) → IsWellFormedStore s' }
     ensures clone_of { (s s' : Store) (source pool h : ℕ) (k : Packet) → IsWellFormedStore s → Has s source k →
         Clones s source pool s' (Some h) → IsWellFormedStore s' }
@@ -50,8 +51,8 @@ pub fn layers_stay_well_formed()
         Becomes s s' h (at_end (more_behind n)) (zeroed_behind n) → IsWellFormedStore s' }
     ensures trim { (s s' : Store) (h n : ℕ) (k : Packet) → IsWellFormedStore s → Has s h k → n ≤ last_len k →
         Becomes s s' h (at_end (less_behind n)) unwritten → IsWellFormedStore s' }
-    ensures chain { (s s' : Store) (h t : ℕ) (k tail : Packet) → IsWellFormedStore s → h ≢ t → Has s h k → Has s t tail → length k + length tail ≤ 64 →
-        Chains s h t s' → IsWellFormedStore s' }
+    ensures chain { (s s' : Store) (h t : ℕ) (k tail : Packet) → IsWellFormedStore s → h ≢ t → Has s h k → Has s t tail →
+        length k + length tail ≤ most_segments → Chains s h t s' → IsWellFormedStore s' }
     ensures store { (s s' : Store) (h place w n : ℕ) (k : Packet) → IsWellFormedStore s → Has s h k → place + w ≤ first_len k →
         Becomes s s' h (λ k. k) (stored place w n) → IsWellFormedStore s' }
 {}
@@ -111,10 +112,10 @@ pub fn budgets_are_as_they_read()
         without_packets s ≡ without_packet 7 (without_packet 6 (without_packet 5 (without_packet 4
         (without_packet 3 (without_packet 2 (without_packet 1 (without_packet 0 s))))))) }
     ensures taken { (c : Setting) (program : List Instr) (k : Packet) (number n label : ℕ) (w : World) (told : List Bool) (s : State) →
-        Goes c program n 0 (first_state k number w) told (At label) s → (s.jumps ≤ 256) × (s.world.steps ≡ w.steps + n) × (s.world.cuts ≡ w.cuts) }
+        Goes c program n 0 (first_state k number w) told (At label) s → (s.jumps ≤ jump_budget) × (s.world.steps ≡ w.steps + n) × (s.world.cuts ≡ w.cuts) }
     ensures node_runs { (c : Setting) (program : List Instr) (k : Packet) (number : ℕ) (w w' : World) (told : List Bool) →
         NodeRun c program k number w told w' → TookAtMost w w' (most_steps program) 1 }
     ensures turns { (c : Setting) (nodes : Nodes) (port : ℕ) (bytes : List ℕ) (w w' : World) (outcome : Outcome) (runs : ℕ) (told : List Bool) (most : ℕ) →
         AreShort most nodes.ports → AreShort most nodes.rings → Turn c nodes port bytes w outcome runs told w' →
-        (runs ≤ 33) × TookAtMost w w' (runs * (257 * most)) runs }
+        (runs ≤ most_ring_runs + 1) × TookAtMost w w' (runs * ((jump_budget + 1) * most)) runs }
 {}

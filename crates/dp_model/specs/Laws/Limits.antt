@@ -7,6 +7,7 @@ use Rattle.std.proofs.lemmas.Bool.{leb-true, and_parts}
 use Rattle.std.proofs.lemmas.Iterator.Adapters.{position_from-zero}
 use Rattle.dp_model.specs.declared.env.PortSpec.{PortSpec}
 use Rattle.dp_model.specs.declared.env.EnvError.TheVariants.{BadNumber, BadPort}
+use Rattle.dp_model.specs.Limits.{most_segments, least_port_room}
 use Rattle.dp_model.specs.Environments.{Environment, room_at, is_ring_count, port_fits, numbers_fit, fault_of}
 use Rattle.dp_model.specs.Rows.{segs_at}
 
@@ -64,10 +65,10 @@ pub numbers_pass : (e : Environment) → fault_of e ≡ None → numbers_fit e �
 numbers_pass e h = (if_none (numbers_fit e) _ BadNumber h).0
 
 -- a port takes packets of at most 64 segments
-pub segs_small : (e : Environment) (k segs : ℕ) → fault_of e ≡ None → segs_at e.ports k ≡ Some segs → segs ≤ 64
+pub segs_small : (e : Environment) (k segs : ℕ) → fault_of e ≡ None → segs_at e.ports k ≡ Some segs → segs ≤ most_segments
 segs_small e k segs h is = go (slice_get e.ports k) refl is
   where
-    go : (o : Option PortSpec) → slice_get e.ports k ≡ o → option_map (λ p. p.segs) o ≡ Some segs → segs ≤ 64
+    go : (o : Option PortSpec) → slice_get e.ports k ≡ o → option_map (λ p. p.segs) o ≡ Some segs → segs ≤ most_segments
     go None here is = absurd cc
     go (Some p) here is =
         let fits = not_false (port_fits e.pools p) (none_at (λ p. not (port_fits e.pools p)) e.ports k p (ports_pass e h) here) in
@@ -78,7 +79,7 @@ segs_small e k segs h is = go (slice_get e.ports k) refl is
 
 -- the pools of ports have buffers with room for bytes
 abbrev pub HaveRoom : Environment → Type 0
-HaveRoom env = (port : ℕ) (spec : PortSpec) → slice_get env.ports port ≡ Some spec → 129 ≤ room_at env.pools spec.pool
+HaveRoom env = (port : ℕ) (spec : PortSpec) → slice_get env.ports port ≡ Some spec → least_port_room ≤ room_at env.pools spec.pool
 
 -- so they have
 pub ports_have_room : (e : Environment) → fault_of e ≡ None → HaveRoom e

@@ -1,0 +1,25 @@
+// The limits and sizes that definitions name, as constants.
+
+/// The most buffers of a pool, and of all pools together: what 16 bits number.
+pub const MOST_BUFFERS: u32 = 65_535;
+
+/// The most indexes in a pool's cache.
+pub const MOST_CACHED: u32 = 512;
+
+/// The largest data room of a buffer, in bytes.
+pub const LARGEST_ROOM: u32 = 4_096;
+
+/// The largest ring or transmit list.
+pub const LARGEST_RING: u32 = 65_536;
+
+/// The most segments of a packet.
+pub const MOST_SEGMENTS: u8 = 64;
+
+/// The headroom of a new or received packet, in bytes.
+pub const DEFAULT_HEADROOM: u16 = 128;
+
+/// The least data room that a port receives into: the headroom, and a byte.
+pub const LEAST_PORT_ROOM: u32 = 129;
+
+/// The largest hop of a route.
+pub const LARGEST_HOP: u32 = 16_777_215;
