@@ -17,4 +17,6 @@ mod programs;
 #[cfg(test)]
 mod refusals;
 #[cfg(test)]
+mod rows;
+#[cfg(test)]
 mod texts;

@@ -10,6 +10,7 @@ ghost use Rattle.dp_cert.specs.declared.cert.Version.{Version};
 ghost use Rattle.dp_check.specs.Faults.{question, later_fault};
 ghost use Rattle.dp_check.specs.Diagnoses.{rule_of, Explains, IsDiagnosis, SaysOfWhole};
 
+use crate::entailing::entails;
 use crate::gap::gap;
 use crate::reason::Reason;
 use crate::shortfall::reason_in;
@@ -37,7 +38,7 @@ fn entry_reason(program: &[Instr], rows: &[Row], env: &Env, entry: Entry) -> Opt
     let Some(row) = env.entry_row(entry) else {
         return Some(Reason::NoEntry);
     };
-    if row.entails(&rows[0]) {
+    if entails(&row, &rows[0]) {
         None
     } else {
         Some(Reason::EntryRow(gap(&row, &rows[0])))

@@ -7,6 +7,7 @@ ghost use Rattle.dp_model.specs.Rows.{entails, entails_fact};
 ghost use Rattle.std.specs.Option.{option_map_or};
 ghost use Rattle.dp_check.specs.Diagnoses.{Is, IsGap, SomeOf};
 
+use crate::entailing::fact_entails;
 use crate::reason::Gap;
 use dp_model::{Fact, NumberRegister, PacketRegister, Row};
 
@@ -17,7 +18,7 @@ fn fact_gap(facts: &[Fact; 8], others: &[Fact; 8]) -> Option<PacketRegister>
     ensures some { IfSome result (λ p. Is (slice_get facts.now p) (λ known. Is (slice_get others.now p) (λ wanted. entails_fact known wanted ≡ false))) }
 {
     for i in 0..8 {
-        if !facts[i].entails(others[i]) {
+        if !fact_entails(facts[i], others[i]) {
             return Some(PacketRegister::new(i as u8));
         }
     }

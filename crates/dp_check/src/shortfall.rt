@@ -5,20 +5,22 @@ ghost use Rattle.std.specs.List.{list_all};
 ghost use Rattle.std.specs.Option.{option_map};
 ghost use Rattle.dp_model.specs.declared.env.Entry.{Entry};
 ghost use Rattle.dp_model.specs.declared.rule.Rule.TheVariants.{J3, J5, J6, J7, J8, J9, J10};
-ghost use Rattle.dp_model.specs.Rows.{entails, is_empty, is_well_formed_row, listed};
+ghost use Rattle.dp_model.specs.Rows.{entails, is_empty, is_well_formed_row};
 ghost use Rattle.dp_model.specs.Rules.{Question, places_exist, is_held, uses, targets_fit, bytes_fit, share_fits, segments_fit, may_leave, may_end};
 ghost use Rattle.dp_model.specs.Rules.{row_passes, holds_at, later_rules};
 ghost use Rattle.dp_cert.specs.declared.cert.Version.{Version};
 ghost use Rattle.dp_check.specs.Faults.{question};
+ghost use Rattle.dp_check.specs.Leads.{listed};
 ghost use Rattle.dp_check.specs.Diagnoses.{Is, IsUnmet, Says, SomeOf, measured, measured_at, rule_of, segs_in};
 
+use crate::after::{Leads, leads_of};
 use crate::gap::gap;
 use crate::reason::{Measure, Reason};
 use crate::rules::{
     all_entailed, all_exist, bytes_fit, is_entailed, is_held, may_end, may_leave, places_exist,
     segments_fit, share_fits, targets_fit, uses_held,
 };
-use dp_model::{Env, Fact, Instr, Lead, Leads, PacketRegister, Row};
+use dp_model::{Env, Fact, Instr, Lead, PacketRegister, Row};
 
 /// The pool, the table or the ring that is not there.
 fn missing_place(env: &Env, instr: Instr) -> Reason
@@ -355,13 +357,13 @@ pub(crate) fn reason_in(
     ensures says { (version : Version) (entry : Entry) → IfSome result
         (Says (question program.now (record { version = version; rows = rows.now }) env.now entry) label instr.now row.now) }
 {
-    let leads = (*instr).leads(env, label, row);
+    let ways = leads_of(*instr, env, label, row);
     let count = program.len();
     if !places_exist(env, *instr) {
         return Some(missing_place(env, *instr));
     }
-    if !all_exist(&leads, count) {
-        let to = label_behind(&leads, count);
+    if !all_exist(&ways, count) {
+        let to = label_behind(&ways, count);
         return Some(Reason::NoInstruction { to, known: count });
     }
     if !uses_held(row, *instr) {
@@ -386,8 +388,8 @@ pub(crate) fn reason_in(
     if !may_end(row, *instr) {
         return Some(unfit_end(row, *instr));
     }
-    if !all_entailed(rows, &leads) {
-        return Some(unmet_lead(rows, &leads, count));
+    if !all_entailed(rows, &ways) {
+        return Some(unmet_lead(rows, &ways, count));
     }
     None
 }

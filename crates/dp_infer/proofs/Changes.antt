@@ -17,7 +17,8 @@ use Rattle.dp_model.specs.Laws.Groups.{fact_at, changed_is, belongs_at, belongs_
 use Rattle.dp_model.specs.Laws.Groups.{other_group, sole_no_group, loose_no_group, left_name}
 use Rattle.dp_infer.proofs.Stronger.{StrongerFact, AtMost, zip_length}
 use Rattle.std.proofs.Common.{◌+◌, length, min}
-use Rattle.dp_model.specs.Rows.{is_empty, shared, twin, twin_share, joins, Holding, holding, held, held_at, with_fact, emptied, changed, owns_head}
+use Rattle.dp_model.specs.declared.row.Holding.{Holding}
+use Rattle.dp_model.specs.Rows.{is_empty, shared, twin, twin_share, joins, holding, held, held_at, with_fact, emptied, changed, owns_head}
 use Rattle.dp_model.specs.Rows.{chained_share, entails_share, after_chain, group_at, with_shares, renamed, dissolved, after_free, after_leave, after_chained}
 use Rattle.dp_model.specs.Rows.{after_clone, if_single, is_fact_of_row, is_well_formed_row}
 use Rattle.dp_model.specs.Rules.{is_empty_at}

@@ -6,7 +6,8 @@ use Rattle.std.proofs.lemmas.Bool.{leb-true, le-leb, and_parts}
 use Rattle.dp_model.specs.declared.row.Fact.{Fact}
 use Rattle.dp_model.specs.declared.row.Fact.TheVariants.{Empty, Held}
 use Rattle.dp_model.specs.declared.row.Row.{Row}
-use Rattle.dp_model.specs.Rows.{entails_share, owns_head, is_fact_of_row, is_well_formed_row}
+use Rattle.dp_model.specs.declared.row.Holding.{Holding}
+use Rattle.dp_model.specs.Rows.{holding, held, entails_share, owns_head, is_fact_of_row, is_well_formed_row}
 use Rattle.dp_model.specs.Groups.{group_of, is_in, is_group, size, same_registers, belongs, share_of_group, are_groups}
 use Rattle.std.proofs.Common.{zero, suc, ◌+◌, ◌-◌, ◌≤◌, cond, ap, sym, ◌∙◌, subst, map, length, ⊎_elim}
 use Rattle.std.specs.Prelude.{◌==◌}
@@ -382,3 +383,22 @@ met_well_formed there row = go there.live refl
     go : (b : Bool) → there.live ≡ b → is_well_formed_row (met there row) ≡ true
     go true e = rw e (joined_well_formed there row)
     go false e = rw e (joined_well_formed row row)
+
+-- ---- of what is known of two packets
+
+pub left_empty : (fact other : Fact) → holding fact ≡ None → Empty ≡ joined_fact fact other
+left_empty Empty other e = refl
+left_empty (Held a b c d x y) other e = cc
+
+pub right_empty : (fact other : Fact) → holding other ≡ None → Empty ≡ joined_fact fact other
+right_empty Empty Empty e = refl
+right_empty (Held a b c d x y) Empty e = refl
+right_empty fact (Held a b c d x y) e = cc
+
+fact_held : (fact : Fact) (h : Holding) → holding fact ≡ Some h → held h ≡ fact
+fact_held Empty h e = cc
+fact_held (Held a b c d x y) h e = ap (λ o. option_map_or held o Empty) (sym e)
+
+pub both_held : (fact other : Fact) (h k r : Holding) → holding fact ≡ Some h → holding other ≡ Some k → held r ≡ joined_fact (held h) (held k) →
+    held r ≡ joined_fact fact other
+both_held fact other h k r e f is = is ∙ (ap (λ x. joined_fact x (held k)) (fact_held fact h e) ∙ ap (λ x. joined_fact fact x) (fact_held other k f))

@@ -7,7 +7,8 @@ use Rattle.std.proofs.lemmas.Bool.{leb-true, le-leb, and_parts}
 use Rattle.dp_model.specs.declared.row.Fact.{Fact}
 use Rattle.dp_model.specs.declared.row.Fact.TheVariants.{Empty, Held}
 use Rattle.dp_model.specs.declared.row.Row.{Row}
-use Rattle.dp_model.specs.Rows.{Holding, held_at, is_empty}
+use Rattle.dp_model.specs.declared.row.Holding.{Holding}
+use Rattle.dp_model.specs.Rows.{held_at, is_empty}
 use Rattle.dp_model.specs.Rules.{holds_with, is_held, is_empty_at}
 use Rattle.dp_infer.proofs.Stronger.{StrongerHolding, StrongerOption, StrongerFact, Stronger, both_are}
 use Rattle.dp_infer.proofs.Registers.{held_both}

@@ -7,7 +7,7 @@ use Rattle.std.specs.Option.{option_map_or}
 use Rattle.std.proofs.lemmas.Bool.{le-leb, ltb-true, and_parts}
 use Rattle.std.proofs.lemmas.List.{length-set}
 use Rattle.dp_model.specs.declared.row.Row.{Row}
-use Rattle.dp_model.specs.declared.after.Lead.{Lead}
+use Rattle.dp_model.specs.declared.row.Lead.{Lead}
 use Rattle.dp_model.specs.Rows.{entails, is_well_formed_row}
 use Rattle.dp_model.specs.Rules.{Question, row_passes}
 use Rattle.dp_infer.specs.Joins.{joined, met, reached, passed_on}

@@ -2,14 +2,15 @@
 use Rattle.std.proofs.Common.{◌≡◌, true, ℕ, ◌+◌, ◌-◌, ◌*◌, ◌^◌, ◌≤◌, min, max, refl, arith}
 use Rattle.std.specs.List.{AllZip}
 use Rattle.dp_model.specs.declared.row.Row.{Row}
-use Rattle.dp_model.specs.declared.after.Lead.{Lead}
+use Rattle.dp_model.specs.declared.row.Lead.{Lead}
 use Rattle.dp_model.specs.declared.registers.Operand.TheVariants.{Register}
 use Rattle.dp_model.specs.declared.instr.Instr.{Instr}
 use Rattle.dp_model.specs.declared.instr.Instr.TheVariants.{Alloc, Free, Clone, Prepend, Adj, Append, Trim, Chain, IfHead, IfTail, IfLen, IfLast, Load, Store}
 use Rattle.dp_model.specs.declared.instr.Instr.TheVariants.{LoadX, StoreX, Set, Mov, Add, Sub, And, Or, Xor, Shl, Shr, Jmp, Jeq, Jlt, Lookup, Tx, Enq, Exit}
 use Rattle.dp_model.specs.Arithmetic.{greatest, bytes_in}
 use Rattle.dp_model.specs.Environments.{Environment, room_at}
-use Rattle.dp_model.specs.Rows.{Holding, holding, bound, with_fact, with_bound, changed, after_clone, after_prepend, after_adj, after_append, after_trim}
+use Rattle.dp_model.specs.declared.row.Holding.{Holding}
+use Rattle.dp_model.specs.Rows.{holding, bound, with_fact, with_bound, changed, after_clone, after_prepend, after_adj, after_append, after_trim}
 use Rattle.dp_model.specs.Rows.{after_alloc, onward, fork, leads}
 use Rattle.dp_infer.proofs.Stronger.{StrongerHolding, Stronger, holding_same}
 use Rattle.dp_infer.proofs.Registers.{bound_at, bound_set, fact_set}

@@ -7,13 +7,14 @@ use Rattle.std.proofs.Math.Bool.{or-true}
 use Rattle.std.proofs.lemmas.Bool.{leb-true, le-leb, and_parts, eq-eqb}
 use Rattle.dp_model.specs.declared.row.Fact.{Fact}
 use Rattle.dp_model.specs.declared.row.Row.{Row}
-use Rattle.dp_model.specs.declared.after.Lead.{Lead}
+use Rattle.dp_model.specs.declared.row.Lead.{Lead}
 use Rattle.dp_model.specs.declared.registers.Operand.TheVariants.{Register}
 use Rattle.dp_model.specs.declared.instr.Instr.{Instr}
 use Rattle.dp_model.specs.declared.instr.Instr.TheVariants.{Alloc, Clone, Prepend, Adj, Append, Trim, Chain, Load, Store, LoadX, StoreX, Tx, Enq, Exit}
 use Rattle.dp_model.specs.Arithmetic.{bytes_in}
 use Rattle.dp_model.specs.Environments.{Environment}
-use Rattle.dp_model.specs.Rows.{Holding, holding, held_at, bound, entails_option, fact_of_ring}
+use Rattle.dp_model.specs.declared.row.Holding.{Holding}
+use Rattle.dp_model.specs.Rows.{holding, held_at, bound, entails_option, fact_of_ring}
 use Rattle.dp_model.specs.Rules.{holds_with, targets_fit, bytes_fit, share_fits, segments_fit, may_leave, may_end}
 use Rattle.dp_infer.proofs.Sharing.{sole_more, owns_more}
 use Rattle.std.proofs.Common.{⊎_elim}

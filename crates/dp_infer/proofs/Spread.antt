@@ -7,7 +7,7 @@ use Rattle.std.specs.Option.{option_map_or}
 use Rattle.std.proofs.lemmas.Bool.{and_parts, cases_lt}
 use Rattle.std.proofs.lemmas.Option.{slice_get_within}
 use Rattle.dp_model.specs.declared.row.Row.{Row}
-use Rattle.dp_model.specs.declared.after.Lead.{Lead}
+use Rattle.dp_model.specs.declared.row.Lead.{Lead}
 use Rattle.dp_model.specs.declared.instr.Instr.{Instr}
 use Rattle.dp_model.specs.Jumps.{IsForward}
 use Rattle.dp_model.specs.Rows.{entails, leads, entry_row, is_well_formed_row}

@@ -7,7 +7,8 @@ use Rattle.dp_model.specs.declared.row.Fact.{Fact}
 use Rattle.dp_model.specs.declared.row.Row.{Row}
 use Rattle.dp_model.specs.Groups.{keeps_groups}
 use Rattle.dp_infer.proofs.Sharing.{KeepsGroups, keeps_from, keeps_test, keeps_same, keeps_further, share_same, share_further}
-use Rattle.dp_model.specs.Rows.{Holding, holding, entails_share, entails_holding, entails_option, entails_fact, at_each_place, entails}
+use Rattle.dp_model.specs.declared.row.Holding.{Holding}
+use Rattle.dp_model.specs.Rows.{holding, entails_share, entails_holding, entails_option, entails_fact, at_each_place, entails}
 
 -- the first promises at least what the second does
 pub record StrongerHolding (a b : Holding) : Type 0 where

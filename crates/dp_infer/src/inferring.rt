@@ -10,7 +10,7 @@ ghost use Rattle.dp_infer.specs.Inference.{Certifies, HasNone, SaysMost, IsWitho
 use crate::join::{joined, pass_on};
 use crate::settling::settle;
 use dp_cert::Cert;
-use dp_check::fault_of;
+use dp_check::{fault_of, leads_of};
 use dp_lang::Program;
 use dp_model::{Entry, Env, Fact, Instr, Row};
 use std::alloc::{AllocError, Global};
@@ -71,7 +71,7 @@ fn pass_from(rows: &mut [Row], env: &Env, label: u16, instr: &Instr)
 {
     let row = rows[label as usize];
     if row.live {
-        let leads = (*instr).leads(env, label, &row);
+        let leads = leads_of(*instr, env, label, &row);
         pass_on(rows, label, &leads);
     }
 }

@@ -1,23 +1,18 @@
 //! What is known at a label where control comes from several places.
 
 ghost use Rattle.std.specs.Prelude.{◌≡◌, max};
-ghost use Rattle.dp_model.specs.Rows.{listed, owns_head};
+ghost use Rattle.dp_model.specs.Rows.{held, owns_head};
+ghost use Rattle.dp_check.specs.Leads.{listed};
 ghost use Rattle.dp_infer.specs.Joins as spec;
 
-use dp_model::{Fact, Lead, Leads, Row};
+use dp_check::{Leads, owns_head, reshared, shares_group};
+use dp_model::{Fact, Holding, Lead, Row};
 
 /// Whether a fact of a row can have the share.
 fn is_share(share: u8) -> bool
     ensures { result ≡ spec.is_share share }
 {
     share <= 2 || (share >= 8 && share <= 15)
-}
-
-/// Whether the first segment's buffer has one reference.
-fn owns_head(share: u8) -> bool
-    ensures { result ≡ owns_head share }
-{
-    share == 1 || share == 2
 }
 
 /// The share that two have in common.
@@ -33,36 +28,30 @@ fn joined_share(share: u8, other: u8) -> u8
     }
 }
 
+/// What is known of both packets: the lesser promise of each, and the greater number of segments.
+fn joined_holding(h: Holding, with: Holding) -> Holding
+    ensures { held result ≡ spec.joined_fact (held h) (held with) }
+{
+    Holding {
+        share: joined_share(h.share, with.share),
+        head: h.head.min(with.head),
+        tail: h.tail.min(with.tail),
+        first: h.first.min(with.first),
+        last: h.last.min(with.last),
+        segs: h.segs.max(with.segs).max(1).min(64),
+    }
+}
+
 /// What two facts have in common: the lesser promise of each, and the greater number of segments.
+#[tactic(auto, using(crate::proofs::JoinLaws::left_empty, crate::proofs::JoinLaws::right_empty, crate::proofs::JoinLaws::both_held))]
 fn joined_fact(fact: Fact, other: Fact) -> Fact
     ensures { result ≡ spec.joined_fact fact other }
 {
-    match fact {
-        Fact::Empty => Fact::Empty,
-        Fact::Held {
-            share,
-            head,
-            tail,
-            first,
-            last,
-            segs,
-        } => match other {
-            Fact::Empty => Fact::Empty,
-            Fact::Held {
-                share: s,
-                head: h,
-                tail: t,
-                first: f,
-                last: l,
-                segs: n,
-            } => Fact::Held {
-                share: joined_share(share, s),
-                head: head.min(h),
-                tail: tail.min(t),
-                first: first.min(f),
-                last: last.min(l),
-                segs: segs.max(n).max(1).min(64),
-            },
+    match fact.holding() {
+        None => Fact::Empty,
+        Some(h) => match other.holding() {
+            None => Fact::Empty,
+            Some(with) => Fact::from(joined_holding(h, with)),
         },
     }
 }
@@ -84,10 +73,10 @@ fn common_fact(row: &Row, other: &Row, fact: Fact) -> Fact
 {
     match fact.group() {
         Some(group) => {
-            if row.shares_group(other, group) {
+            if shares_group(row, other, group) {
                 fact
             } else {
-                fact.reshared(group, 0)
+                reshared(fact, group, 0)
             }
         }
         None => fact,

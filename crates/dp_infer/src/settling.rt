@@ -6,7 +6,8 @@ ghost use Rattle.std.specs.List.{list_all};
 ghost use Rattle.dp_model.specs.Rows.{is_well_formed_row};
 
 use crate::join::{joined, met};
-use dp_model::{Env, Fact, Instr, Lead, Leads, Operand, Row};
+use dp_check::{Leads, leads_of};
+use dp_model::{Env, Fact, Holding, Instr, Lead, Operand, Row};
 
 /// So many passes go from constant to constant.
 const SLOW_PASSES: u32 = 64;
@@ -94,32 +95,18 @@ fn lowered(program: &[Instr], before: u16, now: u16, slow: bool) -> u16 {
 
 /// What is left of a fact that may say less than before.
 fn lowered_fact(program: &[Instr], before: Fact, now: Fact, slow: bool) -> Fact {
-    match before {
-        Fact::Empty => now,
-        Fact::Held {
-            share: _,
-            head: h,
-            tail: t,
-            first: f,
-            last: l,
-            segs: n,
-        } => match now {
-            Fact::Empty => now,
-            Fact::Held {
-                share,
-                head,
-                tail,
-                first,
-                last,
-                segs,
-            } => Fact::Held {
-                share,
-                head: lowered(program, h, head, slow),
-                tail: lowered(program, t, tail, slow),
-                first: lowered(program, f, first, slow),
-                last: lowered(program, l, last, slow),
-                segs: if segs <= n { segs } else { 64 },
-            },
+    match before.holding() {
+        None => now,
+        Some(was) => match now.holding() {
+            None => now,
+            Some(h) => Fact::from(Holding {
+                head: lowered(program, was.head, h.head, slow),
+                tail: lowered(program, was.tail, h.tail, slow),
+                first: lowered(program, was.first, h.first, slow),
+                last: lowered(program, was.last, h.last, slow),
+                segs: if h.segs <= was.segs { h.segs } else { 64 },
+                ..h
+            }),
         },
     }
 }
@@ -190,7 +177,7 @@ fn pass_again(rows: &mut [Row], program: &[Instr], env: &Env, label: u16, slow: 
         return false;
     }
     let instr = program[label as usize];
-    match instr.leads(env, label, &row) {
+    match leads_of(instr, env, label, &row) {
         Leads::Ends => false,
         Leads::One(lead) => reach_again(rows, program, label, &lead, slow),
         Leads::Two(lead, other) => {

@@ -20,7 +20,6 @@ pub mod Owned
 pub mod OwnedSteps
 pub mod PacketSteps
 pub mod Refs
-pub mod RowLemmas
 pub mod RunEnds
 pub mod SafeRuns
 pub mod SafeTurns

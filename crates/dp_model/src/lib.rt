@@ -2,7 +2,6 @@
 // and the environments of programs.
 #![tactic(auto)]
 
-mod after;
 mod env;
 mod instr;
 mod laws;
@@ -13,7 +12,6 @@ mod row;
 mod rule;
 mod words;
 
-pub use after::{Lead, Leads};
 pub use env::{Entry, Env, EnvError, PoolSpec, PortSpec, RingSpec};
 pub use instr::Instr;
 pub use laws::{
@@ -26,7 +24,7 @@ pub use limits::{
     MOST_CACHED, MOST_SEGMENTS,
 };
 pub use registers::{NumberRegister, Operand, PacketRegister, Width};
-pub use row::{Fact, Row};
+pub use row::{Fact, Holding, Lead, Row};
 pub use rule::Rule;
 pub use words::{
     budgets_are_as_they_read, layers_stay_well_formed, longest_prefixes_agree,

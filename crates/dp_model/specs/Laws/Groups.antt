@@ -13,7 +13,8 @@ use Rattle.std.proofs.lemmas.List.Quantifiers.{position-Some}
 use Rattle.dp_model.specs.declared.row.Fact.{Fact}
 use Rattle.dp_model.specs.declared.row.Fact.TheVariants.{Empty, Held}
 use Rattle.dp_model.specs.declared.row.Row.{Row}
-use Rattle.dp_model.specs.Rows.{Holding, holding, group_at, with_shares, dissolved, is_well_formed_row, is_fact_of_row, held, held_at, with_fact, changed}
+use Rattle.dp_model.specs.declared.row.Holding.{Holding}
+use Rattle.dp_model.specs.Rows.{holding, group_at, with_shares, dissolved, is_well_formed_row, is_fact_of_row, held, held_at, with_fact, changed}
 use Rattle.dp_model.specs.Rows.{emptied}
 use Rattle.dp_model.specs.Groups.{group_of, is_in, size, share_of_group, belongs, reshared_fact, reshared, same_registers, least, is_group, are_groups}
 use Rattle.dp_model.specs.Laws.Lists.{get_set_other, get_set_same, all_at}

@@ -6,7 +6,8 @@ use Rattle.std.proofs.lemmas.Option.{same_Some}
 use Rattle.dp_model.specs.declared.env.PoolSpec.{PoolSpec}
 use Rattle.dp_model.specs.declared.env.RingSpec.{RingSpec}
 use Rattle.dp_model.specs.Packets.{Segment, Packet, refs}
-use Rattle.dp_model.specs.Rows.{Holding, holding}
+use Rattle.dp_model.specs.declared.row.Holding.{Holding}
+use Rattle.dp_model.specs.Rows.{holding}
 use Rattle.dp_model.specs.Machine.{live, segments_listed}
 use Rattle.dp_model.specs.Meaning.{Meets, Describes, RingHolds}
 use Rattle.dp_model.specs.Runs.{Waiting, behind, first_waiting}

@@ -1,6 +1,5 @@
 -- Label by label.
-use Rattle.std.proofs.Common.{◌≡◌, true, None, length, ap, sym, ◌∙◌, arith}
-use Rattle.dp_model.specs.Rules.{begins_well}
+use Rattle.std.proofs.Common.{None, length, ap, arith}
 use Rattle.dp_check.specs.Faults.{question}
 use Rattle.dp_check.proofs.RuleLemmas.{begins_with, fault_with, one_more, none_left}
 use Rattle.dp_check.proofs.checked.first_fault.Goals as goal

@@ -1,0 +1,225 @@
+//! What is known of the packet in a register, and how an instruction on one packet changes it.
+
+ghost use Rattle.std.specs.Prelude.{◌≡◌, ◌≤◌, IsTrue, max};
+ghost use Rattle.std.specs.List.{list_all};
+ghost use Rattle.dp_model.specs.Facts.{is_fact_of_row};
+ghost use Rattle.dp_model.specs.Rows.{held, held_at, with_fact, emptied, changed, after_prepend, after_adj, after_append, after_trim};
+ghost use Rattle.dp_model.specs.Rows.{shared, owns_head, chained_share, after_chain, chained, after_alloc};
+
+use dp_model::{Fact, Holding, PacketRegister, Row};
+
+/// What a row says of the packet in a register, if there is one.
+pub(crate) fn held_at(row: &Row, packet: PacketRegister) -> Option<Holding>
+    ensures { result ≡ held_at row.now packet }
+{
+    row.fact(packet).holding()
+}
+
+/// With another fact of the register.
+fn with_fact(row: &Row, packet: PacketRegister, fact: Fact) -> Row
+    ensures { result ≡ with_fact row.now packet fact }
+{
+    let mut changed = *row;
+    changed.facts[packet.number() as usize] = fact;
+    changed
+}
+
+/// With that known of the register's packet.
+pub(crate) fn with_held(row: &Row, packet: PacketRegister, holding: Holding) -> Row
+    ensures { result ≡ with_fact row.now packet (held holding) }
+{
+    with_fact(row, packet, Fact::from(holding))
+}
+
+/// With the register empty.
+pub(crate) fn emptied(row: &Row, packet: PacketRegister) -> Row
+    ensures { result ≡ emptied row.now packet }
+{
+    with_fact(row, packet, Fact::Empty)
+}
+
+/// After so many bytes before the first segment.
+pub(crate) fn prepended(row: &Row, packet: PacketRegister, count: u16) -> Row
+    ensures { result ≡ changed row.now packet (after_prepend count) }
+{
+    let Some(h) = held_at(row, packet) else {
+        return *row;
+    };
+    let after = Holding {
+        head: h.head.saturating_sub(count),
+        first: h.first.saturating_add(count),
+        last: h.last.saturating_add(if h.segs == 1 { count } else { 0 }),
+        ..h
+    };
+    with_held(row, packet, after)
+}
+
+/// After a cut of so many bytes in front.
+pub(crate) fn cut_in_front(row: &Row, packet: PacketRegister, count: u16) -> Row
+    ensures { result ≡ changed row.now packet (after_adj count) }
+{
+    let Some(h) = held_at(row, packet) else {
+        return *row;
+    };
+    let after = Holding {
+        head: h.head.saturating_add(count),
+        first: h.first.saturating_sub(count),
+        last: h.last.saturating_sub(count),
+        ..h
+    };
+    with_held(row, packet, after)
+}
+
+/// After so many bytes behind the last segment.
+pub(crate) fn appended(row: &Row, packet: PacketRegister, count: u16) -> Row
+    ensures { result ≡ changed row.now packet (after_append count) }
+{
+    let Some(h) = held_at(row, packet) else {
+        return *row;
+    };
+    let after = Holding {
+        tail: h.tail.saturating_sub(count),
+        first: h.first.saturating_add(if h.segs == 1 { count } else { 0 }),
+        last: h.last.saturating_add(count),
+        ..h
+    };
+    with_held(row, packet, after)
+}
+
+/// After a cut of so many bytes behind.
+pub(crate) fn cut_behind(row: &Row, packet: PacketRegister, count: u16) -> Row
+    ensures { result ≡ changed row.now packet (after_trim count) }
+{
+    let Some(h) = held_at(row, packet) else {
+        return *row;
+    };
+    let after = Holding {
+        tail: h.tail.saturating_add(count),
+        first: h.first.saturating_sub(count),
+        last: h.last.saturating_sub(count),
+        ..h
+    };
+    with_held(row, packet, after)
+}
+
+/// Where the headroom is at least that.
+pub(crate) fn with_head(row: &Row, packet: PacketRegister, least: u16) -> Row
+    ensures { result ≡ changed row.now packet (λ h. record h { head = max h.head least }) }
+{
+    let Some(h) = held_at(row, packet) else {
+        return *row;
+    };
+    let head = h.head.max(least);
+    with_held(row, packet, Holding { head, ..h })
+}
+
+/// Where the tailroom is at least that.
+pub(crate) fn with_tail(row: &Row, packet: PacketRegister, least: u16) -> Row
+    ensures { result ≡ changed row.now packet (λ h. record h { tail = max h.tail least }) }
+{
+    let Some(h) = held_at(row, packet) else {
+        return *row;
+    };
+    let tail = h.tail.max(least);
+    with_held(row, packet, Holding { tail, ..h })
+}
+
+/// Where the first length is at least that.
+pub(crate) fn with_first(row: &Row, packet: PacketRegister, least: u16) -> Row
+    ensures { result ≡ changed row.now packet (λ h. record h { first = max h.first least }) }
+{
+    let Some(h) = held_at(row, packet) else {
+        return *row;
+    };
+    let first = h.first.max(least);
+    with_held(row, packet, Holding { first, ..h })
+}
+
+/// Where the last length is at least that.
+pub(crate) fn with_last(row: &Row, packet: PacketRegister, least: u16) -> Row
+    ensures { result ≡ changed row.now packet (λ h. record h { last = max h.last least }) }
+{
+    let Some(h) = held_at(row, packet) else {
+        return *row;
+    };
+    let last = h.last.max(least);
+    with_held(row, packet, Holding { last, ..h })
+}
+
+/// With another share of the register's packet.
+pub(crate) fn with_share(row: &Row, packet: PacketRegister, share: u8) -> Row
+    ensures { result ≡ changed row.now packet (shared share) }
+{
+    let Some(h) = held_at(row, packet) else {
+        return *row;
+    };
+    with_held(row, packet, Holding { share, ..h })
+}
+
+/// With a new packet in the register, of a pool with this room.
+pub(crate) fn allocated(row: &Row, packet: PacketRegister, room: u16) -> Row
+    ensures { result ≡ with_fact row.now packet (after_alloc room) }
+{
+    let head = room.min(128);
+    let new = Holding {
+        share: 2,
+        head,
+        tail: room - head,
+        first: 0,
+        last: 0,
+        segs: 1,
+    };
+    with_held(row, packet, new)
+}
+
+/// Whether the first segment's buffer has one reference.
+pub fn owns_head(share: u8) -> bool
+    ensures { result ≡ owns_head share }
+{
+    share == 1 || share == 2
+}
+
+/// The share of two packets that are chained.
+fn chained_share(front: u8, back: u8) -> u8
+    ensures { result ≡ chained_share front back }
+{
+    if front == 2 && back == 2 {
+        2
+    } else if owns_head(front) {
+        1
+    } else {
+        0
+    }
+}
+
+/// With these segments behind those of the register's packet.
+#[tactic(auto, using(crate::proofs::RowLemmas::few_segs))]
+fn with_behind(row: &Row, packet: PacketRegister, behind: Holding) -> Row
+    requires in_range { IsTrue (list_all is_fact_of_row row.now.facts) }
+    requires few { behind.segs ≤ 64 }
+    ensures { result ≡ changed row.now packet (λ h. after_chain h behind) }
+{
+    let Some(h) = held_at(row, packet) else {
+        return *row;
+    };
+    let after = Holding {
+        share: chained_share(h.share, behind.share),
+        tail: behind.tail,
+        last: behind.last,
+        segs: h.segs + behind.segs,
+        ..h
+    };
+    with_held(row, packet, after)
+}
+
+/// With the second packet's segments behind the first's, where neither belongs to a group.
+#[tactic(auto, using(crate::proofs::RowLemmas::few_segs))]
+pub(crate) fn joined(row: &Row, front: PacketRegister, back: PacketRegister) -> Row
+    requires { IsTrue (list_all is_fact_of_row row.now.facts) }
+    ensures { result ≡ chained row.now front back }
+{
+    let Some(behind) = held_at(row, back) else {
+        return *row;
+    };
+    emptied(&with_behind(row, front, behind), back)
+}
