@@ -16,8 +16,7 @@ use Rattle.dp_model.specs.Jumps.{IsForward}
 use Rattle.dp_model.specs.Rows.{entails, leads, entry_row, is_well_formed_row}
 use Rattle.dp_model.specs.Rules.{Question, row_passes, holds, holds_at, uses, places_exist, later_rules, IsAccepted, IsRefused}
 use Rattle.dp_cert.specs.Spelling.{Certificate, certificate_of}
-use Rattle.dp_check.specs.Faults.{question}
-use Rattle.dp_cert.specs.Spelling.{Certificate}
+use Rattle.dp_check.specs.Faults.{question, IsChecked, IsRefusedWith}
 use Rattle.dp_infer.specs.Joins.{joined, dead_row, begun, found_rows}
 use Rattle.dp_infer.specs.Inference.{Certifies, HasNone, SaysMost, IsWithout}
 use Rattle.dp_infer.specs.declared.inferring.InferError.{InferError}
@@ -178,6 +177,25 @@ pub most_anyway : (program : List Instr) (env : Environment) (entry : Entry) (re
     IfOk result (λ cert. SaysMost program env entry cert.rows)
 most_anyway program env entry (Ok cert) is never = λ forward. absurd (never forward cert.rows is)
 most_anyway program env entry (Err e) is never = tt
+
+-- where what is found is refused, a forward program is accepted with no rows
+pub none_refused : (program : List Instr) (env : Environment) (entry : Entry) (cert : Certificate) (label number : ℕ) → 1 ≤ length program →
+    cert ≡ certificate_of (found_rows program env entry) → IsRefusedWith (question program cert env entry) label number → HasNone program env entry
+none_refused program env entry cert label number some e (rule, same, refused) = none_of program env entry cert label rule some e refused
+
+pub none_checked : (program : List Instr) (env : Environment) (entry : Entry) (result : Result Question InferError) → HasNone program env entry →
+    IfErr result (λ e. IsWithout program env entry e)
+none_checked program env entry (Ok q) never = tt
+none_checked program env entry (Err Memory) never = tt
+none_checked program env entry (Err (NoCert label rule)) never = never
+
+pub most_checked : (program back : List Instr) (env : Environment) (entry : Entry) (result : Result Question InferError) → back ≡ program →
+    IfOk result (λ q. q ≡ question back (certificate_of q.rows) env entry) → IfOk result (λ q. IsChecked q) → HasNone program env entry →
+    IfOk result (λ q. SaysMost program env entry q.rows)
+most_checked program back env entry (Ok q) same is checked never =
+    let asked : q ≡ question program (certificate_of q.rows) env entry = is ∙ ap (λ (p : List Instr). question p (certificate_of q.rows) env entry) same in
+    λ forward. absurd (never forward q.rows (checked.well_formed, subst (λ (q : Question). IsAccepted q) asked checked.accepted))
+most_checked program back env entry (Err e) same is checked never = tt
 
 begun_long : (entry : Option Row) (n : ℕ) → length (begun entry n) ≡ n
 begun_long None n = dead_long n

@@ -3,14 +3,15 @@
 ghost use Rattle.std.specs.Prelude.{◌≡◌, ◌⊎◌, ◌<◌, ◌≤◌, length, IsTrue, IfOk, IfErr};
 ghost use Rattle.std.specs.List.{list_all};
 ghost use Rattle.dp_model.specs.Rows.{is_well_formed_row};
-ghost use Rattle.dp_cert.specs.Spelling.{version_for};
+ghost use Rattle.dp_cert.specs.Spelling.{version_for, certificate_of};
+ghost use Rattle.dp_check.specs.Faults.{question, IsChecked};
 ghost use Rattle.dp_infer.specs.Joins as spec;
 ghost use Rattle.dp_infer.specs.Inference.{Certifies, HasNone, SaysMost, IsWithout};
 
 use crate::join::{joined, pass_on};
 use crate::settling::settle;
 use dp_cert::Cert;
-use dp_check::{fault_of, leads_of};
+use dp_check::{Checked, Refused, check, fault_of, leads_of};
 use dp_lang::Program;
 use dp_model::{Entry, Env, Fact, Instr, Row};
 use std::alloc::{AllocError, Global};
@@ -107,6 +108,16 @@ fn found_rows(
     Ok(rows)
 }
 
+/// The rows that say most, as a certificate.
+fn found(alloc: Global, program: &Program, env: &Env, entry: Entry) -> Result<Cert, AllocError>
+    ensures some { 1 ≤ length program.now }
+    ensures told { IfOk result (λ cert. cert ≡ certificate_of (spec.found_rows program.now env.now entry)) }
+    ensures well_formed { IfOk result (λ cert. IsTrue (list_all is_well_formed_row cert.rows)) }
+    ensures version { IfOk result (λ cert. cert.version ≡ version_for cert.rows) }
+{
+    Ok(Cert::new(found_rows(alloc, program.instrs(), env, entry)?))
+}
+
 /// The rows of a program that comes back to labels, weakened until they stay.
 fn settled_rows(
     alloc: Global,
@@ -154,10 +165,59 @@ pub fn infer(alloc: Global, program: &Program, env: &Env, entry: Entry) -> Resul
     // There is none for a forward program where none is answered, unless memory ran out.
     ensures none { IfErr result (λ e. IsWithout program.now env.now entry e) }
 {
-    let cert = Cert::new(found_rows(alloc, program.instrs(), env, entry)?);
+    let cert = found(alloc, program, env, entry)?;
     match fault_of(program, &cert, env, entry) {
         Some(_) => settled(alloc, program, env, entry),
         None => Ok(cert),
+    }
+}
+
+/// A program that comes back to labels, checked with the rows that are found, if they serve.
+fn settled_checked(
+    alloc: Global,
+    program: Program,
+    env: &Env,
+    entry: Entry,
+) -> Result<Checked, InferError>
+    ensures same { IfOk result (λ q. q ≡ question program (certificate_of q.rows) env.now entry) }
+    ensures checked { IfOk result (λ q. IsChecked q) }
+{
+    let cert = settled_rows(alloc, &program, env, entry)?;
+    match check(program, cert, env, entry) {
+        Ok(checked) => Ok(checked),
+        Err(refused) => Err(InferError::NoCert {
+            label: refused.label,
+            rule: refused.rule,
+        }),
+    }
+}
+
+/// A program checked with the certificate that [`infer`] finds for it, which is checked once.
+///
+/// # Errors
+/// As those of [`infer`].
+pub fn infer_checked(
+    alloc: Global,
+    program: Program,
+    env: &Env,
+    entry: Entry,
+) -> Result<Checked, InferError>
+    // It is that program with a certificate, of version 1 exactly where no row has a group.
+    ensures same { IfOk result (λ q. q ≡ question program (certificate_of q.rows) env.now entry) }
+    // No rule fails.
+    ensures checked { IfOk result (λ q. IsChecked q) }
+    // No certificate of a forward program says more.
+    ensures most { IfOk result (λ q. SaysMost program env.now entry q.rows) }
+    // There is none for a forward program where none is found, unless memory ran out.
+    ensures none { IfErr result (λ e. IsWithout program env.now entry e) }
+{
+    let cert = found(alloc, &program, env, entry)?;
+    match check(program, cert, env, entry) {
+        Ok(checked) => Ok(checked),
+        Err(refused) => {
+            let Refused { program, .. } = refused;
+            settled_checked(alloc, program, env, entry)
+        }
     }
 }
 
@@ -177,7 +237,7 @@ pub fn attempt(
     // It has version 1 exactly where no row has a group.
     ensures version { IfOk result (λ cert. cert.version ≡ version_for cert.rows) }
 {
-    let cert = Cert::new(found_rows(alloc, program.instrs(), env, entry)?);
+    let cert = found(alloc, program, env, entry)?;
     match fault_of(program, &cert, env, entry) {
         Some(_) => settled_rows(alloc, program, env, entry),
         None => Ok(cert),

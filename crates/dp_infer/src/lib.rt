@@ -6,7 +6,7 @@ mod join;
 mod laws;
 mod settling;
 
-pub use inferring::{InferError, attempt, infer};
+pub use inferring::{InferError, attempt, infer, infer_checked};
 pub use laws::{
     rows_after_keep_entailment, rows_have_a_least_common_row, rules_hold_of_entailing_rows,
 };
