@@ -13,7 +13,7 @@ use Rattle.std.proofs.lemmas.Bool.{and_from, and_parts, lt-ltb, le-ltb, ltb-true
 use Rattle.std.proofs.lemmas.Option.{same_Some}
 use Rattle.std.proofs.lemmas.Str.Parse.{numerals_by_value, tells_all_ascii_digits, parse_digits}
 use Rattle.dp_engine.specs.Engines.{IsAscending}
-use Rattle.dp_cli.specs.Words.{number_in, ascending_in}
+use Rattle.dp_cli.specs.Operands.{number_in, ascending_in}
 
 -- ---- one number
 

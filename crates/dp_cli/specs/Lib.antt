@@ -3,6 +3,7 @@ pub mod Heaps
 pub mod Inferring
 pub mod Judging
 pub mod One
+pub mod Operands
 pub mod Pipe
 pub mod Progress
 pub mod Report
@@ -11,4 +12,3 @@ pub mod Scripts
 pub mod Told
 pub mod Tracing
 pub mod Why
-pub mod Words

@@ -9,6 +9,7 @@ use Rattle.dp_heap.specs.declared.elements.State.TheVariants.{Free}
 use Rattle.dp_heap.specs.declared.error.HeapError.{HeapError}
 use Rattle.dp_heap.specs.Elements.{rounded, alignment, Taken, merged}
 use Rattle.dp_heap.specs.Refusals.{IsAlign, IsRefused}
+use Rattle.dp_cli.specs.declared.fault.Fault.TheVariants as fault
 use Rattle.dp_cli.specs.declared.mem.Ending.{Ending}
 use Rattle.dp_cli.specs.declared.mem.Ending.TheVariants as ending
 use Rattle.dp_cli.specs.declared.mem.Held.{Held}
@@ -16,7 +17,7 @@ use Rattle.dp_cli.specs.declared.script.Command.{Command}
 use Rattle.dp_cli.specs.declared.script.Command.TheVariants as command
 use Rattle.dp_cli.specs.Commands.{command_in}
 use Rattle.dp_cli.specs.Heaps.{element_at, block_line, refusal_line, freed_line, list_text, stats_line}
-use Rattle.dp_cli.specs.Told.{IsTold}
+use Rattle.dp_cli.specs.Told.{TellsMemory, text_of_fault}
 
 -- how far a script is played: the elements of its heap, the blocks that it holds, and how many it took
 pub record Stage : Type 0 where
@@ -134,17 +135,18 @@ IsEnding plays before after ending.Done = IsPrinted (λ text. plays text None) b
 IsEnding plays before after (ending.Line line) = IsPrinted (λ text. plays text (Some line)) before after
 IsEnding plays before after _ = ⊤
 
--- the status of that
-abbrev pub status_of_ending : Ending → ℕ
-status_of_ending ending.Done = 0
-status_of_ending ending.Memory = 4
-status_of_ending _ = 3
+-- the status of an ending, and what is told of it: nothing where all was played, and else the line of its fault
+abbrev pub IsEndingTold : Ending → Option (List ℕ) → Option (List ℕ) → ℕ → Type 0
+IsEndingTold ending.Done old new status = (status ≡ 0) × (new ≡ old)
+IsEndingTold ending.Memory old new status = (status ≡ 4) × TellsMemory old new
+IsEndingTold (ending.Line line) old new status = (status ≡ 3) × Appends old new (text_of_fault (fault.Line line) ++ 10 ∷ [])
+IsEndingTold ending.Unwritten old new status = ⊥
 
--- how a script ended, from its first line on, and the status that was told
-pub record IsScriptTold (script : List ℕ) (before after : Option (List ℕ)) (status : ℕ) : Type 0 where
+-- how a script ended, from its first line on, what was told of that, and the status
+pub record IsScriptTold (script : List ℕ) (before after old new : Option (List ℕ)) (status : ℕ) : Type 0 where
   pub ending : Ending
   pub is : IsEnding (Runs 1 (script_lines script)) before after ending
-  pub told : IsTold (status_of_ending ending) status
+  pub told : IsEndingTold ending old new status
 
 -- the lines of what is left of a script, where there is more
 abbrev pub lines_left : Option (List ℕ) → List (List ℕ)

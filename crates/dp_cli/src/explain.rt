@@ -1,13 +1,14 @@
 //! `dpv explain`: the verdict on programs, and why one is refused.
 
-ghost use Rattle.std.specs.Prelude.{◌≡◌, ◌⊎◌};
+ghost use Rattle.std.specs.Prelude.{◌≡◌, ◌≢◌, ◌⊎◌};
 ghost use Rattle.std.specs.Io.KnownBytes.{Appends};
 ghost use Rattle.dp_check.specs.Faults.{question};
 ghost use Rattle.dp_cli.specs.Judging.{asked_node, accepted_text, entry_at, IsVerdict, IsNodeTold, EndedAt, AreAllTold, IsToldAt, IsPipelineTold};
-ghost use Rattle.dp_cli.specs.Told.{IsTold};
+ghost use Rattle.dp_cli.specs.Told.{IsTold, TellsMemory};
 
 use crate::fault::{
-    DONE, Fault, REFUSED, USAGE, tell, tell_fault, tell_if_memory, tell_unloaded, tell_usage,
+    DONE, Fault, MEMORY, REFUSED, USAGE, tell, tell_fault, tell_if_memory, tell_unloaded,
+    tell_usage,
 };
 use crate::judged::{Asked, Judged, asked_of, judge};
 use crate::reasons::{HintText, KnownText, RuleText, WantedText};
@@ -90,6 +91,7 @@ fn tell_verdict<O: Write, E: Write>(
     ensures status { IsVerdict (question judged.now.program judged.now.cert env.now asked.entry.node) result }
     ensures printed { result ≡ DONE → Appends (O.contents out.old) (O.contents out.new) (accepted_text asked.entry.node) }
     ensures silent { (result ≡ DONE) ⊎ (result ≡ REFUSED) → err.new ≡ err.old }
+    ensures memory { result ≡ MEMORY → TellsMemory (E.contents err.old) (E.contents err.new) }
 {
     let Some(diagnosis) = diagnose(&judged.program, &judged.cert, env, asked.node) else {
         let name = NodeName(asked.node);
@@ -121,6 +123,7 @@ pub fn explain_node<F: Files, O: Write, E: Write>(
     ensures status { IsNodeTold (F.known files.old) env.now (asked_node asked.entry) result }
     ensures printed { result ≡ DONE → Appends (O.contents out.old) (O.contents out.new) (accepted_text asked.entry.node) }
     ensures silent { (result ≡ DONE) ⊎ (result ≡ REFUSED) → err.new ≡ err.old }
+    ensures memory { result ≡ MEMORY → TellsMemory (E.contents err.old) (E.contents err.new) }
     ensures stays { F.known files.new ≡ F.known files.old }
 {
     match judge(alloc, files, env, asked) {
@@ -153,6 +156,7 @@ fn explain_place<F: Files, O: Write, E: Write>(
     ensures told { EndedAt (F.known files.old) survey.now.config result place }
     ensures ends { IsTold DONE result ⊎ (result ≡ REFUSED) }
     ensures silent { (result ≡ DONE) ⊎ (result ≡ REFUSED) → err.new ≡ err.old }
+    ensures memory { result ≡ MEMORY → TellsMemory (E.contents err.old) (E.contents err.new) }
     ensures stays { F.known files.new ≡ F.known files.old }
 {
     match asked_of(survey, entry_at(place)) {
@@ -171,6 +175,7 @@ fn explain_all<F: Files, O: Write, E: Write>(
 ) -> u8
     ensures told { AreAllTold (F.known files.old) survey.now.config result }
     ensures silent { (result ≡ DONE) ⊎ (result ≡ REFUSED) → err.new ≡ err.old }
+    ensures memory { result ≡ MEMORY → TellsMemory (E.contents err.old) (E.contents err.new) }
     ensures stays { F.known files.new ≡ F.known files.old }
 {
     let mut worst = DONE;
@@ -187,7 +192,8 @@ fn explain_all<F: Files, O: Write, E: Write>(
 
 /// Tells that a pipeline has no such node.
 pub fn tell_no_node<E: Write>(node: Entry, err: &mut E) -> u8
-    ensures { IsTold USAGE result }
+    ensures status { IsTold USAGE result }
+    ensures memory { result ≢ MEMORY }
 {
     let name = NodeName(node);
     tell_usage(err, format_args!("error: the pipeline has no {name}"))
@@ -204,6 +210,7 @@ fn explain_at<F: Files, O: Write, E: Write>(
 ) -> u8
     ensures told { IsToldAt (F.known files.old) survey.now.config node result }
     ensures silent { (result ≡ DONE) ⊎ (result ≡ REFUSED) → err.new ≡ err.old }
+    ensures memory { result ≡ MEMORY → TellsMemory (E.contents err.old) (E.contents err.new) }
     ensures stays { F.known files.new ≡ F.known files.old }
 {
     match asked_of(survey, node) {
@@ -224,6 +231,7 @@ pub fn explain_line<F: Files, O: Write, E: Write>(
 ) -> u8
     ensures told { IsPipelineTold (F.known files.old) text.now which result }
     ensures silent { (result ≡ DONE) ⊎ (result ≡ REFUSED) → err.new ≡ err.old }
+    ensures memory { result ≡ MEMORY → TellsMemory (E.contents err.old) (E.contents err.new) }
     ensures stays { F.known files.new ≡ F.known files.old }
 {
     let survey = match survey_of(alloc, text) {

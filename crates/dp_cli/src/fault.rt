@@ -1,6 +1,6 @@
 //! What is told of a fault, and the status that the program ends with.
 
-ghost use Rattle.std.specs.Prelude.{◌≡◌, ◌≢◌, ◌⊎◌, ◌++◌, ◌∷◌, [], IfSome, OnErr, OnOk};
+ghost use Rattle.std.specs.Prelude.{◌≡◌, ◌≢◌, ◌⊎◌, ◌++◌, ◌∷◌, [], IfOk, IfSome, OnErr, OnOk};
 ghost use Rattle.std.specs.Fmt.{with_newline};
 ghost use Rattle.std.specs.Io.KnownBytes.{Appends};
 ghost use Rattle.dp_cli.specs.Told.{IsTold, TellsMemory, finding_of, lines_behind, lines_of_fault, status_of, status_of_fault, text_of_fault};
@@ -146,14 +146,33 @@ fn write_fault<W: Write>(to: &mut W, fault: Fault<'_>) -> io::Result<()>
     write_behind(to, fault.finding())
 }
 
+/// A text could not be written.
+#[derive(Clone, Copy, Debug, PartialEq, Eq, Drop)]
+pub struct Unwritten;
+
+/// Writes a fault with its reason, and answers its status.
+///
+/// # Errors
+///
+/// [`Unwritten`] where it cannot be written.
+pub fn try_tell_fault<W: Write>(to: &mut W, fault: Fault<'_>) -> Result<u8, Unwritten>
+    ensures status { IfOk result (λ status. status ≡ status_of_fault fault.entry) }
+    ensures told { OnOk result (IfSome (lines_of_fault fault.entry) (Appends (W.contents to.old) (W.contents to.new))) }
+{
+    match write_fault(to, fault) {
+        Ok(()) => Ok(fault.status()),
+        Err(_) => Err(Unwritten),
+    }
+}
+
 /// Writes a fault with its reason, and answers its status, or 3 where that cannot be written. So with 4 it was told that memory ran out.
 pub fn tell_fault<W: Write>(to: &mut W, fault: Fault<'_>) -> u8
     ensures status { IsTold (status_of_fault fault.entry) result }
     ensures memory { result ≡ MEMORY → TellsMemory (W.contents to.old) (W.contents to.new) }
 {
-    match write_fault(to, fault) {
-        Ok(()) => fault.status(),
-        Err(_) => FAULT,
+    match try_tell_fault(to, fault) {
+        Ok(status) => status,
+        Err(Unwritten) => FAULT,
     }
 }
 

@@ -4,6 +4,7 @@
 mod apart;
 mod captures;
 mod certifying;
+mod command_line;
 mod explain;
 mod fault;
 mod files;
@@ -14,6 +15,7 @@ mod judged;
 mod listing;
 mod mem;
 mod one;
+mod operands;
 mod pipe;
 mod progress;
 mod reasons;
@@ -27,7 +29,6 @@ mod trace;
 mod tracer;
 mod watched;
 mod why;
-mod words;
 
 ghost use Rattle.std.specs.Prelude.{◌≤◌, IfOk};
 ghost use Rattle.dp_engine.specs.Engines.{IsAscending};
@@ -40,11 +41,12 @@ use clap::error::ErrorKind;
 use dp_model::Entry;
 use dp_pipe::{How, Pipeline, Traced, run};
 use explain::{explain_line, explain_node};
-use fault::{DONE, FAULT, Fault, USAGE, tell_fault, tell_usage};
+use fault::{DONE, FAULT, Fault, USAGE, Unwritten, tell_fault, tell_usage};
 use findings::{finding_of, names_of};
 use judged::Asked;
 use mem::mem_line;
 use one::{Naming, ONE_PORT, OneFiles, one_env};
+use operands::{node_named, numbers_in, port_in, records_in};
 use pipe::{HostFiles, check_line, infer_line, load_line};
 use progress::{Telling, ToStderr, tell_totals};
 use run::tell_run;
@@ -54,7 +56,6 @@ use std::io;
 use std::process::ExitCode;
 use std::rt::Files;
 use trace::{print_trace, tell_trace};
-use words::{node_named, numbers_in, port_in, records_in};
 
 /// Tells of an error of the command line, or shows the help that was asked for, and answers the status.
 fn wrong_words<R: Print + Eprint, E: io::Write>(rt: &R, error: &clap::Error, err: &mut E) -> u8 {
@@ -76,7 +77,10 @@ fn run_script<R: Files + Print, E: io::Write>(
     err: &mut E,
 ) -> u8 {
     match files::read(rt, alloc, file) {
-        Ok(script) => mem_line(alloc, script.as_slice(), &mut io::writer(rt), err),
+        Ok(script) => match mem_line(alloc, script.as_slice(), &mut io::writer(rt), err) {
+            Ok(status) => status,
+            Err(Unwritten) => FAULT,
+        },
         Err(fault) => tell_fault(err, fault.of_file(file)),
     }
 }
@@ -478,6 +482,39 @@ fn run_one_port<R: Files + Print, E: io::Write>(
     }
 }
 
+/// Runs the command of this name that shows why a program is judged so.
+fn show_reasons<R: Files + Print, E: io::Write>(
+    rt: &R,
+    alloc: Global,
+    name: &str,
+    words: &ArgMatches<'_>,
+    err: &mut E,
+) -> u8 {
+    match name {
+        "explain" => explain_file(rt, alloc, words, err),
+        "explain-one" => explain_one(rt, alloc, words, err),
+        "show" => show_file(rt, alloc, words, err),
+        "show-one" => show_one(rt, alloc, words, err),
+        _ => USAGE,
+    }
+}
+
+/// Runs the command of this name that judges programs, or shows why they are judged so.
+fn judge_programs<R: Files + Print, E: io::Write>(
+    rt: &R,
+    alloc: Global,
+    name: &str,
+    words: &ArgMatches<'_>,
+    err: &mut E,
+) -> u8 {
+    match name {
+        "check" => check_file(rt, alloc, words, err),
+        "infer" => infer_file(rt, alloc, words, err),
+        "infer-one" => infer_program(rt, alloc, words, err),
+        _ => show_reasons(rt, alloc, name, words, err),
+    }
+}
+
 /// Runs the command that was asked for.
 fn run_command<R: Files + Print, E: io::Write>(
     rt: &R,
@@ -488,17 +525,11 @@ fn run_command<R: Files + Print, E: io::Write>(
 ) -> u8 {
     match matches.subcommand() {
         Some(("one", words)) => run_one_port(rt, alloc, words, to, err),
-        Some(("check", words)) => check_file(rt, alloc, words, err),
-        Some(("infer", words)) => infer_file(rt, alloc, words, err),
-        Some(("infer-one", words)) => infer_program(rt, alloc, words, err),
-        Some(("explain", words)) => explain_file(rt, alloc, words, err),
-        Some(("explain-one", words)) => explain_one(rt, alloc, words, err),
-        Some(("show", words)) => show_file(rt, alloc, words, err),
-        Some(("show-one", words)) => show_one(rt, alloc, words, err),
         Some(("run", words)) => run_file(rt, alloc, words, to, err),
         Some(("trace", words)) => trace_file(rt, alloc, words, to, err),
         Some(("mem", words)) => run_script(rt, alloc, word(words, "FILE"), err),
-        _ => USAGE,
+        Some((name, words)) => judge_programs(rt, alloc, name, words, err),
+        None => USAGE,
     }
 }
 
@@ -515,7 +546,7 @@ fn main(rt: HostRuntime) -> ExitCode {
     let Ok(words) = given.collect::<Vec<String>>(alloc) else {
         return ExitCode::from(tell_fault(&mut err, Fault::Memory));
     };
-    let Ok(command) = words::command(alloc) else {
+    let Ok(command) = command_line::command(alloc) else {
         return ExitCode::from(tell_fault(&mut err, Fault::Memory));
     };
     let status = match command.try_get_matches_from(words.as_slice()) {

@@ -8,11 +8,11 @@ ghost use Rattle.dp_heap.specs.Refusals.{IsAlign, IsRefused};
 ghost use Rattle.dp_region.specs.Region.{IsRegionSize};
 ghost use Rattle.dp_cli.specs.Commands.{command_in};
 ghost use Rattle.dp_cli.specs.Heaps as spec;
-ghost use Rattle.dp_cli.specs.Scripts.{IsBad, IsDone, IsEnding, IsFilled, IsFreed, IsLineDone, IsNoRegion, IsPrinted, IsRefusalTold, IsScriptTold, IsTaken};
-ghost use Rattle.dp_cli.specs.Scripts.{IsWrong, Plays, Runs, first_from, fresh, is_held, lines_left, script_lines, stage, status_of_ending};
+ghost use Rattle.dp_cli.specs.Scripts.{IsBad, IsDone, IsEnding, IsEndingTold, IsFilled, IsFreed, IsLineDone, IsNoRegion, IsPrinted, IsRefusalTold, IsScriptTold, IsTaken};
+ghost use Rattle.dp_cli.specs.Scripts.{IsWrong, Plays, Runs, first_from, fresh, is_held, lines_left, script_lines, stage};
 ghost use Rattle.dp_cli.specs.Told.{IsTold, TellsMemory};
 
-use crate::fault::{DONE, FAULT, Fault, MEMORY, tell, tell_fault};
+use crate::fault::{DONE, Fault, MEMORY, Unwritten, tell, try_tell_fault};
 use crate::script::{Command, command_of};
 use dp_heap::{Element, Heap, HeapError, State};
 use dp_region::{Block, Region};
@@ -401,25 +401,33 @@ fn ending_of<O: Write>(alloc: Global, script: &[u8], out: &mut O) -> Ending
 }
 
 /// Tells how a script ended, where it did not come to its end, and answers the status.
-fn tell_ending<E: Write>(ending: Ending, err: &mut E) -> u8
-    ensures status { IsTold (status_of_ending ending) result }
-    ensures silent { result ≡ DONE → err.new ≡ err.old }
-    ensures memory { result ≡ MEMORY → TellsMemory (E.contents err.old) (E.contents err.new) }
+fn tell_ending<E: Write>(ending: Ending, err: &mut E) -> Result<u8, Unwritten>
+    ensures told { IfOk result (IsEndingTold ending (E.contents err.old) (E.contents err.new)) }
+    ensures silent { IfOk result (λ status. status ≡ DONE → err.new ≡ err.old) }
 {
     match ending {
-        Ending::Done => DONE,
-        Ending::Memory => tell_fault(err, Fault::Memory),
-        Ending::Unwritten => FAULT,
-        Ending::Line(line) => tell_fault(err, Fault::Line(line)),
+        Ending::Done => Ok(DONE),
+        Ending::Memory => try_tell_fault(err, Fault::Memory),
+        Ending::Unwritten => Err(Unwritten),
+        Ending::Line(line) => try_tell_fault(err, Fault::Line(line)),
     }
 }
 
-/// Runs a heap script, and answers the status: 0, 3 with a line on a fault of the script, 4 for want of memory. What the
-/// commands before a fault print stands in `out`.
-pub fn mem_line<O: Write, E: Write>(alloc: Global, script: &[u8], out: &mut O, err: &mut E) -> u8
-    ensures told { IsScriptTold script.now (O.contents out.old) (O.contents out.new) result }
-    ensures silent { result ≡ DONE → err.new ≡ err.old }
-    ensures memory { result ≡ MEMORY → TellsMemory (E.contents err.old) (E.contents err.new) }
+/// Runs a heap script, and answers the status: 0; 3 where a line is at fault, which is told; 4 for want of memory, which is told
+/// too. What the commands before a fault print stands in `out`.
+///
+/// # Errors
+///
+/// [`Unwritten`] where a text could not be written.
+pub fn mem_line<O: Write, E: Write>(
+    alloc: Global,
+    script: &[u8],
+    out: &mut O,
+    err: &mut E,
+) -> Result<u8, Unwritten>
+    ensures told { IfOk result (IsScriptTold script.now (O.contents out.old) (O.contents out.new) (E.contents err.old) (E.contents err.new)) }
+    ensures silent { IfOk result (λ status. status ≡ DONE → err.new ≡ err.old) }
+    ensures memory { IfOk result (λ status. status ≡ MEMORY → TellsMemory (E.contents err.old) (E.contents err.new)) }
 {
     let ending = ending_of(alloc, script, out);
     tell_ending(ending, err)

@@ -1,8 +1,8 @@
 //! Runs of pipelines: what is printed and told, and what each writer holds.
 
+use crate::operands::numbers_in;
 use crate::pipe_tests::{FORWARD, LOOP, MULTICAST, RING, TWO_PORTS, changed};
 use crate::testing::{Devices, HEADER, NONE, Ran, WHOLE, file, front, joined, run_on};
-use crate::words::numbers_in;
 use dp_pipe::NamedBytes;
 use std::alloc::{AllocError, Global};
 use std::test::Fail;

@@ -3,11 +3,11 @@
 ghost use Rattle.std.specs.Prelude.{◌≡◌, ◌⊎◌, Some};
 ghost use Rattle.dp_check.specs.Faults.{question};
 ghost use Rattle.dp_cli.specs.Judging.{asked_node, IsVerdict, IsNodeTold, IsToldAt, IsPipelineTold};
-ghost use Rattle.dp_cli.specs.Told.{IsTold};
+ghost use Rattle.dp_cli.specs.Told.{IsTold, TellsMemory};
 
 use crate::explain::tell_no_node;
 use crate::fault::{
-    DONE, Fault, REFUSED, status_of_write, tell_fault, tell_if_memory, tell_unloaded,
+    DONE, Fault, MEMORY, REFUSED, status_of_write, tell_fault, tell_if_memory, tell_unloaded,
 };
 use crate::graph::graph;
 use crate::judged::{Asked, Judged, asked_of, judge};
@@ -54,6 +54,7 @@ fn print_shown<O: Write, E: Write>(
 ) -> u8
     ensures told { IsTold status result }
     ensures silent { (result ≡ DONE) ⊎ (result ≡ REFUSED) → err.new ≡ err.old }
+    ensures memory { result ≡ MEMORY → TellsMemory (E.contents err.old) (E.contents err.new) }
 {
     let Ok(text) = text_of(alloc, form, verdict, &judged.program, judged.cert.rows()) else {
         return tell_fault(err, Fault::Memory);
@@ -83,6 +84,7 @@ fn show_judged<O: Write, E: Write>(
 ) -> u8
     ensures status { IsVerdict (question judged.now.program judged.now.cert env.now asked.entry.node) result }
     ensures silent { (result ≡ DONE) ⊎ (result ≡ REFUSED) → err.new ≡ err.old }
+    ensures memory { result ≡ MEMORY → TellsMemory (E.contents err.old) (E.contents err.new) }
 {
     let Some(diagnosis) = diagnose(&judged.program, &judged.cert, env, asked.node) else {
         let verdict = verdict_of(asked, None);
@@ -108,6 +110,7 @@ pub fn show_node<F: Files, O: Write, E: Write>(
 ) -> u8
     ensures status { IsNodeTold (F.known files.old) env.now (asked_node asked.entry) result }
     ensures silent { (result ≡ DONE) ⊎ (result ≡ REFUSED) → err.new ≡ err.old }
+    ensures memory { result ≡ MEMORY → TellsMemory (E.contents err.old) (E.contents err.new) }
     ensures stays { F.known files.new ≡ F.known files.old }
 {
     match judge(alloc, files, env, asked) {
@@ -128,6 +131,7 @@ fn show_at<F: Files, O: Write, E: Write>(
 ) -> u8
     ensures told { IsToldAt (F.known files.old) survey.now.config node result }
     ensures silent { (result ≡ DONE) ⊎ (result ≡ REFUSED) → err.new ≡ err.old }
+    ensures memory { result ≡ MEMORY → TellsMemory (E.contents err.old) (E.contents err.new) }
     ensures stays { F.known files.new ≡ F.known files.old }
 {
     match asked_of(survey, node) {
@@ -148,6 +152,7 @@ pub fn show_line<F: Files, O: Write, E: Write>(
 ) -> u8
     ensures told { IsPipelineTold (F.known files.old) text.now (Some which) result }
     ensures silent { (result ≡ DONE) ⊎ (result ≡ REFUSED) → err.new ≡ err.old }
+    ensures memory { result ≡ MEMORY → TellsMemory (E.contents err.old) (E.contents err.new) }
     ensures stays { F.known files.new ≡ F.known files.old }
 {
     match survey_of(alloc, text) {

@@ -1,8 +1,8 @@
 //! Runs over readers and writers in memory, for tests.
 
+use crate::operands::numbers_in;
 use crate::pipe::load_line;
 use crate::run::run_line;
-use crate::words::numbers_in;
 use dp_pcap::{FailingFeed, FailingSink, Feed, OfRead, OfWrite, Sink};
 use dp_pipe::{How, Listed, NamedBytes, Pipeline};
 use std::alloc::{AllocError, Global};

@@ -1,5 +1,6 @@
 //! Printed texts and statuses.
 
+use crate::fault::{FAULT, Unwritten};
 use crate::mem::mem_line;
 use crate::one::ONE_PORT;
 use crate::pipe::{infer_line, load_line};
@@ -79,7 +80,10 @@ fn run(alloc: Global, node: &str, cert: &[u8], input: &[u8]) -> Result<Ran, Allo
 fn played(alloc: Global, script: &str) -> Ended {
     let mut printed = Vec::new(alloc);
     let mut told = Vec::new(alloc);
-    let status = mem_line(alloc, script.as_bytes(), &mut printed, &mut told);
+    let status = match mem_line(alloc, script.as_bytes(), &mut printed, &mut told) {
+        Ok(status) => status,
+        Err(Unwritten) => FAULT,
+    };
     Ended {
         status,
         printed,

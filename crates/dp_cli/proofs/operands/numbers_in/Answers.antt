@@ -1,7 +1,7 @@
 -- Each number is above the one before.
 use Rattle.std.proofs.Common.{map, sym, arith}
 use Rattle.dp_cli.proofs.Numbers.{ascending, numbers_end}
-use Rattle.dp_cli.proofs.words.numbers_in.Goals as goal
+use Rattle.dp_cli.proofs.operands.numbers_in.Goals as goal
 
 pub returns-clause-ascending : goal.returns-clause-ascending
 returns-clause-ascending c =
