@@ -1,1 +1,2 @@
+-- The lemma files.
 mod RowLemmas

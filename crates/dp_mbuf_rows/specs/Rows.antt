@@ -3,26 +3,27 @@ use Rattle.std.specs.Prelude.{◌≡◌, ℕ, ◌+◌, ◌<◌, ◌≤◌, false
 use Rattle.std.specs.List.{AllByRecursion}
 use Rattle.dp_model.specs.Environments.{room_at}
 use Rattle.dp_model.specs.Stores.{Store}
+use Rattle.dp_mbuf.specs.declared.limits.TheConstants.{HEADER_SIZE, HEADROOM}
 use Rattle.dp_region.specs.Ownership.{Home}
 use Rattle.dp_pool.specs.Pools.{PoolZones, PoolView}
 
 -- there are three pools, and the first two have room for received bytes
 pub record IsOver (s : Store) : Type 0 where
   pub three : length s.pools ≡ 3
-  pub rooms : (k : ℕ) → k < 2 → 129 ≤ room_at s.pools k
+  pub rooms : (k : ℕ) → k < 2 → HEADROOM < room_at s.pools k
 
 -- all zones are of one region
 abbrev pub AreIn : Home → List PoolZones → Type 0
 AreIn home zones = AllByRecursion (λ z. z.home ≡ home) zones
 
--- and so are those of the place's pool, where it has one
+-- and so are those of the slot's pool, where it has one
 abbrev pub SlotIn : Home → Option PoolView → Type 0
 SlotIn home None = Unit {0}
 SlotIn home (Some p) = p.zones.home ≡ home
 
 -- a pool of so many objects for mbufs with so much room, all of them in, in zones of the region
 pub record IsReadyPool (n room : ℕ) (region : Home) (p : PoolView) : Type 0 where
-  pub size : p.size ≡ room + 128
+  pub size : p.size ≡ room + HEADER_SIZE
   pub count : length p.objects ≡ n
   pub all_in : p.out ≡ replicate n false
   pub home : p.zones.home ≡ region

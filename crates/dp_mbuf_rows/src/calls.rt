@@ -116,7 +116,7 @@ pub(crate) fn trim(rt: &impl Abort, m: &mut Mbufs, p: &Packet, n: u16)
 }
 
 /// Writes one byte of the first segment.
-pub(crate) fn store(rt: &impl Abort, m: &mut Mbufs, p: &Packet, place: u64, byte: u8)
+pub(crate) fn store(rt: &impl Abort, m: &mut Mbufs, p: &Packet, offset: u64, byte: u8)
     requires { IsOver m.old.store }
     ensures over { IsOver m.new.store }
     ensures zones { m.new.zones ≡ m.old.zones }
@@ -127,15 +127,15 @@ pub(crate) fn store(rt: &impl Abort, m: &mut Mbufs, p: &Packet, place: u64, byte
     let sharers = m.refs(p, 0);
     assert!(rt; sharers == 1);
     let len = m.first_len(p);
-    assert!(rt; place < len as u64);
-    m.store(p, place, Width::One, byte as u64);
+    assert!(rt; offset < len as u64);
+    m.store(p, offset, Width::One, byte as u64);
 }
 
-pub(crate) fn load_one(rt: &impl Abort, m: &Mbufs, p: &Packet, place: u64) -> u64 {
+pub(crate) fn load_one(rt: &impl Abort, m: &Mbufs, p: &Packet, offset: u64) -> u64 {
     alive(rt, m, p);
     let len = m.first_len(p);
-    assert!(rt; place < len as u64);
-    m.load(p, place, Width::One)
+    assert!(rt; offset < len as u64);
+    m.load(p, offset, Width::One)
 }
 
 pub(crate) fn load_four(rt: &impl Abort, m: &Mbufs, p: &Packet) -> u64 {

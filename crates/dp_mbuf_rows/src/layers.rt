@@ -7,7 +7,7 @@ use crate::calls::{alive, alloc, free};
 use crate::setup::{Sizes, close, open};
 use dp_model::PacketLayer;
 
-/// Takes a packet, parks it and gives it up; says whether there was one.
+/// Takes a packet, parks it and gives it up; answers whether there was one.
 fn parked<L: PacketLayer>(layer: &mut L, pool: u32) -> bool
     requires { pool < length (L.store layer.old).pools }
     ensures kept { L.frame layer.new ≡ L.frame layer.old }

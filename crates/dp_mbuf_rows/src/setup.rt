@@ -4,7 +4,7 @@ ghost use Rattle.std.specs.Prelude.{◌≡◌, ◌+◌, ◌*◌, ◌<◌, ◌≤
 ghost use Rattle.dp_mbuf_rows.specs.Rows.{IsOver, AreIn, SlotIn, IsReadyPool};
 
 use dp_heap::Heap;
-use dp_mbuf::Mbufs;
+use dp_mbuf::{HEADER_SIZE, HEADROOM, MAX_MBUFS, MAX_ROOM, Mbufs};
 use dp_pool::Pool;
 use dp_region::Region;
 use dp_zone::Zones;
@@ -28,7 +28,7 @@ pub(crate) struct Sizes {
 
 // A pool of mbufs.
 fn make(rt: &impl Abort, heap: &mut Heap, zones: &mut Zones, name: &str, sizes: Sizes) -> Pool
-    requires { sizes.room ≤ 4096 }
+    requires { sizes.room ≤ MAX_ROOM }
     ensures pool { IsReadyPool sizes.count sizes.room heap.old.home result }
     ensures home { heap.new.home ≡ heap.old.home }
 {
@@ -37,7 +37,7 @@ fn make(rt: &impl Abort, heap: &mut Heap, zones: &mut Zones, name: &str, sizes: 
         zones,
         name,
         sizes.count,
-        sizes.room + 128,
+        sizes.room + HEADER_SIZE,
         sizes.cache,
     );
     made.expect(rt, "a pool")
@@ -45,9 +45,9 @@ fn make(rt: &impl Abort, heap: &mut Heap, zones: &mut Zones, name: &str, sizes: 
 
 /// Mbufs over two pools of these sizes, beside a third with one buffer without room.
 pub(crate) fn open(rt: &impl Abort, alloc: Global, first: Sizes, second: Sizes) -> Setup
-    requires first { (1 ≤ first.count) × (129 ≤ first.room) × (first.room ≤ 4096) }
-    requires second { (129 ≤ second.room) × (second.room ≤ 4096) }
-    requires few { first.count + second.count ≤ 65534 }
+    requires first { (1 ≤ first.count) × (HEADROOM < first.room) × (first.room ≤ MAX_ROOM) }
+    requires second { (HEADROOM < second.room) × (second.room ≤ MAX_ROOM) }
+    requires few { first.count + second.count < MAX_MBUFS }
     ensures over { IsOver result.mbufs.store }
     ensures home { AreIn result.heap.home result.mbufs.zones }
 {
@@ -67,10 +67,10 @@ pub(crate) fn open_beside(
     second: Sizes,
     third: Sizes,
 ) -> Setup
-    requires first { (1 ≤ first.count) × (129 ≤ first.room) × (first.room ≤ 4096) }
-    requires second { (129 ≤ second.room) × (second.room ≤ 4096) }
-    requires third { third.room ≤ 4096 }
-    requires few { first.count + second.count + third.count ≤ 65535 }
+    requires first { (1 ≤ first.count) × (HEADROOM < first.room) × (first.room ≤ MAX_ROOM) }
+    requires second { (HEADROOM < second.room) × (second.room ≤ MAX_ROOM) }
+    requires third { third.room ≤ MAX_ROOM }
+    requires few { first.count + second.count + third.count ≤ MAX_MBUFS }
     ensures over { IsOver result.mbufs.store }
     ensures home { AreIn result.heap.home result.mbufs.zones }
 {
@@ -94,7 +94,7 @@ pub(crate) fn open_beside(
     Setup { heap, zones, mbufs }
 }
 
-// Gives the zones of a place's pool back.
+// Gives the zones of a slot's pool back.
 fn unmake(slot: Option<Pool>, heap: &mut Heap, zones: &mut Zones)
     requires { SlotIn heap.old.home slot }
     ensures { heap.new.home ≡ heap.old.home }

@@ -8,7 +8,7 @@ use crate::calls::{
     segments, spells, store, trim,
 };
 use crate::setup::{Sizes, close, open};
-use dp_mbuf::Mbufs;
+use dp_mbuf::{Mbufs, POOL_HANDLES};
 use dp_model::Packet;
 use std::alloc::{AllocError, Global};
 use std::process::Abort;
@@ -29,7 +29,7 @@ struct Across {
 
 // The pool of a packet's first mbuf.
 fn pool_of(packet: &Packet) -> u32 {
-    packet.number() / 65_536
+    packet.number() / POOL_HANDLES
 }
 
 fn next(seed: &mut u64) -> u64 {
@@ -223,14 +223,14 @@ fn walk_store(rt: &impl Abort, m: &mut Mbufs, shadow: &mut Shadow, seed: &mut u6
     if len == 0 {
         return;
     }
-    let place = pick(seed, len as usize);
-    assert!(rt; place < shadow.bytes.len());
-    let byte = load_one(rt, m, &packet, place as u64);
-    assert_eq!(rt; byte, shadow.bytes[place] as u64);
+    let offset = pick(seed, len as usize);
+    assert!(rt; offset < shadow.bytes.len());
+    let byte = load_one(rt, m, &packet, offset as u64);
+    assert_eq!(rt; byte, shadow.bytes[offset] as u64);
     if refs(rt, m, &packet, 0) == 1 {
         let byte = (next(seed) % 256) as u8;
-        store(rt, m, &packet, place as u64, byte);
-        shadow.bytes[place] = byte;
+        store(rt, m, &packet, offset as u64, byte);
+        shadow.bytes[offset] = byte;
     }
 }
 
