@@ -33,6 +33,8 @@ use Rattle.dp_pipe.specs.Forwarding.{AllStand, Along, Follows, Advances, Stops, 
 use Rattle.dp_pipe.proofs.Forwarded.{split}
 use Rattle.dp_pipe.proofs.Interleaving.{AreFew, interleaved_more, arriving}
 use Rattle.dp_pipe.proofs.RunOn.{run_on, joined_at, arrival}
+use Rattle.dp_pipe.proofs.Indices.{element_at, set_itself}
+use Rattle.std.proofs.KnownBytes.{Appends-trans}
 
 -- ---- what was written
 
@@ -54,17 +56,6 @@ texts_append unit [] ys = refl
 texts_append unit (x ∷ xs) ys = ap (λ l. record_text unit x ++ l) (texts_append unit xs ys)
     ∙ sym (append_assoc (record_text unit x) (flat_map (record_text unit) xs) (flat_map (record_text unit) ys))
 
-pub mid_of : {A : Type 0} (xs : List A) (q : ℕ) → q < length xs → (x : A) × (slice_get xs q ≡ Some x)
-mid_of [] q less = absurd (omega (arith, less))
-mid_of (x ∷ xs) zero less = (x, refl)
-mid_of (x ∷ xs) (suc q) less = mid_of xs q (omega (arith, less))
-
-pub appends_then : (a b c : Option (List ℕ)) (xs ys : List ℕ) → Appends a b xs → Appends b c ys → Appends a c (xs ++ ys)
-appends_then None b c xs ys p q = tt
-appends_then (Some a) None c xs ys p q = absurd p
-appends_then (Some a) (Some b) None xs ys p q = absurd q
-appends_then (Some a) (Some b) (Some c) xs ys p q = q ∙ ap (λ l. l ++ ys) p ∙ append_assoc a xs ys
-
 -- what the drains of all ports add to what was written
 pub wrote_more : (unit : TimeUnit) (time : Time) (w : World) (n : ℕ) (captures : List (List (Time × List ℕ))) (held mids holds : List (Option (List ℕ)))
     → length captures ≡ n → length (records_at time w) ≡ n → length held ≡ n → length mids ≡ n
@@ -74,11 +65,11 @@ pub wrote_more : (unit : TimeUnit) (time : Time) (w : World) (n : ℕ) (captures
     → AreWritten unit held holds (capture_at (joined captures (records_at time w)))
 wrote_more unit time w n captures held mids holds long boxes many mid_many before now q old new a b =
     let q_in : q < n = omega (arith, slice_get_within held q old a, many) in
-    let (mid, m) = mid_of mids q (omega (arith, q_in, mid_many)) in
+    let (mid, m) = element_at mids q (omega (arith, q_in, mid_many)) in
     let (x, y, was, is, both) = joined_here captures (records_at time w) q (omega (arith, q_in, long)) (omega (arith, q_in, boxes)) in
     let first : Appends old mid (records_text unit (capture_of x)) = rw was at (before q old mid a m) in
     let second : Appends mid new (records_text unit (capture_of y)) = rw (lt-ltb q n q_in, is) at (now q mid new m b) in
-    let all : Appends old new (records_text unit (capture_of x) ++ records_text unit (capture_of y)) = appends_then old mid new _ _ first second in
+    let all : Appends old new (records_text unit (capture_of x) ++ records_text unit (capture_of y)) = Appends-trans old mid new _ _ first second in
     rw both (subst (Appends old new) (sym (texts_append unit (capture_of x) (capture_of y)) ∙ ap (records_text unit) (sym (map-append captured x y))) all)
 
 -- ---- what was read
@@ -94,11 +85,6 @@ records_set : (inputs : List Input) (p : ℕ) (i : Input) → map records_in (sl
 records_set [] p i = refl
 records_set (x ∷ inputs) zero i = refl
 records_set (x ∷ inputs) (suc p) i = ap (λ l. records_in x ∷ l) (records_set inputs p i)
-
-set_itself : {A : Type 0} (xs : List A) (p : ℕ) (x : A) → slice_get xs p ≡ Some x → slice_set xs p x ≡ xs
-set_itself [] p x e = refl
-set_itself (y ∷ xs) zero x e = ap (λ z. z ∷ xs) (sym (same_Some y x e))
-set_itself (y ∷ xs) (suc p) x e = ap (λ l. y ∷ l) (set_itself xs p x e)
 
 -- an input that ended leaves the records as they are
 pub arrivals_ended : (inputs : List Input) (p : ℕ) (i : Input) (state : InputState) → slice_get inputs p ≡ Some i →

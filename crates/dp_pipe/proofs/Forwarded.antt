@@ -21,6 +21,7 @@ use Rattle.dp_engine.specs.declared.report.Tallies.{Tallies}
 use Rattle.dp_engine.specs.Drains.{captured, WrotePart}
 use Rattle.dp_engine.specs.Engines.{EngineState, tallies_at, sent_at, drained, no_tallies}
 use Rattle.dp_pipe.specs.Forwarding.{capture_of, capture_at, records_text, drained_at, emptied, DrainedFirst, DrainsStopped}
+use Rattle.dp_pipe.proofs.Indices.{element_at, length_set}
 
 pub emptied_all : (lists : List (List Packet)) → emptied (length lists) lists ≡ map (λ _. []) lists
 emptied_all [] = refl
@@ -116,6 +117,19 @@ pub record DrainsNext (n : ℕ) (unit : TimeUnit) (time : Time) (e1 e2 : EngineS
   pub others : (q : ℕ) → q ≢ n → slice_get holds q ≡ slice_get mids q
   pub is : e2 ≡ drained n (length records) e1
 
+-- the engine behind the drain of one more port
+drained_stays : (n : ℕ) (unit : TimeUnit) (time : Time) (e e1 e2 : EngineState) (held mids holds : List (Option (List ℕ))) →
+    DrainedFirst n unit time e e1 held mids → DrainsNext n unit time e1 e2 mids holds →
+    e2 ≡ record e { world = record e.world { outboxes = emptied (suc n) e.world.outboxes }; tallies = e2.tallies }
+drained_stays n unit time e e1 e2 held mids holds first next =
+    let a : e2 ≡ record e1 { world = record e1.world { outboxes = slice_set e1.world.outboxes n [] }; tallies = e2.tallies } =
+    subst (λ (x : EngineState). x ≡ record e1 { world = record e1.world { outboxes = slice_set e1.world.outboxes n [] }; tallies = x.tallies })
+    (sym next.is) refl in
+    let b : record e1 { world = record e1.world { outboxes = slice_set e1.world.outboxes n [] }; tallies = e2.tallies }
+    ≡ record e { world = record e.world { outboxes = slice_set (emptied n e.world.outboxes) n [] }; tallies = e2.tallies } =
+    ap (λ (x : EngineState). record x { world = record x.world { outboxes = slice_set x.world.outboxes n [] }; tallies = e2.tallies }) first.is in
+    a ∙ b ∙ ap (λ l. record e { world = record e.world { outboxes = l }; tallies = e2.tallies }) (sym (emptied_more n e.world.outboxes))
+
 pub drained_next : (n : ℕ) (unit : TimeUnit) (time : Time) (e e1 e2 : EngineState) (held mids holds : List (Option (List ℕ)))
     → n < length e.tallies → length mids ≡ length held → DrainedFirst n unit time e e1 held mids → DrainsNext n unit time e1 e2 mids holds →
     DrainedFirst (suc n) unit time e e2 held holds
@@ -127,22 +141,12 @@ drained_next n unit time e e1 e2 held mids holds lt many first next =
     let count : length (drained_at time e.world n) ≡ length next.records = ap length here ∙ length-map next.records captured in
     record {
       wrote = λ q old new a b. wrote q old new a b (split q n) here;
-      is = is_next world;
-      each = ap (λ (x : EngineState). length x.tallies) next.is ∙ long e1.tallies n
+      is = drained_stays n unit time e e1 e2 held mids holds first next;
+      each = ap (λ (x : EngineState). length x.tallies) next.is ∙ length_set e1.tallies n
           (record (tallies_at e1.tallies n) { sent = (tallies_at e1.tallies n).sent + length next.records }) ∙ first.each;
       tallies = λ q less. tallied q less (split q n) count;
     }
   where
-    long : {A : Type 0} (xs : List A) (i : ℕ) (x : A) → length (slice_set xs i x) ≡ length xs
-    long [] i x = refl
-    long (y ∷ xs) zero x = refl
-    long (y ∷ xs) (suc i) x = ap suc (long xs i x)
-
-    mid_of : (xs : List (Option (List ℕ))) (q : ℕ) → q < length xs → (x : Option (List ℕ)) × (slice_get xs q ≡ Some x)
-    mid_of [] q less = absurd (omega (arith, less))
-    mid_of (x ∷ xs) zero less = (x, refl)
-    mid_of (x ∷ xs) (suc q) less = mid_of xs q (omega (arith, less))
-
     wrote : (q : ℕ) (old new : Option (List ℕ)) → slice_get held q ≡ Some old → slice_get holds q ≡ Some new → (q ≡ n) ⊎ (q ≢ n)
         → drained_at time e.world n ≡ capture_of next.records
         → Appends old new (if nat_lt q (suc n) then records_text unit (drained_at time e.world q) else [])
@@ -152,21 +156,10 @@ drained_next n unit time e e1 e2 held mids holds lt many first next =
     wrote q old new a b (inl same) here =
         let a' : slice_get held n ≡ Some old = ap (slice_get held) (sym same) ∙ a in
         let b' : slice_get holds n ≡ Some new = ap (slice_get holds) (sym same) ∙ b in
-        let (mid, m) = mid_of mids n (omega (arith, slice_get_within held n old a', many)) in
+        let (mid, m) = element_at mids n (omega (arith, slice_get_within held n old a', many)) in
         let before : Appends old mid [] = rw (not_below n) at (first.wrote n old mid a' m) in
         let after : Appends old new (records_text unit (drained_at time e.world n)) = rw here (appends_on old mid new _ before (next.own mid new m b')) in
         subst (λ x. Appends old new (if nat_lt x (suc n) then records_text unit (drained_at time e.world x) else [])) (sym same) (rw (below_next n) after)
-
-    is_next : e1.world ≡ record e.world { outboxes = emptied n e.world.outboxes } →
-        e2 ≡ record e { world = record e.world { outboxes = emptied (suc n) e.world.outboxes }; tallies = e2.tallies }
-    is_next world =
-        let a : e2 ≡ record e1 { world = record e1.world { outboxes = slice_set e1.world.outboxes n [] }; tallies = e2.tallies } =
-        subst (λ (x : EngineState). x ≡ record e1 { world = record e1.world { outboxes = slice_set e1.world.outboxes n [] }; tallies = x.tallies })
-        (sym next.is) refl in
-        let b : record e1 { world = record e1.world { outboxes = slice_set e1.world.outboxes n [] }; tallies = e2.tallies }
-        ≡ record e { world = record e.world { outboxes = slice_set (emptied n e.world.outboxes) n [] }; tallies = e2.tallies } =
-        ap (λ (x : EngineState). record x { world = record x.world { outboxes = slice_set x.world.outboxes n [] }; tallies = e2.tallies }) first.is in
-        a ∙ b ∙ ap (λ l. record e { world = record e.world { outboxes = l }; tallies = e2.tallies }) (sym (emptied_more n e.world.outboxes))
 
     tallied : (q : ℕ) → q < length e.setting.env.ports → (q ≡ n) ⊎ (q ≢ n) → length (drained_at time e.world n) ≡ length next.records
         → tallies_at e2.tallies q ≡ record (tallies_at e.tallies q) {
@@ -199,11 +192,6 @@ map_here f xs n x y here = slice_get-map f (slice_set xs n x) n ∙ ap (option_m
 
 pub map_at : {A B : Type 0} (f : A → B) (xs : List A) (n : ℕ) (y : A) → slice_get xs n ≡ Some y → slice_get (map f xs) n ≡ Some (f y)
 map_at f xs n y here = slice_get-map f xs n ∙ ap (option_map f) here
-
-pub length_set : {A : Type 0} (xs : List A) (i : ℕ) (x : A) → length (slice_set xs i x) ≡ length xs
-length_set [] i x = refl
-length_set (y ∷ xs) zero x = refl
-length_set (y ∷ xs) (suc i) x = ap suc (length_set xs i x)
 
 pub all_set : {A : Type 0} (P : A → Type 0) (xs : List A) (i : ℕ) (x : A) → AllByRecursion P xs → P x → AllByRecursion P (slice_set xs i x)
 all_set P [] i x all is = tt

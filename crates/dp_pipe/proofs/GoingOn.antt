@@ -24,7 +24,7 @@ use Rattle.dp_engine.specs.Engines.{EngineState}
 use Rattle.dp_pipe.specs.declared.forwarding.Progress.{Progress}
 use Rattle.dp_pipe.specs.Forwarding.{Input, HasReadSo, IsGoingOn, Stands, AllStand, TurnsOn, ReadsTurn, TakesTurn, DrainedAll, DrainedFirst, Follows}
 use Rattle.dp_pipe.specs.Forwarding.{Advances, Along, AnswersSo, asked, arrivals_of, capture_at, AreWritten, HasRun, records_many, unit_for, units_of}
-use Rattle.dp_pipe.proofs.Forwarded.{length_set}
+use Rattle.dp_pipe.proofs.Indices.{length_set}
 use Rattle.dp_pipe.proofs.RunOn.{run_on, arrival}
 use Rattle.dp_pipe.proofs.Advancing.{with_record, ended, arrivals_more, arrivals_ended, order_next, wrote_more, joined_many}
 use Rattle.dp_pipe.proofs.Units.{units_set}
@@ -74,7 +74,8 @@ wanted round port count Open e is = is ∙ ap (λ b. if b then round + 1 else ro
 wanted round port count Whole e lt = cc
 wanted round port count (Cut byte) e lt = cc
 
-known_map : (a b : Option (List ℕ)) (P Q : List ℕ → List ℕ → Type 0) → ((left rest : List ℕ) → P left rest → Q left rest) → WhereKnown a b P → WhereKnown a b Q
+pub known_map : (a b : Option (List ℕ)) (P Q : List ℕ → List ℕ → Type 0) → ((left rest : List ℕ) → P left rest → Q left rest) → WhereKnown a b P
+    → WhereKnown a b Q
 known_map None b P Q f h = tt
 known_map (Some x) None P Q f h = absurd h
 known_map (Some x) (Some y) P Q f h = f x y h

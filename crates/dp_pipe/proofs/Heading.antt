@@ -19,6 +19,7 @@ use Rattle.dp_pipe.specs.declared.forwarding.Progress.{Progress}
 use Rattle.dp_pipe.specs.Devices.{Fared}
 use Rattle.dp_pipe.specs.Forwarding.{is_nano, units_of, Stands, IsGoingOn, AllStand, HasReadSo, AreRead, Gives, BeginsAs}
 use Rattle.dp_pipe.specs.Running.{all_begun, with_states, HeadersStopped, HasHeaderFault, IsBegun, begun}
+use Rattle.dp_pipe.proofs.Indices.{length_set}
 
 -- an input has nanoseconds where its source has
 pub any_nano : (inputs : List Progress) → list_any is_nano (units_of (all_begun inputs)) ≡ list_any (λ (p : Progress). is_nano p.source.unit) inputs
@@ -52,11 +53,6 @@ same_more y (x ∷ xs) zero l = refl
 same_more y (x ∷ xs) (suc k) l = ap (λ ys. y ∷ ys) (same_more y xs k (omega (arith, l)))
 
 -- ---- one device after the other
-
-pub length_set : {A : Type 0} (xs : List A) (i : ℕ) (x : A) → length (slice_set xs i x) ≡ length xs
-length_set [] i x = refl
-length_set (y ∷ xs) zero x = refl
-length_set (y ∷ xs) (suc i) x = ap suc (length_set xs i x)
 
 -- each device so far was changed so, and those behind are as they were
 pub record Changed {W : Type 0} (R : W → W → Type 0) (n : ℕ) (olds news : List W) : Type 0 where

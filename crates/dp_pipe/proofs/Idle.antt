@@ -44,7 +44,8 @@ none_refused least [] ascends = refl
 none_refused least (n ∷ pattern) (more, ascends) =
     ap (λ b. (if b then 1 else 0) + refused_of pattern 0) (lt-leb n 0 (omega (arith, more))) ∙ zero-add (refused_of pattern 0) ∙ none_refused n pattern ascends
 
-pub idle_reported : (p : Plan) (pattern : List ℕ) (first : EngineState) (progress : List Progress) (r : Report) → IsFirst p pattern first → IsAscending 0 pattern
+pub idle_reported : (p : Plan) (pattern : List ℕ) (first : EngineState) (progress : List Progress) (r : Report) → IsFirst p pattern first
+    → IsAscending 0 pattern
     → length p.env.ports ≤ 8 → length p.env.rings ≤ 8 → AllByRecursion IsBegun progress → IsReportOf first progress r → IsIdle p.env r
 idle_reported p pattern first progress r is ascends few_ports few_rings begun reported =
     let states = map (λ (x : Progress). x.state) progress in

@@ -1,12 +1,35 @@
 -- Elements of lists by their indices.
 use Rattle.std.proofs.Common.{◌≡◌, ℕ, zero, suc, ◌+◌, ◌<◌, List, [], ◌∷◌, ◌++◌, length, take, drop, Some, refl, ap, sym, ◌∙◌, arith, add-one, add-zero}
 use Rattle.std.proofs.Common.{zero-add, subst}
-use Rattle.std.specs.Prelude.{slice_get}
+use Rattle.std.specs.Prelude.{slice_get, slice_set}
+use Rattle.std.proofs.lemmas.Option.{same_Some}
 use Rattle.std.specs.List.{AllZip}
 use Rattle.dp_model.specs.declared.env.Entry.{Entry}
 use Rattle.dp_pipe.specs.Setup.{NodeFiles}
 use Rattle.dp_pipe.specs.declared.nodes.How.{How}
 use Rattle.dp_pipe.specs.Nodes.{Node, numbered, node_of}
+
+-- ---- what is there, and what is set
+
+pub element_at : {A : Type 0} (xs : List A) (q : ℕ) → q < length xs → (x : A) × (slice_get xs q ≡ Some x)
+element_at [] q less = absurd (omega (arith, less))
+element_at (x ∷ xs) zero less = (x, refl)
+element_at (x ∷ xs) (suc q) less = element_at xs q (omega (arith, less))
+
+pub length_set : {A : Type 0} (xs : List A) (i : ℕ) (x : A) → length (slice_set xs i x) ≡ length xs
+length_set [] i x = refl
+length_set (y ∷ xs) zero x = refl
+length_set (y ∷ xs) (suc i) x = ap suc (length_set xs i x)
+
+pub set_here : {A : Type 0} (xs : List A) (n : ℕ) (x y : A) → slice_get (slice_set xs n x) n ≡ Some y → x ≡ y
+set_here [] n x y e = cc
+set_here (z ∷ xs) zero x y e = same_Some x y e
+set_here (z ∷ xs) (suc n) x y e = set_here xs n x y e
+
+pub set_itself : {A : Type 0} (xs : List A) (p : ℕ) (x : A) → slice_get xs p ≡ Some x → slice_set xs p x ≡ xs
+set_itself [] p x e = refl
+set_itself (y ∷ xs) zero x e = ap (λ z. z ∷ xs) (sym (same_Some y x e))
+set_itself (y ∷ xs) (suc p) x e = ap (λ l. y ∷ l) (set_itself xs p x e)
 
 -- ---- one element more
 

@@ -22,7 +22,9 @@ use Rattle.dp_pipe.specs.Forwarding.{Input, FailedAt, AreWritten, DrainsStopped,
 use Rattle.dp_pipe.specs.Headline.{PacketRun, GoesOnBy, WroteFront, capture_text, sent_until}
 use Rattle.dp_pipe.specs.Pipelines.{Plan}
 use Rattle.dp_pipe.specs.Running.{HeadersWritten, setting_in, programs_in}
-use Rattle.dp_pipe.proofs.Advancing.{appends_then, joined_here, mid_of, texts_append}
+use Rattle.dp_pipe.proofs.Advancing.{joined_here, texts_append}
+use Rattle.dp_pipe.proofs.Indices.{element_at}
+use Rattle.std.proofs.KnownBytes.{Appends-trans}
 use Rattle.dp_pipe.proofs.Forwarded.{split, tallies_other, tallies_same}
 use Rattle.dp_pipe.proofs.Heading.{order}
 use Rattle.dp_pipe.proofs.Numbers.{IsCounted}
@@ -30,6 +32,7 @@ use Rattle.dp_pipe.proofs.PacketRuns.{IsReady, IsFirst, packet_run, ran, run_of,
 use Rattle.dp_pipe.proofs.Indices.{behind}
 use Rattle.dp_pipe.proofs.RunOn.{counted_sent, outcomes_many, shown_in, tally_more, turn_tally}
 use Rattle.dp_pipe.proofs.Through.{stays_failed}
+use Rattle.dp_pipe.proofs.Indices.{length_set}
 
 -- ---- captures with one more
 
@@ -61,9 +64,9 @@ given_before : (unit : TimeUnit) (captures : List (List (Time × List ℕ))) (he
     × Appends old mid (text unit (capture_at captures q))
 given_before unit captures held hdr mids many mids_many headers wrote q old here =
     let within = slice_get_within held q old here in
-    let (h, at_h) = mid_of hdr q (omega (arith, within, many)) in
-    let (m, at_m) = mid_of mids q (omega (arith, within, many, mids_many)) in
-    (m, at_m, appends_then old h m (header_text unit) (records_text unit (capture_at captures q)) (headers q old h here at_h) (wrote q h m at_h at_m))
+    let (h, at_h) = element_at hdr q (omega (arith, within, many)) in
+    let (m, at_m) = element_at mids q (omega (arith, within, many, mids_many)) in
+    (m, at_m, Appends-trans old h m (header_text unit) (records_text unit (capture_at captures q)) (headers q old h here at_h) (wrote q h m at_h at_m))
 
 module _ (unit : TimeUnit) (captures : List (List (Time × List ℕ))) (time : Time) (e e' : EngineState) (held hdr mids holds : List (Option (List ℕ))) (port : ℕ)
     (many : length hdr ≡ length held) (mids_many : length mids ≡ length hdr) (headers : HeadersWritten unit held hdr)
@@ -86,7 +89,7 @@ module _ (unit : TimeUnit) (captures : List (List (Time × List ℕ))) (time : T
       let apart : q ≢ port = λ e. absurd (omega (arith, less, e)) in
       let now = rw (lt-ltb q port less) at (stopped.first.wrote q m new at_m (sym (stopped.others q apart) ∙ there)) in
       subst (Appends old new) (text_more unit (capture_at captures q) (drained_at time e.world q) ∙ ap (text unit) (sym (both q old here)))
-      (appends_then old m new (text unit (capture_at captures q)) (records_text unit (drained_at time e.world q)) before now)
+      (Appends-trans old m new (text unit (capture_at captures q)) (records_text unit (drained_at time e.world q)) before now)
 
   -- a port behind it has written what was sent before
   pub given_behind : (q : ℕ) (old new : Option (List ℕ)) → port < q → slice_get held q ≡ Some old → slice_get holds q ≡ Some new →
@@ -95,7 +98,7 @@ module _ (unit : TimeUnit) (captures : List (List (Time × List ℕ))) (time : T
       let (m, at_m, before) = given_before unit captures held hdr mids many mids_many headers wrote q old here in
       let apart : q ≢ port = λ e. absurd (omega (arith, less, e)) in
       let now = rw (le-ltb q port (omega (arith, less))) at (stopped.first.wrote q m new at_m (sym (stopped.others q apart) ∙ there)) in
-      subst (Appends old new) (append-nil (text unit (capture_at captures q))) (appends_then old m new (text unit (capture_at captures q)) [] before now)
+      subst (Appends old new) (append-nil (text unit (capture_at captures q))) (Appends-trans old m new (text unit (capture_at captures q)) [] before now)
 
   -- its own writer was given whole records, and a part of the next
   pub given_own : (old new : Option (List ℕ)) → slice_get held port ≡ Some old → slice_get holds port ≡ Some new →
@@ -117,7 +120,7 @@ module _ (unit : TimeUnit) (captures : List (List (Time × List ℕ))) (time : T
             (sym (append_assoc (text unit xs) (records_text unit front) rest)
             ∙ ap (λ l. l ++ rest) (text_more unit xs front ∙ ap (text unit) (sym (take_behind xs ys stopped.whole)
             ∙ ap (take (length xs + stopped.whole)) (sym is))))
-            (appends_then old m new (text unit xs) (records_text unit front ++ rest) before part.wrote);
+            (Appends-trans old m new (text unit xs) (records_text unit front ++ rest) before part.wrote);
       }
 
 -- ---- what was counted
@@ -263,11 +266,6 @@ module _ (p : Plan) (pattern : List ℕ) (first last : EngineState) (unit : Time
       (sym (tally_more q f.before f.run.outcomes f.last o no_tallies (outcomes_many (setting_in p pattern) (programs_in p) f.before first.world f.engine.world
       (shown_in f.run) (ran p pattern first f.engine f.before f.captures is f.run))))
     where
-      length_set : {A : Type 0} (xs : List A) (i : ℕ) (x : A) → length (slice_set xs i x) ≡ length xs
-      length_set [] i x = refl
-      length_set (y ∷ xs) zero x = refl
-      length_set (y ∷ xs) (suc i) x = ap suc (length_set xs i x)
-
       many_behind : length f.behind.tallies ≡ length f.engine.tallies
       many_behind = ap (λ (e : EngineState). length e.tallies) f.turn.is
           ∙ length_set f.engine.tallies f.last.port (counted f.turn.outcome (tallies_at f.engine.tallies f.last.port))

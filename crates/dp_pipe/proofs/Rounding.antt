@@ -18,6 +18,7 @@ use Rattle.dp_pipe.proofs.Advancing.{order_ended, order_round}
 use Rattle.dp_pipe.proofs.Stepping.{input_at, open_going}
 use Rattle.dp_pipe.proofs.GoingOn.{AreMany, goes_on, many_least}
 use Rattle.dp_pipe.proofs.Stopping.{stops_at, states_same, are_read}
+use Rattle.dp_pipe.proofs.Indices.{element_at, set_itself}
 
 -- open or ended
 decide : (state : InputState) → (state ≡ Open) ⊎ (state ≡ Open → ⊥)
@@ -46,20 +47,10 @@ module _ (unit : TimeUnit) (e0 e : EngineState) (olds news held mids : List (Opt
       omega (arith, along.run.turns, along.first, along.total, least, open_source.1, few, along.stand.many)
     where
       at_progress : (q : ℕ) (j : Input) → slice_get inputs q ≡ Some j → (x : Progress) × (slice_get progress q ≡ Some x)
-      at_progress q j at = get progress q (omega (arith, slice_get_within inputs q j at, along.stand.many))
-        where
-          get : (xs : List Progress) (q : ℕ) → q < length xs → (x : Progress) × (slice_get xs q ≡ Some x)
-          get [] q lt = absurd (omega (arith, lt))
-          get (x ∷ xs) zero lt = (x, refl)
-          get (x ∷ xs) (suc q) lt = get xs q (omega (arith, lt))
+      at_progress q j at = element_at progress q (omega (arith, slice_get_within inputs q j at, along.stand.many))
 
       small : (q : ℕ) (j : Input) → slice_get inputs q ≡ Some j → length j.records ≤ 16777216
       small q j at = let (x, there) = at_progress q j at in (along.stand.each q x j there at).few
-
-set_itself : {A : Type 0} (xs : List A) (p : ℕ) (x : A) → slice_get xs p ≡ Some x → slice_set xs p x ≡ xs
-set_itself [] p x e = refl
-set_itself (y ∷ xs) zero x e = ap (λ z. z ∷ xs) (sym (same_Some y x e))
-set_itself (y ∷ xs) (suc p) x e = ap (λ l. y ∷ l) (set_itself xs p x e)
 
 map_set : {A B : Type 0} (f : A → B) (xs : List A) (n : ℕ) (x : A) → map f (slice_set xs n x) ≡ slice_set (map f xs) n (f x)
 map_set f [] n x = refl

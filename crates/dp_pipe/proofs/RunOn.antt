@@ -18,6 +18,7 @@ use Rattle.dp_engine.specs.Drains.{captured}
 use Rattle.dp_engine.specs.Tallies.{counted}
 use Rattle.dp_engine.specs.Engines.{EngineState, tallies_at, counted_at}
 use Rattle.dp_pipe.specs.Forwarding.{capture_of, capture_at, drained_at, emptied, tally_of, HasRun, TakesTurn, DrainedFirst}
+use Rattle.dp_pipe.proofs.Indices.{length_set}
 use Rattle.dp_pipe.proofs.Forwarded.{emptied_all, tallies_other, tallies_same, split}
 
 abbrev pub arrival : ℕ → Time → List ℕ → Arrival Time
@@ -92,6 +93,17 @@ turn_tally q port o tallies lt = go (split q port)
         (rw (eq-eqb port port refl) (tallies_same tallies port (counted o (tallies_at tallies port)) lt))
     go (inr other) = rw (ne_eqb port q (λ e. other (sym e))) (tallies_other tallies port q (counted o (tallies_at tallies port)) other)
 
+-- the tallies of a port behind a turn and the drains: what was counted, and what was sent
+sums : (here : Bool) (o : Outcome) (base t1 t2 t3 after : Tallies) (n before now all : ℕ) → t1 ≡ record base { sent = n + before }
+    → t2 ≡ (if here then counted o t1 else t1) → t3 ≡ record t2 { sent = t2.sent + now } → after ≡ (if here then counted o base else base)
+    → all ≡ before + now → t3 ≡ record after { sent = n + all }
+sums true o base t1 t2 t3 after n before now all was turned drained is many =
+    drained ∙ ap (λ (t : Tallies). record t { sent = t.sent + now }) (turned ∙ ap (counted o) was ∙ counted_sent o base (n + before))
+    ∙ ap (λ m. record (counted o base) { sent = m }) (omega (arith, many)) ∙ ap (λ (t : Tallies). record t { sent = n + all }) (sym is)
+sums false o base t1 t2 t3 after n before now all was turned drained is many =
+    drained ∙ ap (λ (t : Tallies). record t { sent = t.sent + now }) (turned ∙ was)
+    ∙ ap (λ m. record base { sent = m }) (omega (arith, many)) ∙ ap (λ (t : Tallies). record t { sent = n + all }) (sym is)
+
 pub run_on : (e e1 e2 e3 : EngineState) (port : ℕ) (time : Time) (bytes : List ℕ) (arrivals : List (Arrival Time)) (captures : List (List (Time × List ℕ)))
     (unit : TimeUnit) (mids holds : List (Option (List ℕ)))
     → port < length e.tallies → length e2.world.outboxes ≡ length e.setting.env.ports
@@ -122,17 +134,12 @@ run_on e e1 e2 e3 port time bytes arrivals captures unit mids holds there boxes 
       run = subst (Run e.setting e.nodes (arrivals ++ arrival port time bytes ∷ []) e.world
           (with_turn time turn.outcome turn.told e2.world (shown_in run))) (sym world3) pushed;
       turns = omega (arith, turns3, run.turns, length-append arrivals (arrival port time bytes ∷ []));
-      each = all.each ∙ ap (λ (x : EngineState). length x.tallies) turn.is ∙ long e1.tallies port (counted turn.outcome (tallies_at e1.tallies port))
+      each = all.each ∙ ap (λ (x : EngineState). length x.tallies) turn.is ∙ length_set e1.tallies port (counted turn.outcome (tallies_at e1.tallies port))
           ∙ run.each;
       tallies = λ q sent at. tallied q sent (joined_at captures (records_at time e2.world) q sent at) many;
       stays = stays3 ∙ ap (λ m. record e { world = e3.world; turns = m; tallies = e3.tallies }) (sym turns3);
     }
   where
-    long : {A : Type 0} (xs : List A) (i : ℕ) (x : A) → length (slice_set xs i x) ≡ length xs
-    long [] i x = refl
-    long (y ∷ xs) zero x = refl
-    long (y ∷ xs) (suc i) x = ap suc (long xs i x)
-
     tallied : (q : ℕ) (sent : List (Time × List ℕ)) → ((x : List (Time × List ℕ)) × (y : List (Time × List ℕ)) × (slice_get captures q ≡ Some x)
         × (slice_get (records_at time e2.world) q ≡ Some y) × (sent ≡ x ++ y)) → length run.outcomes ≡ length arrivals
         → tallies_at e3.tallies q ≡ record (tally_of q (arrivals ++ arrival port time bytes ∷ []) (run.outcomes
@@ -151,29 +158,6 @@ run_on e e1 e2 e3 port time bytes arrivals captures unit mids holds there boxes 
         rw (lt-ltb q (length e.setting.env.ports) q_in, wrote) at (all.tallies q (subst (λ (s : Setting). q < length s.env.ports) (sym setting2) q_in)) in
         let after = tally_more q arrivals run.outcomes (arrival port time bytes) turn.outcome (tallies_at e.tallies q) many in
         let long_sent : length sent ≡ length x + length y = ap length is ∙ length-append x y in
-        go (port == q) refl t1 t2 t3 after long_sent
-      where
-        go : (b : Bool) → (port == q) ≡ b
-            → tallies_at e1.tallies q ≡ record (tally_of q arrivals run.outcomes (tallies_at e.tallies q)) { sent = (tallies_at e.tallies q).sent + length x }
-            → tallies_at e2.tallies q ≡ (if port == q then counted turn.outcome (tallies_at e1.tallies q) else tallies_at e1.tallies q)
-            → tallies_at e3.tallies q ≡ record (tallies_at e2.tallies q) { sent = (tallies_at e2.tallies q).sent + length y }
-            → tally_of q (arrivals ++ arrival port time bytes ∷ []) (run.outcomes ++ turn.outcome ∷ []) (tallies_at e.tallies q)
-            ≡ (if port == q then counted turn.outcome (tally_of q arrivals run.outcomes (tallies_at e.tallies q))
-            else tally_of q arrivals run.outcomes (tallies_at e.tallies q))
-            → length sent ≡ length x + length y
-            → tallies_at e3.tallies q ≡ record (tally_of q (arrivals ++ arrival port time bytes ∷ []) (run.outcomes
-            ++ turn.outcome ∷ []) (tallies_at e.tallies q)) { sent = (tallies_at e.tallies q).sent + length sent }
-        go true same t1 t2 t3 after many =
-            let base = tally_of q arrivals run.outcomes (tallies_at e.tallies q) in
-            let n = (tallies_at e.tallies q).sent in
-            let a : tallies_at e2.tallies q ≡ record (counted turn.outcome base) { sent = n + length x } =
-            (rw same at t2) ∙ ap (counted turn.outcome) t1 ∙ counted_sent turn.outcome base (n + length x) in
-            t3 ∙ ap (λ (t : Tallies). record t { sent = t.sent + length y }) a
-            ∙ ap (λ m. record (counted turn.outcome base) { sent = m }) (omega (arith, many))
-            ∙ ap (λ (t : Tallies). record t { sent = n + length sent }) (sym (rw same at after))
-        go false same t1 t2 t3 after many =
-            let base = tally_of q arrivals run.outcomes (tallies_at e.tallies q) in
-            let n = (tallies_at e.tallies q).sent in
-            let a : tallies_at e2.tallies q ≡ record base { sent = n + length x } = (rw same at t2) ∙ t1 in
-            t3 ∙ ap (λ (t : Tallies). record t { sent = t.sent + length y }) a ∙ ap (λ m. record base { sent = m }) (omega (arith, many))
-            ∙ ap (λ (t : Tallies). record t { sent = n + length sent }) (sym (rw same at after))
+        sums (port == q) turn.outcome (tally_of q arrivals run.outcomes (tallies_at e.tallies q)) (tallies_at e1.tallies q) (tallies_at e2.tallies q)
+        (tallies_at e3.tallies q) (tally_of q (arrivals ++ arrival port time bytes ∷ []) (run.outcomes ++ turn.outcome ∷ []) (tallies_at e.tallies q))
+        (tallies_at e.tallies q).sent (length x) (length y) (length sent) t1 t2 t3 after long_sent

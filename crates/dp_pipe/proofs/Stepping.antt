@@ -19,7 +19,8 @@ use Rattle.dp_engine.specs.declared.report.InputState.TheVariants.{Open, Whole, 
 use Rattle.dp_engine.specs.Engines.{EngineState}
 use Rattle.dp_pipe.specs.declared.forwarding.Progress.{Progress}
 use Rattle.dp_pipe.specs.Forwarding.{Input, HasReadSo, IsGoingOn, Stands, AllStand, TurnsOn, ReadsTurn, TakesTurn}
-use Rattle.dp_pipe.proofs.Forwarded.{split, length_set}
+use Rattle.dp_pipe.proofs.Forwarded.{split}
+use Rattle.dp_pipe.proofs.Indices.{element_at, length_set, set_here}
 use Rattle.dp_pipe.proofs.Advancing.{with_record, ended}
 
 -- ---- inputs and the sources that read them
@@ -28,18 +29,8 @@ use Rattle.dp_pipe.proofs.Advancing.{with_record, ended}
 pub input_at : (olds news : List (Option (List ℕ))) (progress : List Progress) (inputs : List Input) (q : ℕ) (p : Progress) →
     AllStand olds news progress inputs → slice_get progress q ≡ Some p → (i : Input) × (slice_get inputs q ≡ Some i) × Stands p i
 input_at olds news progress inputs q p stand at =
-    let (i, here) = get inputs q (omega (arith, slice_get_within progress q p at, stand.many)) in
+    let (i, here) = element_at inputs q (omega (arith, slice_get_within progress q p at, stand.many)) in
     (i, here, stand.each q p i at here)
-  where
-    get : {A : Type 0} (xs : List A) (q : ℕ) → q < length xs → (x : A) × (slice_get xs q ≡ Some x)
-    get [] q lt = absurd (omega (arith, lt))
-    get (x ∷ xs) zero lt = (x, refl)
-    get (x ∷ xs) (suc q) lt = get xs q (omega (arith, lt))
-
-set_here : {A : Type 0} (xs : List A) (n : ℕ) (x y : A) → slice_get (slice_set xs n x) n ≡ Some y → x ≡ y
-set_here [] n x y e = cc
-set_here (z ∷ xs) zero x y e = same_Some x y e
-set_here (z ∷ xs) (suc n) x y e = set_here xs n x y e
 
 -- one input, its source and what its reader has left have changed
 pub all_stand : (olds news : List (Option (List ℕ))) (progress : List Progress) (inputs : List Input) (n : ℕ) (p' : Progress) (i' : Input) (b : Option (List ℕ))

@@ -101,9 +101,11 @@ stopped_by p pattern first last olds news held holds progress (In port error) r 
     })
 stopped_by p pattern first last olds news held holds progress (In port error) r ready ascends is room many (inr made) reported =
     let (inputs, states, went, fault) = made.rounds in
-    let done = went_on p pattern first last made.unit olds news held made.mids holds inputs progress r ready is made.mids_many made.headers went states reported in
+    let done = went_on p pattern first last made.unit olds news held made.mids holds inputs progress r ready is made.mids_many made.headers went states
+    reported in
     inr (record { room = room; inputs = inputs; many = done.many; read = went.read; fault = fault; run = done.run; wrote = done.wrote; numbers = done.numbers })
-stopped_by p pattern first last olds news held holds progress (Out port) r ready ascends is room many (inl (begun_many, read, stopped, begun_all, same)) reported =
+stopped_by p pattern first last olds news held holds progress (Out port) r ready ascends is room many (inl (begun_many, read, stopped, begun_all, same))
+    reported =
     let (few_ports, few_rings, few_tables) = few p.env ready.limits in
     inl (record {
       room = room;
@@ -112,7 +114,8 @@ stopped_by p pattern first last olds news held holds progress (Out port) r ready
       read = read;
       none = none_read progress begun_all;
       stopped = stopped;
-      idle = idle_reported p pattern first progress r is ascends few_ports few_rings begun_all (subst (λ (e : EngineState). IsReportOf e progress r) same reported);
+      idle = idle_reported p pattern first progress r is ascends few_ports few_rings begun_all
+          (subst (λ (e : EngineState). IsReportOf e progress r) same reported);
     })
 stopped_by p pattern first last olds news held holds progress (Out port) r ready ascends is room many (inr made) reported =
     let (inputs, states, failed) = made.rounds in

@@ -22,18 +22,15 @@ use Rattle.dp_pipe.specs.declared.forwarding.Progress.{Progress}
 use Rattle.dp_pipe.specs.declared.forwarding.RunCause.{RunCause}
 use Rattle.dp_pipe.specs.declared.forwarding.RunCause.TheVariants.{In, Out}
 use Rattle.dp_pipe.specs.Forwarding.{Input, HasReadSo, Gives, AreRead, Refuses, Stands, AllStand, ReadsTurn, Follows, Advances, Along, Stops, arrivals_of}
+use Rattle.dp_pipe.specs.Forwarding.{TakesTurn, DrainsStopped}
 use Rattle.dp_pipe.specs.Forwarding.{unit_for, units_of}
-use Rattle.dp_pipe.proofs.Forwarded.{split, length_set}
+use Rattle.dp_pipe.proofs.Forwarded.{split}
+use Rattle.dp_pipe.proofs.Indices.{element_at, length_set, set_here, set_itself}
 use Rattle.dp_pipe.proofs.RunOn.{arrival}
 use Rattle.dp_pipe.proofs.Advancing.{with_record, arrivals_more, order_next}
-use Rattle.dp_pipe.proofs.GoingOn.{wanted}
+use Rattle.dp_pipe.proofs.GoingOn.{known_map, wanted}
 use Rattle.dp_pipe.proofs.Units.{units_set}
 use Rattle.dp_pipe.proofs.Stepping.{input_at, all_stand, known_then, open_read, open_going, stands_more}
-
-set_itself : {A : Type 0} (xs : List A) (p : ℕ) (x : A) → slice_get xs p ≡ Some x → slice_set xs p x ≡ xs
-set_itself [] p x e = refl
-set_itself (y ∷ xs) zero x e = ap (λ z. z ∷ xs) (sym (same_Some y x e))
-set_itself (y ∷ xs) (suc p) x e = ap (λ l. y ∷ l) (set_itself xs p x e)
 
 -- ---- states
 
@@ -75,19 +72,9 @@ gives_of Open s unit records bytes rest same has = (s, rest, has, same)
 gives_of Whole s unit records bytes rest same has = rw (← same) has
 gives_of (Cut byte) s unit records bytes rest same has = rw (← same) has
 
-known_map : (a b : Option (List ℕ)) (P Q : List ℕ → List ℕ → Type 0) → ((left rest : List ℕ) → P left rest → Q left rest) → WhereKnown a b P → WhereKnown a b Q
-known_map None b P Q f h = tt
-known_map (Some x) None P Q f h = absurd h
-known_map (Some x) (Some y) P Q f h = f x y h
-
 progress_at : (progress : List Progress) (inputs : List Input) (q : ℕ) (i : Input) → length progress ≡ length inputs → slice_get inputs q ≡ Some i →
     (p : Progress) × (slice_get progress q ≡ Some p)
-progress_at progress inputs q i many at = get progress q (omega (arith, slice_get_within inputs q i at, many))
-  where
-    get : {A : Type 0} (xs : List A) (q : ℕ) → q < length xs → (x : A) × (slice_get xs q ≡ Some x)
-    get [] q lt = absurd (omega (arith, lt))
-    get (x ∷ xs) zero lt = (x, refl)
-    get (x ∷ xs) (suc q) lt = get xs q (omega (arith, lt))
+progress_at progress inputs q i many at = element_at progress q (omega (arith, slice_get_within inputs q i at, many))
 
 pub are_read : (olds news : List (Option (List ℕ))) (progress : List Progress) (inputs : List Input) → AllStand olds news progress inputs →
     AreRead olds news inputs
@@ -95,11 +82,6 @@ are_read olds news progress inputs stand q i old new at a b =
     let (p, here) = progress_at progress inputs q i stand.many at in
     known_map old new _ _ (λ bytes rest has. gives_of i.state p.source i.unit i.records bytes rest (stand.each q p i here at).unit has)
     (stand.read q p i old new here at a b)
-
-set_here : {A : Type 0} (xs : List A) (n : ℕ) (x y : A) → slice_get (slice_set xs n x) n ≡ Some y → x ≡ y
-set_here [] n x y e = cc
-set_here (z ∷ xs) zero x y e = same_Some x y e
-set_here (z ∷ xs) (suc n) x y e = set_here xs n x y e
 
 -- an input that has a fault was read so far
 read_set : (olds news : List (Option (List ℕ))) (inputs : List Input) (n : ℕ) (i : Input) (b : Option (List ℕ)) → AreRead olds news inputs →
@@ -128,6 +110,105 @@ refuses_of TooMany s s' unit records bytes rest buf same has = rw (← same) has
 refuses_of Read s s' unit records bytes rest buf same has = tt
 refuses_of error s s' unit records bytes rest buf same has = rw (← same) has
 
+-- an input that is open, whose source answers, in a run that goes along
+module _ (unit : TimeUnit) (e0 e : EngineState) (olds news held mids : List (Option (List ℕ))) (progress : List Progress) (inputs : List Input) (round port : ℕ)
+    (along : Along unit e0 e olds news held mids progress inputs round port) (p p' : Progress) (here : slice_get progress port ≡ Some p)
+    (open_p : p.state ≡ Open) (a b : Option (List ℕ)) (left_a : slice_get news port ≡ Some a) where
+  abbrev i : Input
+  i = (input_at olds news progress inputs port p along.stand here).0
+
+  i_here : slice_get inputs port ≡ Some i
+  i_here = (input_at olds news progress inputs port p along.stand here).1
+
+  i_stands : Stands p i
+  i_stands = (input_at olds news progress inputs port p along.stand here).2
+
+  i_open : i.state ≡ Open
+  i_open = sym i_stands.state ∙ open_p
+
+  -- a writer failed behind its record
+  failed_behind : (holds : List (Option (List ℕ))) (time : Time) (len : ℕ) (buf : List ℕ) (e1 e2 : EngineState) (q : ℕ)
+      → length mids ≡ length e0.setting.env.ports → WhereKnown a b (λ left rest. Continues p.source p'.source left rest buf (Ok (Record time len)))
+      → p.source.given < 16777216 → p'.source ≡ advanced p.source len → TakesTurn port e e1 (take len buf) → p'.state ≡ Open
+      → DrainsStopped unit time e1 e2 mids holds q → Stops unit e0 e2 olds (slice_set news port b) held holds (slice_set progress port p') (Out q)
+  failed_behind holds time len buf e1 e2 q mids_many more less moves turn is stops =
+      let r : PacketRecord = record { time = time; bytes = take len buf } in
+      let i' = with_record r i in
+      let stands = stands_more p p' i time len buf i_stands open_p is moves less in
+      let stand = all_stand olds news progress inputs port p' i' b along.stand stands (λ old at.
+      known_then old a b _ _ _ (λ bytes left rest before now. rw i_open
+      (now bytes i.records (open_read i.state p.source i.records bytes left i_open before))) (along.stand.read port p i old a here i_here at left_a)
+      more) in (
+        slice_set inputs port i',
+        states_same olds (slice_set news port b) (slice_set progress port p') (slice_set inputs port i') stand,
+        record {
+          inputs_many = length_set inputs port i' ∙ along.inputs_many;
+          unit_is = along.unit_is ∙ ap unit_for (sym (units_set inputs port i i' i_here refl));
+          read = are_read olds (slice_set news port b) (slice_set progress port p') (slice_set inputs port i') stand;
+          before = arrivals_of inputs;
+          last = arrival port time (take len buf);
+          arrivals_are = arrivals_more inputs round port i r along.order i_here i_open;
+          round = round;
+          order = order_next inputs round port i' along.order (rw i_open (length-append i.records (r ∷ [])
+              ∙ ap (λ m. m + 1) (wanted round port (length i.records) i.state i_open (along.order port i i_here))));
+          engine = e;
+          captures = along.captures;
+          many = along.many;
+          run = along.run;
+          mids = mids;
+          mids_many = mids_many ∙ sym along.held_many;
+          wrote = along.wrote;
+          behind = e1;
+          turn = turn;
+          stopped = stops;
+        },
+      )
+
+  states : p'.state ≡ Open → map state_of inputs ≡ map state_at (slice_set progress port p')
+  states is = states_same olds news progress inputs along.stand
+      ∙ sym (states_set progress port p' ∙ ap (slice_set (map state_at progress) port) (is ∙ sym open_p)
+      ∙ set_itself (map state_at progress) port p.state (states_get progress port p here))
+
+  -- what known bytes were left, with the records before
+  left_of : (P : List ℕ → List ℕ → Type 0) (buf : List ℕ) (answer : Result Next PcapError) → WhereKnown a b (λ left rest. Continues p.source p'.source left rest
+      buf answer)
+      → ((bytes left rest : List ℕ) → HasRead bytes p.source i.records left → ReadsOn bytes i.records p.source p'.source rest buf answer → P bytes rest)
+      → (old : Option (List ℕ)) → slice_get olds port ≡ Some old → WhereKnown old b P
+  left_of P buf answer more f old at =
+      known_then old a b _ _ _ (λ bytes left rest before now.
+      let read = open_read i.state p.source i.records bytes left i_open before in
+      f bytes left rest read (now bytes i.records read)) (along.stand.read port p i old a here i_here at left_a) more
+
+  -- the input is at fault
+  refused_here : (error : PcapError) (buf : List ℕ) → WhereKnown a b (λ left rest. Continues p.source p'.source left rest buf (Err error)) → p'.state ≡ Open
+      → Stops unit e0 e olds (slice_set news port b) held mids (slice_set progress port p') (In port error)
+  refused_here error buf more is = (
+    inputs,
+    states is,
+    record {
+      inputs_many = along.inputs_many;
+      unit_is = along.unit_is;
+      read = read_set olds news inputs port i b (are_read olds news progress inputs along.stand) i_here
+          (left_of (λ bytes rest. Gives i.state i.unit i.records bytes) buf (Err error) more
+          (λ bytes left rest read now. rw i_open (p.source, left, read, i_stands.unit)));
+      captures = along.captures;
+      many = along.many;
+      run = along.run;
+      wrote = along.wrote;
+    },
+    record {
+      round = round;
+      order = along.order;
+      input = i;
+      input_is = i_here;
+      is_open = i_open;
+      fault = λ old new at c.
+          subst (λ x. WhereKnown old x (λ bytes rest. Refuses i.unit i.records error bytes)) (set_here news port b new c)
+          (left_of (λ bytes rest. Refuses i.unit i.records error bytes) buf (Err error) more
+          (λ bytes left rest read now. refuses_of error p.source p'.source i.unit i.records bytes rest buf i_stands.unit now) old at);
+    },
+  )
+
 pub stops_at : (unit : TimeUnit) (e0 e e' : EngineState) (olds news held mids holds : List (Option (List ℕ))) (progress : List Progress) (inputs : List Input)
     (round port : ℕ) (p p' : Progress) (a b : Option (List ℕ)) (cause : RunCause)
     → Along unit e0 e olds news held mids progress inputs round port → length mids ≡ length e0.setting.env.ports → slice_get progress port ≡ Some p →
@@ -137,98 +218,17 @@ pub stops_at : (unit : TimeUnit) (e0 e e' : EngineState) (olds news held mids ho
 stops_at unit e0 e e' olds news held mids holds progress inputs round port p p' a b cause along mids_many here open_p left_a step =
     go step.next step.read step.in_range step.moves step.follows
   where
-    i : Input
-    i = (input_at olds news progress inputs port p along.stand here).0
-
-    i_here : slice_get inputs port ≡ Some i
-    i_here = (input_at olds news progress inputs port p along.stand here).1
-
-    i_stands : Stands p i
-    i_stands = (input_at olds news progress inputs port p along.stand here).2
-
-    i_open : i.state ≡ Open
-    i_open = sym i_stands.state ∙ open_p
-
-    states : p'.state ≡ Open → map state_of inputs ≡ map state_at (slice_set progress port p')
-    states is = states_same olds news progress inputs along.stand
-        ∙ sym (states_set progress port p' ∙ ap (slice_set (map state_at progress) port) (is ∙ sym open_p)
-        ∙ set_itself (map state_at progress) port p.state (states_get progress port p here))
+    same_err : (x y : RunCause) → ◌≡◌ {A = Result ⊤ RunCause} (Err x) (Err y) → x ≡ y
+    same_err x y e = cc
 
     go : (answer : Result Next PcapError) → ReadsTurn port e step.engine p.source p'.source a b answer → IsInRange p.source answer →
         Moves p.source p'.source answer → Follows port unit step.engine e' p'.state mids holds answer (Err cause)
         → Stops unit e0 e' olds (slice_set news port b) held holds (slice_set progress port p') cause
     go (Ok (Record time len)) (buf, more, (fits, turn)) (nano, few, less) moves (is, q, cause_is, stops) =
-        let r : PacketRecord = record { time = time; bytes = take len buf } in
-        let i' = with_record r i in
-        let stands = stands_more p p' i time len buf i_stands open_p is moves less in
-        let stand = all_stand olds news progress inputs port p' i' b along.stand stands (λ old at.
-        known_then old a b _ _ _ (λ bytes left rest before now. rw i_open
-        (now bytes i.records (open_read i.state p.source i.records bytes left i_open before))) (along.stand.read port p i old a here i_here at left_a)
-        more) in
-        rw cause_is (
-          slice_set inputs port i',
-          states_same olds (slice_set news port b) (slice_set progress port p') (slice_set inputs port i') stand,
-          record {
-            inputs_many = length_set inputs port i' ∙ along.inputs_many;
-            unit_is = along.unit_is ∙ ap unit_for (sym (units_set inputs port i i' i_here refl));
-            read = are_read olds (slice_set news port b) (slice_set progress port p') (slice_set inputs port i') stand;
-            before = arrivals_of inputs;
-            last = arrival port time (take len buf);
-            arrivals_are = arrivals_more inputs round port i r along.order i_here i_open;
-            round = round;
-            order = order_next inputs round port i' along.order (rw i_open (length-append i.records (r ∷ [])
-                ∙ ap (λ m. m + 1) (wanted round port (length i.records) i.state i_open (along.order port i i_here))));
-            engine = e;
-            captures = along.captures;
-            many = along.many;
-            run = along.run;
-            mids = mids;
-            mids_many = mids_many ∙ sym along.held_many;
-            wrote = along.wrote;
-            behind = step.engine;
-            turn = turn;
-            stopped = stops;
-          },
-        )
+        rw cause_is (failed_behind unit e0 e olds news held mids progress inputs round port along p p' here open_p a b left_a holds time len buf step.engine e'
+        q mids_many more less moves turn is stops)
     go (Ok End) reads range moves (is, bad, e_is, holds_is) = cc
     go (Ok (next.Cut byte)) reads range moves (is, bad, e_is, holds_is) = cc
     go (Err error) (buf, more, same) range moves (is, answer_is, e_is, holds_is) =
-        let cause_is : cause ≡ In port error = same_err cause (In port error) answer_is in
-        let read = read_set olds news inputs port i b (are_read olds news progress inputs along.stand) i_here (λ old at.
-        known_then old a b _ _ _ (λ bytes left rest before now. rw i_open (
-          p.source,
-          left,
-          open_read i.state p.source i.records bytes left i_open before,
-          i_stands.unit,
-        )) (along.stand.read port p i old a here i_here at left_a) more) in
-        let fault : (old new : Option (List ℕ)) → slice_get olds port ≡ Some old → slice_get (slice_set news port b) port ≡ Some new →
-        WhereKnown old new (λ bytes rest. Refuses i.unit i.records error bytes) = λ old new at c.
-        let z = set_here news port b new c in
-        subst (λ x. WhereKnown old x (λ bytes rest. Refuses i.unit i.records error bytes)) z
-        (known_then old a b _ _ _ (λ bytes left rest before now. refuses_of error p.source p'.source i.unit i.records bytes rest buf i_stands.unit
-        (now bytes i.records (open_read i.state p.source i.records bytes left i_open before))) (along.stand.read port p i old a here i_here at left_a)
-        more) in
-        rw (cause_is, e_is ∙ same, holds_is) (
-          inputs,
-          states is,
-          record {
-            inputs_many = along.inputs_many;
-            unit_is = along.unit_is;
-            read = read;
-            captures = along.captures;
-            many = along.many;
-            run = along.run;
-            wrote = along.wrote;
-          },
-          record {
-            round = round;
-            order = along.order;
-            input = i;
-            input_is = i_here;
-            is_open = i_open;
-            fault = fault;
-          },
-        )
-      where
-        same_err : (x y : RunCause) → ◌≡◌ {A = Result ⊤ RunCause} (Err x) (Err y) → x ≡ y
-        same_err x y e = cc
+        rw (same_err cause (In port error) answer_is, e_is ∙ same, holds_is)
+        (refused_here unit e0 e olds news held mids progress inputs round port along p p' here open_p a b left_a error buf more is)

@@ -23,7 +23,8 @@ use Rattle.dp_pipe.specs.declared.forwarding.RunCause.TheVariants.{Memory, NoRoo
 use Rattle.dp_pipe.specs.Forwarding.{Input, AllStand, AskedUntil, AnswersSo, asked, Along, HasRun, AreWritten, AreRounds, FailedAt, Stops, arrivals_of}
 use Rattle.dp_pipe.specs.Forwarding.{records_in, records_many, capture_at, capture_of, tally_of, AreRead, unit_for, units_of}
 use Rattle.dp_pipe.specs.Running.{all_begun, begun, IsBegun, GoesForward, answer_of, HeadersFail, IsHeaderCause, IsWriteCause}
-use Rattle.dp_pipe.proofs.Heading.{told_at, all_at, length_set, keeps_it}
+use Rattle.dp_pipe.proofs.Heading.{told_at, all_at, keeps_it}
+use Rattle.dp_pipe.proofs.Indices.{length_set}
 
 -- ---- before the first round
 

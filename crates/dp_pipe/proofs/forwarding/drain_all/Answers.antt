@@ -10,11 +10,12 @@ use Rattle.dp_pcap.specs.Text.{record_text}
 use Rattle.dp_engine.specs.Drains.{WrotePart, captured}
 use Rattle.dp_engine.specs.Outcomes.{sent_of}
 use Rattle.dp_pipe.specs.Forwarding.{DrainedFirst}
-use Rattle.dp_pipe.proofs.Forwarded.{drained_none, drained_next, drain_on, stopped, map_here, map_at, length_set, ok_some, err_some}
+use Rattle.dp_pipe.proofs.Forwarded.{drained_none, drained_next, drain_on, stopped, map_here, map_at, ok_some, err_some}
 use Rattle.std.specs.Prelude.{slice_index_or, Err, ⊤}
 use Rattle.std.proofs.lemmas.Bool.{ne_eqb}
 use Rattle.dp_pipe.specs.Devices.{failed_drain}
 use Rattle.dp_pipe.proofs.Heading.{there_is, all_at}
+use Rattle.dp_pipe.proofs.Indices.{length_set}
 use Rattle.dp_pipe.proofs.Faring.{fared_sound, failed_here, one_then, still_sound}
 use Rattle.dp_pipe.proofs.forwarding.drain_all.Goals as goal
 

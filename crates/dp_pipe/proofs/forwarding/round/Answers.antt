@@ -7,7 +7,7 @@ use Rattle.dp_engine.specs.declared.report.InputState.TheVariants.{Open}
 use Rattle.dp_engine.specs.Engines.{EngineState}
 use Rattle.dp_pipe.specs.declared.forwarding.Progress.{Progress}
 use Rattle.dp_pipe.specs.Forwarding.{Input, Along}
-use Rattle.dp_pipe.proofs.Forwarded.{length_set}
+use Rattle.dp_pipe.proofs.Indices.{length_set}
 use Rattle.dp_pipe.proofs.Rounding.{open_source, few_turns, asked_on, asked_stops, round_over}
 use Rattle.std.proofs.Common.{false, subst}
 use Rattle.std.specs.Prelude.{slice_index_or}

@@ -52,59 +52,44 @@ rounds-requires-clause-along g c =
           c.read_headers.ensures.begun,
     )
 
-pub returns-clause-forward : goal.returns-clause-forward
-returns-clause-forward g c =
+-- as many writers as ports
+writers_many : (g : _) (c : goal.After-slice_known-2-1 g) → length (map g.W.Sink.contents c.put_headers.new.outs) ≡ length c.args.engine.now.setting.env.ports
+writers_many g c = length-map c.put_headers.new.outs g.W.Sink.contents ∙ c.put_headers.ensures.many ∙ c.requires.writers
+
+-- all rounds, behind headers that were read and written
+went : (g : _) (c : goal.After-slice_known-2-1 g)
+    → AreRounds c.unit_for-unit.result c.args.engine.now c.rounds.new.engine (map g.R.Feed.remaining c.args.ins.now) (map g.R.Feed.remaining c.rounds.new.ins)
+    (map g.W.Sink.contents c.put_headers.new.outs) (map g.W.Sink.contents c.rounds.new.outs) c.rounds.new.inputs c.rounds.result
+went g c =
     let here : c.as_mut_slice.result.now ≡ c.read_headers.new.inputs.items = search rules in
     let unread : c.as_slice.result.now ≡ c.read_headers.new.inputs.items = search rules in
     let mids = map g.W.Sink.contents c.put_headers.new.outs in
-    let many : length mids ≡ length c.args.engine.now.setting.env.ports = length-map c.put_headers.new.outs g.W.Sink.contents ∙ c.put_headers.ensures.many
-    ∙ c.requires.writers in
-    let unit_is = rw unread at c.unit_for-unit.ensures in
     let along = along_none c.unit_for-unit.result c.args.engine.now (map g.R.Feed.remaining c.args.ins.now) (map g.R.Feed.remaining c.read_headers.new.ins)
-    mids c.read_headers.new.inputs.items c.requires.first many
-    (c.in_ok-read_headers.ensures.all ∙ c.requires.readers) unit_is c.in_ok-read_headers.ensures.ok c.read_headers.ensures.begun in
-    let goes = c.rounds.ensures.goes c.args.engine.now (map g.R.Feed.remaining c.args.ins.now) mids (all_begun c.read_headers.new.inputs.items)
-    (rw here along) in
+    mids c.read_headers.new.inputs.items c.requires.first (writers_many g c)
+    (c.in_ok-read_headers.ensures.all ∙ c.requires.readers) (rw unread at c.unit_for-unit.ensures) c.in_ok-read_headers.ensures.ok
+    c.read_headers.ensures.begun in
+    c.rounds.ensures.goes c.args.engine.now (map g.R.Feed.remaining c.args.ins.now) mids (all_begun c.read_headers.new.inputs.items) (rw here along)
+
+pub returns-clause-forward : goal.returns-clause-forward
+returns-clause-forward g c =
     let len : c.read_headers.new.inputs.len ≡ length c.rounds.new.inputs = omega (arith, c.rounds.ensures.many, c.as_mut_slice.ensures.len) in
     let same = back c.read_headers.new.inputs.len c.rounds.new.inputs (drop (length c.rounds.new.inputs) c.read_headers.new.inputs.items) len in
     rw same (inr (record {
       unit = c.unit_for-unit.result;
-      mids = mids;
-      mids_many = many ∙ sym c.requires.writers
-          ∙ sym (length-map c.args.outs.now g.W.Sink.contents);
+      mids = map g.W.Sink.contents c.put_headers.new.outs;
+      mids_many = writers_many g c ∙ sym c.requires.writers ∙ sym (length-map c.args.outs.now g.W.Sink.contents);
       headers = c.in_ok-put_headers.ensures.ok;
-      rounds = goes;
+      rounds = went g c;
     }))
 
 pub returns-clause-setting : goal.returns-clause-setting
 returns-clause-setting g c =
-    let here : c.as_mut_slice.result.now ≡ c.read_headers.new.inputs.items = search rules in
-    let unread : c.as_slice.result.now ≡ c.read_headers.new.inputs.items = search rules in
-    let mids = map g.W.Sink.contents c.put_headers.new.outs in
-    let many : length mids ≡ length c.args.engine.now.setting.env.ports = length-map c.put_headers.new.outs g.W.Sink.contents ∙ c.put_headers.ensures.many
-    ∙ c.requires.writers in
-    let unit_is = rw unread at c.unit_for-unit.ensures in
-    let along = along_none c.unit_for-unit.result c.args.engine.now (map g.R.Feed.remaining c.args.ins.now) (map g.R.Feed.remaining c.read_headers.new.ins)
-    mids c.read_headers.new.inputs.items c.requires.first many
-    (c.in_ok-read_headers.ensures.all ∙ c.requires.readers) unit_is c.in_ok-read_headers.ensures.ok c.read_headers.ensures.begun in
-    let goes = c.rounds.ensures.goes c.args.engine.now (map g.R.Feed.remaining c.args.ins.now) mids (all_begun c.read_headers.new.inputs.items)
-    (rw here along) in
-    (stays_rounds c.unit_for-unit.result c.args.engine.now c.rounds.new.engine _ _ _ _ c.rounds.new.inputs c.rounds.result goes).setting
+    (stays_rounds c.unit_for-unit.result c.args.engine.now c.rounds.new.engine _ _ _ _ c.rounds.new.inputs c.rounds.result (went g c)).setting
 
 pub returns-clause-counted : goal.returns-clause-counted
 returns-clause-counted g c =
-    let here : c.as_mut_slice.result.now ≡ c.read_headers.new.inputs.items = search rules in
-    let unread : c.as_slice.result.now ≡ c.read_headers.new.inputs.items = search rules in
-    let mids = map g.W.Sink.contents c.put_headers.new.outs in
-    let many : length mids ≡ length c.args.engine.now.setting.env.ports = length-map c.put_headers.new.outs g.W.Sink.contents ∙ c.put_headers.ensures.many
-    ∙ c.requires.writers in
-    let unit_is = rw unread at c.unit_for-unit.ensures in
-    let along = along_none c.unit_for-unit.result c.args.engine.now (map g.R.Feed.remaining c.args.ins.now) (map g.R.Feed.remaining c.read_headers.new.ins)
-    mids c.read_headers.new.inputs.items c.requires.first many
-    (c.in_ok-read_headers.ensures.all ∙ c.requires.readers) unit_is c.in_ok-read_headers.ensures.ok c.read_headers.ensures.begun in
-    let goes = c.rounds.ensures.goes c.args.engine.now (map g.R.Feed.remaining c.args.ins.now) mids (all_begun c.read_headers.new.inputs.items)
-    (rw here along) in
-    (stays_rounds c.unit_for-unit.result c.args.engine.now c.rounds.new.engine _ _ _ _ c.rounds.new.inputs c.rounds.result goes).each ∙ c.requires.counted
+    (stays_rounds c.unit_for-unit.result c.args.engine.now c.rounds.new.engine _ _ _ _ c.rounds.new.inputs c.rounds.result (went g c)).each
+    ∙ c.requires.counted
 
 pub returns-in_err-read_headers-clause-fared_readers : goal.returns-in_err-read_headers-clause-fared_readers
 returns-in_err-read_headers-clause-fared_readers g c =
