@@ -4,7 +4,8 @@ use Rattle.dp_pcap.specs.Counting.{Counted, none_yet}
 use Rattle.dp_pcap.proofs.whole_records.WholeRecords.of_capture.Goals as goal
 
 pub returns-then-front-lt-HEADER_SIZE-clause-order : goal.returns-then-front-lt-HEADER_SIZE-clause-order
-returns-then-front-lt-HEADER_SIZE-clause-order c = λ order unit is. absurd (omega (arith, is.size, c.if-front-lt-HEADER_SIZE.true, length-take 24 c.args.front.now))
+returns-then-front-lt-HEADER_SIZE-clause-order c = λ order unit is.
+    absurd (omega (arith, is.size, c.if-front-lt-HEADER_SIZE.true, length-take 24 c.args.front.now))
 
 pub returns-clause-order : goal.returns-clause-order
 returns-clause-order c = λ order unit is. c.before-2.ensures ∙ ap none_yet (c.order_of.ensures order unit is)
