@@ -29,11 +29,11 @@ found place (y ∷ before) e after h = found_here place (lies_in place y) y (ele
 kept_within : (n : ℕ) → kept n ≤ n
 kept_within n = elim (nat_lt 128 n) as (λ b. cond b 0 n ≤ n) [ true ↦ omega arith | false ↦ omega arith ]
 
-busy_around : (e : Element) (n d : ℕ) → 0 < n → e.place + 64 ≤ d → lies_in d (busy e n d) ≡ true
+busy_around : (e : Element) (n d : ℕ) → 0 < n → e.offset + 64 ≤ d → lies_in d (busy e n d) ≡ true
 busy_around e n d more above =
-    let pad = kept (d - 64 - e.place) in
+    let pad = kept (d - 64 - e.offset) in
     let tail = kept (end_of e - (d + n)) in
-    let small : pad ≤ d - 64 - e.place = kept_within (d - 64 - e.place) in
+    let small : pad ≤ d - 64 - e.offset = kept_within (d - 64 - e.offset) in
     and_from _ _ (le-leb (d - 64 - pad) d (omega arith)) (lt-ltb (d - (d - 64 - pad)) (pad + 64 + n + tail) (omega arith))
 
 -- an element is around a block that is taken
@@ -42,7 +42,7 @@ around old n a d new more taken =
     let e = taken.0 in
     let before = taken.2.0 in
     let after = taken.2.1 in
-    let low = spare e.place (d - 64 - e.place) in
+    let low = spare e.offset (d - 64 - e.offset) in
     let high = spare (d + n) (end_of e - (d + n)) in
     let here = found d (before ++ low) (busy e n d) (high ++ after) (busy_around e n d more taken.1.0.2) in
     let lies : new ≡ (before ++ low) ++ busy e n d ∷ (high ++ after) =
@@ -51,20 +51,20 @@ around old n a d new more taken =
 
 -- ---- a block that is taken
 
-pub is_taken : (zeros : Bool) (n a : ℕ) (old new : Stage) (block : BlockView) (place : ℕ) (before after : Option (List ℕ)) → place ≡ block.place
+pub is_taken : (zeros : Bool) (n a : ℕ) (old new : Stage) (block : BlockView) (place : ℕ) (before after : Option (List ℕ)) → place ≡ block.offset
     → (0 < n) × IsAlign a → IsFilled zeros n block.bytes
-    → Taken old.elements (rounded n) (alignment a) block.place new.elements → new.taken ≡ next_number old.taken
+    → Taken old.elements (rounded n) (alignment a) block.offset new.elements → new.taken ≡ next_number old.taken
     → new.held ≡ old.held ++ record { number = new.taken; block = block } ∷ []
     → IfSome (element_at new.elements place) (λ e. Appends before after (block_line new.taken place e))
     → IsPrinted (λ text. IsTaken zeros n a old text new ⊎ IsRefusalTold n a old text new) before after
 is_taken zeros n a old new block place before after own_place asked filled taken number held told =
     let more : 0 < n = asked.0 in
     let own : 0 < rounded n = omega arith in
-    let here = around old.elements (rounded n) (alignment a) block.place new.elements own taken in
-    let at : IfSome (element_at new.elements block.place) (λ e. Appends before after (block_line new.taken block.place e)) =
+    let here = around old.elements (rounded n) (alignment a) block.offset new.elements own taken in
+    let at : IfSome (element_at new.elements block.offset) (λ e. Appends before after (block_line new.taken block.offset e)) =
     subst (λ (p : ℕ). IfSome (element_at new.elements p) (λ e. Appends before after (block_line new.taken p e))) own_place told in
     record {
-      text = block_line new.taken block.place here.0;
+      text = block_line new.taken block.offset here.0;
       done = inl (record {
         block = block;
         element = here.0;
@@ -143,7 +143,7 @@ same_stage es fs hs ks n m a b c = cc
 
 pub is_freed : (number : ℕ) (old new : Stage) (k : ℕ) (x : Held) (before after : Option (List ℕ)) → position (λ h. h.number == number) old.held ≡ Some k
     → x ≡ get_or old.held k x
-    → new.held ≡ remove old.held k → new.elements ≡ merged x.block.place old.elements → new.taken ≡ old.taken
+    → new.held ≡ remove old.held k → new.elements ≡ merged x.block.offset old.elements → new.taken ≡ old.taken
     → Appends before after (freed_line number) → IsPrinted (λ text. IsFreed number old text new) before after
 is_freed number old new k x before after e here held elements taken told =
     let at = place_is (position_or_len (λ (h : Held). h.number == number) old.held) (length old.held) k
@@ -158,7 +158,7 @@ is_freed number old new k x before after e here held elements taken told =
         after = drop (suc k) old.held;
         first = found.none;
         held = found.whole ∙ ap (λ n. take k old.held ++ record { number = n; block = x.block } ∷ drop (suc k) old.held) same;
-        freed = same_stage new.elements (merged x.block.place old.elements) new.held (remove old.held k) new.taken old.taken elements held taken;
+        freed = same_stage new.elements (merged x.block.offset old.elements) new.held (remove old.held k) new.taken old.taken elements held taken;
         told = refl;
       };
       printed = told;

@@ -11,7 +11,7 @@ use Rattle.dp_heap.specs.Refusals.{number_of}
 
 -- whether a place lies in an element
 abbrev pub lies_in : ℕ → Element → Bool
-lies_in place e = nat_le e.place place && nat_lt (place - e.place) e.size
+lies_in place e = nat_le e.offset place && nat_lt (place - e.offset) e.size
 
 -- the element in which a place lies, where there is one
 abbrev pub element_at : List Element → ℕ → Option Element
@@ -20,8 +20,8 @@ element_at es place = find (lies_in place) es
 -- an element, as `list` prints it
 abbrev pub element_text : Element → List ℕ
 element_text e = elim e.state [
-  | Free ↦ codes "FREE " ++ (decimal e.place ++ (codes " + " ++ decimal e.size))
-  | Busy ↦ codes "BUSY " ++ (decimal e.place ++ (codes " + " ++ (decimal e.size ++ (codes " pad " ++ decimal e.pad))))
+  | Free ↦ codes "FREE " ++ (decimal e.offset ++ (codes " + " ++ decimal e.size))
+  | Busy ↦ codes "BUSY " ++ (decimal e.offset ++ (codes " + " ++ (decimal e.size ++ (codes " pad " ++ decimal e.pad))))
 ]
 
 -- the line of an element
@@ -35,7 +35,7 @@ list_text es = flat_map element_line es
 -- the line of a success: its number, the place of its data, and the element of these
 abbrev pub block_line : ℕ → ℕ → Element → List ℕ
 block_line number place e =
-    (decimal number ++ (codes " data " ++ (decimal place ++ (codes " element " ++ (decimal e.place ++ (codes " + " ++ decimal e.size)))))) ++ 10 ∷ []
+    (decimal number ++ (codes " data " ++ (decimal place ++ (codes " element " ++ (decimal e.offset ++ (codes " + " ++ decimal e.size)))))) ++ 10 ∷ []
 
 -- the name of a cause
 abbrev pub name_of : HeapError → List ℕ

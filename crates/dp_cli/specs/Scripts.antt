@@ -44,11 +44,11 @@ pub record IsTaken (zeros : Bool) (n a : ℕ) (old : Stage) (text : List ℕ) (n
   pub element : Element
   pub asked : (0 < n) × IsAlign a
   pub filled : IsFilled zeros n block.bytes
-  pub taken : Taken old.elements (rounded n) (alignment a) block.place new.elements
+  pub taken : Taken old.elements (rounded n) (alignment a) block.offset new.elements
   pub number : new.taken ≡ next_number old.taken
   pub held : new.held ≡ old.held ++ record { number = new.taken; block = block } ∷ []
-  pub around : element_at new.elements block.place ≡ Some element
-  pub told : text ≡ block_line new.taken block.place element
+  pub around : element_at new.elements block.offset ≡ Some element
+  pub told : text ≡ block_line new.taken block.offset element
 
 -- the request is refused, and its cause told
 pub record IsRefusalTold (n a : ℕ) (old : Stage) (text : List ℕ) (new : Stage) : Type 0 where
@@ -68,7 +68,7 @@ pub record IsFreed (number : ℕ) (old : Stage) (text : List ℕ) (new : Stage) 
   pub after : List Held
   pub first : is_held number before ≡ false
   pub held : old.held ≡ before ++ record { number = number; block = block } ∷ after
-  pub freed : new ≡ record { elements = merged block.place old.elements; held = before ++ after; taken = old.taken }
+  pub freed : new ≡ record { elements = merged block.offset old.elements; held = before ++ after; taken = old.taken }
   pub told : text ≡ freed_line number
 
 -- what a command does, and the text that it prints
@@ -111,7 +111,7 @@ Plays k ((b ∷ bs) ∷ lines) s text fault =
 
 -- a heap of all of a region of this size, of which nothing was taken yet
 abbrev pub fresh : ℕ → Stage
-fresh size = stage (record { place = 0; size = size; state = Free; pad = 0 } ∷ []) [] 0
+fresh size = stage (record { offset = 0; size = size; state = Free; pad = 0 } ∷ []) [] 0
 
 -- a line that is no region of a size that one may have
 abbrev pub IsNoRegion : List ℕ → Type 0

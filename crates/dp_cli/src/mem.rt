@@ -48,11 +48,11 @@ impl fmt::Display for ElementLine {
     fn fmt<W: fmt::Write>(&self, f: &mut fmt::Formatter<W>) -> fmt::Result {
         let ElementLine(element) = self;
         match element.state {
-            State::Free => write!(f, "FREE {} + {}", element.place, element.size),
+            State::Free => write!(f, "FREE {} + {}", element.offset, element.size),
             State::Busy => write!(
                 f,
                 "BUSY {} + {} pad {}",
-                element.place, element.size, element.pad
+                element.offset, element.size, element.pad
             ),
         }
     }
@@ -62,7 +62,7 @@ impl fmt::Display for ElementLine {
 fn element_around(heap: &Heap, place: u32) -> Option<Element>
     ensures { result ≡ spec.element_at heap.now.elements place }
 {
-    heap.iter().find(|element| place >= element.place && place - element.place < element.size)
+    heap.iter().find(|element| place >= element.offset && place - element.offset < element.size)
 }
 
 /// Prints what became of the block of a success.
@@ -76,7 +76,7 @@ fn tell_block<O: Write>(heap: &Heap, number: u32, place: u32, out: &mut O) -> u8
             out,
             format_args!(
                 "{number} data {place} element {} + {}",
-                element.place, element.size
+                element.offset, element.size
             ),
             DONE,
         ),
@@ -100,7 +100,7 @@ fn tell_refusal<O: Write>(error: HeapError, out: &mut O) -> u8
 /// A block of these many bytes and this alignment, all its bytes 0 where that is asked for.
 fn request(heap: &mut Heap, size: u32, align: u32, zeros: bool) -> Result<Block, HeapError>
     ensures block { IfOk result (λ b. (b.home ≡ heap.old.home) × IsFilled zeros size b.bytes
-        × Taken heap.old.elements (rounded size) (alignment align) b.place heap.new.elements) }
+        × Taken heap.old.elements (rounded size) (alignment align) b.offset heap.new.elements) }
     ensures home { heap.new.home ≡ heap.old.home }
     ensures refused { MatchResult result (λ _. (0 < size) × IsAlign align) (λ e. IsRefused e size align heap.old.elements × (heap.new ≡ heap.old)) }
     ensures counted { MatchResult result (λ _. count_of is_busy heap.new.elements ≡ count_of is_busy heap.old.elements + 1)
@@ -153,7 +153,7 @@ impl Session {
     {
         match request(&mut self.heap, size, align, zeros) {
             Ok(block) => {
-                let place = block.place();
+                let place = block.offset();
                 self.taken = self.taken.saturating_add(1);
                 let number = self.taken;
                 match self.held.push(Held { number, block }) {

@@ -12,20 +12,20 @@ use Rattle.dp_engine.specs.Stacks.{bottom, block_at, LieUnder, IsStacked, left_i
 
 -- ---- what is taken at the bottom
 
-spare_some : (place size : ℕ) → 128 < size → spare place size ≡ record { place = place; size = size; state = Free; pad = 0 } ∷ []
-spare_some place size above = ap (λ (b : Bool). cond b (record { place = place; size = size; state = Free; pad = 0 } ∷ []) []) (lt-ltb 128 size above)
+spare_some : (place size : ℕ) → 128 < size → spare place size ≡ record { offset = place; size = size; state = Free; pad = 0 } ∷ []
+spare_some place size above = ap (λ (b : Bool). cond b (record { offset = place; size = size; state = Free; pad = 0 } ∷ []) []) (lt-ltb 128 size above)
 
 spare_none : (place size : ℕ) → size ≤ 128 → spare place size ≡ []
-spare_none place size below = ap (λ (b : Bool). cond b (record { place = place; size = size; state = Free; pad = 0 } ∷ []) []) (le-ltb 128 size below)
+spare_none place size below = ap (λ (b : Bool). cond b (record { offset = place; size = size; state = Free; pad = 0 } ∷ []) []) (le-ltb 128 size below)
 
 kept_none : (size : ℕ) → 128 < size → kept size ≡ 0
 kept_none size above = ap (λ (b : Bool). cond b 0 size) (lt-ltb 128 size above)
 
 abbrev made : ℕ → ℕ → ℕ → Element
-made place size pad = record { place = place; size = size; state = Busy; pad = pad }
+made place size pad = record { offset = place; size = size; state = Busy; pad = pad }
 
 same_made : (p s d p' s' d' : ℕ) → p ≡ p' → s ≡ s' → d ≡ d' → made p s d ≡ made p' s' d'
-same_made p s d p' s' d' x y z i = record { place = x i; size = y i; state = Busy; pad = z i }
+same_made p s d p' s' d' x y z i = record { offset = x i; size = y i; state = Busy; pad = z i }
 
 busy_is : (f n d : ℕ) → 192 + n < f → d ≡ f - n → busy (bottom f) n d ≡ block_at (f - (64 + n)) n
 busy_is f n d room at =
@@ -221,16 +221,16 @@ append_size (e ∷ es) fs = let more = append_size es fs in omega arith
 spare_size : (place size : ℕ) → size_of (spare place size) + kept size ≡ size
 spare_size place size = go (ltb 128 size)
   where
-    go : (b : Bool) → size_of (cond b (record { place = place; size = size; state = Free; pad = 0 } ∷ []) []) + cond b 0 size ≡ size
+    go : (b : Bool) → size_of (cond b (record { offset = place; size = size; state = Free; pad = 0 } ∷ []) []) + cond b 0 size ≡ size
     go true = omega arith
     go false = omega arith
 
 pieces_size : (e : Element) (n a d : ℕ) → CanHold e n a d → size_of (pieces e n d) ≡ e.size
 pieces_size e n a d can =
     let low = can.2 in let high = can.3 in
-    let front = spare_size e.place (d - 64 - e.place) in
+    let front = spare_size e.offset (d - 64 - e.offset) in
     let tail = spare_size (d + n) (end_of e - (d + n)) in
-    let whole = append_size (spare e.place (d - 64 - e.place)) (busy e n d ∷ spare (d + n) (end_of e - (d + n))) in
+    let whole = append_size (spare e.offset (d - 64 - e.offset)) (busy e n d ∷ spare (d + n) (end_of e - (d + n))) in
     omega arith
 
 -- and so does what is taken

@@ -28,7 +28,7 @@ pub stack_more : (heap heap' : HeapView) (table table' : List Reserved) (spare :
     → count_of is_busy heap'.elements ≡ count_of is_busy heap.elements + 1 → names_of table' ≡ names_of table ++ name ∷ []
     → IsStack heap' table' spare × (left_in heap'.elements + zone_bytes len ≡ left)
 stack_more heap heap' table table' spare len d left name is at room taken home counted names =
-    let more = stack_taken (block_at (spare.place - 64) (length spare.bytes)) heap.elements heap'.elements (rounded len) d refl is.stacked (omega arith)
+    let more = stack_taken (block_at (spare.offset - 64) (length spare.bytes)) heap.elements heap'.elements (rounded len) d refl is.stacked (omega arith)
     (omega arith) taken in
     let many = table_more table table' name names in let before = is.counted in let less = more.1 in
     (record { home = is.home ∙ sym home; even = is.even; high = is.high; stacked = more.0; counted = omega arith }, omega arith)
@@ -36,12 +36,12 @@ stack_more heap heap' table table' spare len d left name is at room taken home c
 -- a stack over one free element
 pub stack_new : (size len d : ℕ) (heap' : HeapView) (table' : List Reserved) (spare : ZoneView) → size % 64 ≡ 0 → zone_bytes len + 128 < size →
     Taken (bottom size ∷ []) (rounded len) 64 d heap'.elements
-    → spare.place ≡ d → length spare.bytes ≡ rounded len → spare.home ≡ heap'.home → count_of is_busy heap'.elements ≡ 1 → length table' ≡ 1
+    → spare.offset ≡ d → length spare.bytes ≡ rounded len → spare.home ≡ heap'.home → count_of is_busy heap'.elements ≡ 1 → length table' ≡ 1
     → IsStack heap' table' spare × (left_in heap'.elements + zone_bytes len ≡ size)
 stack_new size len d heap' table' spare even room taken at long home counted one =
     let new = first_taken size (rounded len) d heap'.elements even (omega arith) (omega arith) taken in
     let steps = new.2 in let high = new.3 in let less = new.1 in
-    let same : d - 64 ≡ spare.place - 64 = omega arith in (
+    let same : d - 64 ≡ spare.offset - 64 = omega arith in (
       record {
         home = home;
         even = ap (λ (p : ℕ). p % 64) at ∙ steps;
@@ -66,10 +66,10 @@ made_two name s size home old new before after p fits sized made =
     let same : places ≡ power_above s.count = power_is s.count places power (omega arith) (omega (arith, half)) in
     let len_is : made.len ≡ queue_len s = is ∙ ap (λ (n : ℕ). 4 * n) same in record {
       mid = made.left;
-      place = p.zones.object_place;
-      next = p.zones.queue_place;
-      first = subst (λ (n : ℕ). Taken before (rounded (s.count * ((n + 63) / 64 * 64))) 64 p.zones.object_place made.left) sized made.objects_reserved.taken;
-      second = subst (λ (n : ℕ). Taken made.left (rounded n) 64 p.zones.queue_place after) len_is made.queue_reserved.taken;
+      place = p.zones.object_offset;
+      next = p.zones.queue_offset;
+      first = subst (λ (n : ℕ). Taken before (rounded (s.count * ((n + 63) / 64 * 64))) 64 p.zones.object_offset made.left) sized made.objects_reserved.taken;
+      second = subst (λ (n : ℕ). Taken made.left (rounded n) 64 p.zones.queue_offset after) len_is made.queue_reserved.taken;
     }
 
 pub two_size : (n m : ℕ) (old new : List Element) → TakesTwo old n m new → size_of new ≡ size_of old
@@ -81,7 +81,7 @@ pub pool_more : (heap heap' : HeapView) (table table' : List Reserved) (spare : 
     → count_of is_busy heap'.elements ≡ count_of is_busy heap.elements + 2 → length (names_of table') ≡ length (names_of table) + 2
     → IsStack heap' table' spare × (left_in heap'.elements + pool_bytes s ≡ left)
 pool_more heap heap' table table' spare s left is at room two home counted names =
-    let t = block_at (spare.place - 64) (length spare.bytes) in
+    let t = block_at (spare.offset - 64) (length spare.bytes) in
     let once = stack_taken t heap.elements two.mid (rounded (objects_len s)) two.place refl is.stacked (omega arith) (omega arith) two.first in
     let less = once.1 in
     let twice = stack_taken t two.mid heap'.elements (rounded (queue_len s)) two.next refl once.0 (omega arith) (omega arith) two.second in
@@ -94,7 +94,7 @@ pub queue_fits : (heap : HeapView) (table : List Reserved) (spare : ZoneView) (s
     IsStack heap table spare → left_in heap.elements ≡ left
     → pool_bytes s + 128 < left → Taken heap.elements (rounded (objects_len s)) 64 place mid → NothingFits (rounded (queue_len s)) 64 mid → ⊥
 queue_fits heap table spare s left place mid is at room taken none =
-    let t = block_at (spare.place - 64) (length spare.bytes) in
+    let t = block_at (spare.offset - 64) (length spare.bytes) in
     let once = stack_taken t heap.elements mid (rounded (objects_len s)) place refl is.stacked (omega arith) (omega arith) taken in
     let less = once.1 in
     stack_fits t mid (rounded (queue_len s)) once.0 (omega arith) (omega arith) none
@@ -107,10 +107,10 @@ stacked_even t (e ∷ es) stacked = stacked.1
 
 pub released : (heap : HeapView) (table : List Reserved) (spare : ZoneView) (left : ℕ) (new : List Element) → IsStack heap table spare →
     left_in heap.elements ≡ left → 2 ≤ length (names_of table)
-    → new ≡ merged spare.place heap.elements
-    → Has (bottom left) new × Has (freed (block_at (spare.place - 64) (length spare.bytes))) new × (left % 64 ≡ 0)
+    → new ≡ merged spare.offset heap.elements
+    → Has (bottom left) new × Has (freed (block_at (spare.offset - 64) (length spare.bytes))) new × (left % 64 ≡ 0)
 released heap table spare left new is at some new_is =
-    let p = spare.place in let high = is.high in
+    let p = spare.offset in let high = is.high in
     let counted = is.counted in let many = names_counted table in
     let (low, top) = top_freed (p - 64) (length spare.bytes) heap.elements is.stacked (omega arith) in
     let place : p - 64 + 0 + 64 ≡ p = omega arith in

@@ -26,7 +26,7 @@ no_ring = record {
   entries = [];
   name = [];
   home = record { block = 0; start = 0; rights = 0 };
-  place = 0;
+  offset = 0;
   len = 0;
 }
 

@@ -18,11 +18,11 @@ pub record StackView : Type 0 where
 
 -- the free element of so many bytes at the bottom
 abbrev pub bottom : ℕ → Element
-bottom size = record { place = 0; size = size; state = Free; pad = 0 }
+bottom size = record { offset = 0; size = size; state = Free; pad = 0 }
 
 -- the element of a block of n bytes that lie right behind its header
 abbrev pub block_at : ℕ → ℕ → Element
-block_at place n = record { place = place; size = 64 + n; state = Busy; pad = 0 }
+block_at place n = record { offset = place; size = 64 + n; state = Busy; pad = 0 }
 
 -- they are busy, and the last of them is t, above the others' data
 abbrev pub LieUnder : Element → List Element → Type 0
@@ -56,9 +56,9 @@ names_of table = map (λ r. r.name) table
 -- true of a heap, a table and a spare zone at the top
 pub record IsStack (heap : HeapView) (table : List Reserved) (spare : ZoneView) : Type 0 where
   pub home : spare.home ≡ heap.home
-  pub even : spare.place % 64 ≡ 0
-  pub high : 64 ≤ spare.place
-  pub stacked : IsStacked (block_at (spare.place - 64) (length spare.bytes)) heap.elements
+  pub even : spare.offset % 64 ≡ 0
+  pub high : 64 ≤ spare.offset
+  pub stacked : IsStacked (block_at (spare.offset - 64) (length spare.bytes)) heap.elements
   pub counted : count_of is_busy heap.elements ≡ length table
 
 -- a block of n bytes is taken, and then one of m bytes

@@ -77,7 +77,7 @@ fn reserve(heap: &mut Heap, zones: &mut Zones, name: &str, len: u32) -> Zone
     requires len { (0 < len) × (len ≤ 1073741824) }
     requires room { ¬ NothingFits (rounded len) 64 heap.old.elements }
     ensures zone { (result.home ≡ heap.old.home) × (length result.bytes ≡ rounded len) }
-    ensures taken { Taken heap.old.elements (rounded len) 64 result.place heap.new.elements }
+    ensures taken { Taken heap.old.elements (rounded len) 64 result.offset heap.new.elements }
     ensures names { names_of zones.new ≡ names_of zones.old ++ name.now ∷ [] }
     ensures home { heap.new.home ≡ heap.old.home }
     ensures size { size_of heap.new.elements ≡ size_of heap.old.elements }

@@ -1,4 +1,4 @@
--- How many elements stand at a place and belong to a list.
+-- How many elements stand at an offset and belong to a list.
 use Rattle.std.proofs.Common.{◌≡◌, ℕ, suc, ◌+◌, ◌<◌, ◌≤◌, Bool, true, false, cond, eqb, leb, eqb-true, ◌&&◌, List, [], ◌∷◌, ◌++◌, refl, sym, ap, ◌∙◌, arith}
 use Rattle.std.proofs.lemmas.Bool.{eq-eqb, and_parts, and_from, cond_both, true≢false}
 use Rattle.dp_heap.proofs.ByTest.{by_test}
@@ -6,7 +6,7 @@ use Rattle.dp_heap.specs.declared.elements.Element.{Element}
 use Rattle.dp_heap.specs.Elements.{is_free, end_of, sum_of}
 use Rattle.dp_heap.specs.Laid.{Laid}
 use Rattle.dp_heap.specs.Lists.{class_of, times, belongs, belong}
-use Rattle.dp_heap.proofs.Laid.{first_place}
+use Rattle.dp_heap.proofs.Laid.{first_offset}
 
 pub class_small : (n : ℕ) → class_of n < 5
 class_small n = by_test (leb n 256) (λ t. let is : class_of n ≡ 0 = ap
@@ -53,35 +53,35 @@ belong-append c p = sum-append (belongs c p)
 
 -- whether it is counted
 abbrev counts : ℕ → ℕ → Element → Bool
-counts c p e = is_free e && (eqb (class_of e.size) c && eqb e.place p)
+counts c p e = is_free e && (eqb (class_of e.size) c && eqb e.offset p)
 
-counts_parts : (c p : ℕ) (e : Element) → counts c p e ≡ true → (is_free e ≡ true) × (class_of e.size ≡ c) × (e.place ≡ p)
+counts_parts : (c p : ℕ) (e : Element) → counts c p e ≡ true → (is_free e ≡ true) × (class_of e.size ≡ c) × (e.offset ≡ p)
 counts_parts c p e t =
-    let a = and_parts (is_free e) (eqb (class_of e.size) c && eqb e.place p) t in let b = and_parts (eqb (class_of e.size) c) (eqb e.place p) a.1 in
-    (a.0, eqb-true (class_of e.size) c b.0, eqb-true e.place p b.1)
+    let a = and_parts (is_free e) (eqb (class_of e.size) c && eqb e.offset p) t in let b = and_parts (eqb (class_of e.size) c) (eqb e.offset p) a.1 in
+    (a.0, eqb-true (class_of e.size) c b.0, eqb-true e.offset p b.1)
 
-pub belongs_parts : (c p : ℕ) (e : Element) → 1 ≤ belongs c p e → (is_free e ≡ true) × (class_of e.size ≡ c) × (e.place ≡ p)
+pub belongs_parts : (c p : ℕ) (e : Element) → 1 ≤ belongs c p e → (is_free e ≡ true) × (class_of e.size ≡ c) × (e.offset ≡ p)
 belongs_parts c p e h = by_test (counts c p e) (counts_parts c p e) (λ t. let no : belongs c p e ≡ 0 = ap (λ (b : Bool). cond b 1 0) t in absurd (omega arith))
 
-pub belongs_here : (e : Element) → is_free e ≡ true → belongs (class_of e.size) e.place e ≡ 1
+pub belongs_here : (e : Element) → is_free e ≡ true → belongs (class_of e.size) e.offset e ≡ 1
 belongs_here e free =
     ap (λ (b : Bool). cond b 1 0)
-    (and_from (is_free e) (eqb (class_of e.size) (class_of e.size) && eqb e.place e.place) free
-    (and_from (eqb (class_of e.size) (class_of e.size)) (eqb e.place e.place) (eq-eqb (class_of e.size) (class_of e.size) refl) (eq-eqb e.place e.place refl)))
+    (and_from (is_free e) (eqb (class_of e.size) (class_of e.size) && eqb e.offset e.offset) free
+    (and_from (eqb (class_of e.size) (class_of e.size)) (eqb e.offset e.offset) (eq-eqb (class_of e.size) (class_of e.size) refl) (eq-eqb e.offset e.offset refl)))
 
-pub belongs_off : (c p : ℕ) (e : Element) → ((is_free e ≡ true) × (class_of e.size ≡ c) × (e.place ≡ p) → ⊥) → belongs c p e ≡ 0
+pub belongs_off : (c p : ℕ) (e : Element) → ((is_free e ≡ true) × (class_of e.size ≡ c) × (e.offset ≡ p) → ⊥) → belongs c p e ≡ 0
 belongs_off c p e off = cond_both (counts c p e) 1 0 (λ n. n ≡ 0) (λ t. absurd (off (counts_parts c p e t))) (λ t. refl)
 
-pub belongs_is : (c p : ℕ) (e : Element) → is_free e ≡ true → belongs c p e ≡ cond (eqb c (class_of e.size)) (cond (eqb e.place p) 1 0) 0
+pub belongs_is : (c p : ℕ) (e : Element) → is_free e ≡ true → belongs c p e ≡ cond (eqb c (class_of e.size)) (cond (eqb e.offset p) 1 0) 0
 belongs_is c p e free = by_test (eqb c (class_of e.size))
-    (λ t. let is = eqb-true c (class_of e.size) t in by_test (eqb e.place p)
-    (λ s. let at = eqb-true e.place p s in
+    (λ t. let is = eqb-true c (class_of e.size) t in by_test (eqb e.offset p)
+    (λ s. let at = eqb-true e.offset p s in
     ap (λ (k : ℕ). belongs k p e) is ∙ ap (λ (k : ℕ). belongs (class_of e.size) k e) (sym at) ∙ belongs_here e free
-    ∙ sym (ap (λ (b : Bool). cond b 1 0) s) ∙ sym (ap (λ (b : Bool). cond b (cond (eqb e.place p) 1 0) 0) t))
-    (λ s. belongs_off c p e (λ all. true≢false (sym (eq-eqb e.place p all.2) ∙ s)) ∙ sym (ap (λ (b : Bool). cond b 1 0) s)
-    ∙ sym (ap (λ (b : Bool). cond b (cond (eqb e.place p) 1 0) 0) t)))
+    ∙ sym (ap (λ (b : Bool). cond b 1 0) s) ∙ sym (ap (λ (b : Bool). cond b (cond (eqb e.offset p) 1 0) 0) t))
+    (λ s. belongs_off c p e (λ all. true≢false (sym (eq-eqb e.offset p all.2) ∙ s)) ∙ sym (ap (λ (b : Bool). cond b 1 0) s)
+    ∙ sym (ap (λ (b : Bool). cond b (cond (eqb e.offset p) 1 0) 0) t)))
     (λ t. belongs_off c p e (λ all. true≢false (sym (eq-eqb c (class_of e.size) (sym all.1)) ∙ t))
-    ∙ sym (ap (λ (b : Bool). cond b (cond (eqb e.place p) 1 0) 0) t))
+    ∙ sym (ap (λ (b : Bool). cond b (cond (eqb e.offset p) 1 0) 0) t))
 
 -- one that is counted
 pub record Member (c p : ℕ) (es : List Element) : Type 0 where
@@ -91,7 +91,7 @@ pub record Member (c p : ℕ) (es : List Element) : Type 0 where
   pub split : es ≡ before ++ it ∷ after
   pub free : is_free it ≡ true
   pub class : class_of it.size ≡ c
-  pub at : it.place ≡ p
+  pub at : it.offset ≡ p
 
 pub member : (c p : ℕ) (es : List Element) → 1 ≤ belong c p es → Member c p es
 member c p [] h = absurd (let h' : 1 ≤ 0 = h in omega arith)
@@ -100,27 +100,27 @@ member c p (e ∷ es) h = by_test (counts c p e)
     (λ t. let no : belongs c p e ≡ 0 = ap (λ (b : Bool). cond b 1 0) t in let r = member c p es (omega arith) in
     record { before = e ∷ r.before; it = r.it; after = r.after; split = ap (λ (xs : List Element). e ∷ xs) r.split; free = r.free; class = r.class; at = r.at })
 
-pub belongs_of : (before : List Element) (e : Element) (after : List Element) → is_free e ≡ true → 1 ≤ belong (class_of e.size) e.place (before ++ e ∷ after)
-belongs_of before e after free = let s = belong-append (class_of e.size) e.place before (e ∷ after) in let h = belongs_here e free in omega arith
+pub belongs_of : (before : List Element) (e : Element) (after : List Element) → is_free e ≡ true → 1 ≤ belong (class_of e.size) e.offset (before ++ e ∷ after)
+belongs_of before e after free = let s = belong-append (class_of e.size) e.offset before (e ∷ after) in let h = belongs_here e free in omega arith
 
 module _ (xs : List ℕ) where
   pub none_lower : (c p : ℕ) (es : List Element) (low high : ℕ) → Laid xs low high es → p < low → belong c p es ≡ 0
   none_lower c p [] low high l h = refl
   none_lower c p (e ∷ es) low high l h =
-      let at = first_place xs e low l.0 in let r = none_lower c p es (end_of e) high l.2 (omega arith) in
+      let at = first_offset xs e low l.0 in let r = none_lower c p es (end_of e) high l.2 (omega arith) in
       let no = belongs_off c p e (λ all. let same = all.2 in absurd (omega arith)) in omega arith
 
-  -- a place belongs to one list
+  -- an offset belongs to one list
   pub single : (c d p : ℕ) → (c ≡ d → ⊥) → (es : List Element) (low high : ℕ) → Laid xs low high es → belong c p es + belong d p es ≤ 1
   single c d p off [] low high l = omega arith
-  single c d p off (e ∷ es) low high l = by_test (eqb e.place p)
-      (λ t. let at = eqb-true e.place p t in let some = l.1 in
+  single c d p off (e ∷ es) low high l = by_test (eqb e.offset p)
+      (λ t. let at = eqb-true e.offset p t in let some = l.1 in
       let n1 = none_lower c p es (end_of e) high l.2 (omega arith) in let n2 = none_lower d p es (end_of e) high l.2 (omega arith) in
       let one : belongs c p e + belongs d p e ≤ 1 = by_test (counts c p e)
       (λ a. let no = belongs_off d p e (λ all. off (sym (counts_parts c p e a).1 ∙ all.1)) in let s = one_small (counts c p e) in omega arith)
       (λ a. let no : belongs c p e ≡ 0 = ap (λ (b : Bool). cond b 1 0) a in let s = one_small (counts d p e) in omega arith) in omega arith)
-      (λ t. let n1 = belongs_off c p e (λ all. true≢false (sym (eq-eqb e.place p all.2) ∙ t)) in
-      let n2 = belongs_off d p e (λ all. true≢false (sym (eq-eqb e.place p all.2) ∙ t)) in
+      (λ t. let n1 = belongs_off c p e (λ all. true≢false (sym (eq-eqb e.offset p all.2) ∙ t)) in
+      let n2 = belongs_off d p e (λ all. true≢false (sym (eq-eqb e.offset p all.2) ∙ t)) in
       let r = single c d p off es (end_of e) high l.2 in omega arith)
 
   pub once : (c p : ℕ) (es : List Element) (low high : ℕ) → Laid xs low high es → belong c p es ≤ 1

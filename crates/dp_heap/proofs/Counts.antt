@@ -21,16 +21,16 @@ out-append : (xs ys : List Element) → out (xs ++ ys) ≡ out xs + out ys
 out-append [] ys = omega arith
 out-append (x ∷ xs) ys = let rest = out-append xs ys in omega arith
 
-out-spare : (place size : ℕ) → out (spare place size) ≡ 0
-out-spare place size = cond_both (ltb 128 size) (record { place = place; size = size; state = Free; pad = 0 } ∷ []) [] (λ es. out es
+out-spare : (offset size : ℕ) → out (spare offset size) ≡ 0
+out-spare offset size = cond_both (ltb 128 size) (record { offset = offset; size = size; state = Free; pad = 0 } ∷ []) [] (λ es. out es
     ≡ 0) (λ t. refl) (λ t. refl)
 
 out-pieces : (e : Element) (n d : ℕ) → out (pieces e n d) ≡ 1
 out-pieces e n d =
     let tail = spare (d + n) (end_of e - (d + n)) in
-    let first = out-spare e.place (d - 64 - e.place) in let last = out-spare (d + n) (end_of e - (d + n)) in
+    let first = out-spare e.offset (d - 64 - e.offset) in let last = out-spare (d + n) (end_of e - (d + n)) in
     let middle : out (busy e n d ∷ tail) ≡ 1 + out tail = refl in
-    let whole = out-append (spare e.place (d - 64 - e.place)) (busy e n d ∷ tail) in omega arith
+    let whole = out-append (spare e.offset (d - 64 - e.offset)) (busy e n d ∷ tail) in omega arith
 
 -- one more once a block is taken
 pub out-taken : (before : List Element) (e : Element) (after : List Element) (n d : ℕ) → is_free e ≡ true → out (before ++ (pieces e n d ++ after))

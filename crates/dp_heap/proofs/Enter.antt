@@ -22,7 +22,7 @@ module _ (r : RegionView) (laid : IsLaid r) (before : List Element) (e : Element
   xs = r.bytes
 
   abbrev pub p : ℕ
-  p = e.place
+  p = e.offset
 
   abbrev pub c : ℕ
   c = class_of e.size

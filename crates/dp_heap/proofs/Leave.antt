@@ -18,12 +18,12 @@ use Rattle.dp_heap.proofs.Listing.{relinked, linking, Header, header_of, listed_
 
 module _ (r : RegionView) (laid : IsLaid r) (before : List Element) (e : Element) (after : List Element) (split : elements_in r.bytes ≡ before
     ++ e ∷ after) (free : is_free e ≡ true)
-    (heads : List ℕ) (off : List Element) (w : Listed r.bytes heads (elements_in r.bytes) off) (among : belong (class_of e.size) e.place off ≡ 0) where
+    (heads : List ℕ) (off : List Element) (w : Listed r.bytes heads (elements_in r.bytes) off) (among : belong (class_of e.size) e.offset off ≡ 0) where
   abbrev xs : List ℕ
   xs = r.bytes
 
   abbrev pub p : ℕ
-  p = e.place
+  p = e.offset
 
   abbrev pub c : ℕ
   c = class_of e.size
@@ -55,7 +55,7 @@ module _ (r : RegionView) (laid : IsLaid r) (before : List Element) (e : Element
   around : (u ≡ last_of none cut.0) × Linked xs p v cut.1
   around = beside xs none (slice_index heads c) cut.0 p cut.1 chain
 
-  -- how often a place is in the list
+  -- how often an offset is in the list
   parts : (q : ℕ) → times q (w.0 c) ≡ times q cut.0 + times q (p ∷ cut.1)
   parts q = ap (times q) cut.2 ∙ times-append q cut.0 (p ∷ cut.1)
 

@@ -10,7 +10,7 @@ use Rattle.dp_heap.specs.declared.elements.State.TheVariants.{Free}
 use Rattle.dp_heap.specs.Elements.{is_free, end_of, data_of, freed}
 use Rattle.dp_heap.specs.Edits.{marked}
 use Rattle.dp_heap.specs.Laid.{Laid, LendsOne, Lends}
-use Rattle.dp_heap.proofs.Laid.{first_place, laid_bound, laid_split, one_unlent, lent_above}
+use Rattle.dp_heap.proofs.Laid.{first_offset, laid_bound, laid_split, one_unlent, lent_above}
 
 -- what is lent does not change where e does
 one_map : (t : Bool) (x : Element) (P Q : List Span → Type 0) (ls : List Span) → ((zs : List Span) → P zs → Q zs) → LendsOne t x P ls → LendsOne t x Q ls
@@ -33,11 +33,11 @@ free_is e h = ap (λ (s : State). is_free (record e { state = s })) h
 
 -- no byte of a free element is lent
 pub free_unlent : (xs : List ℕ) (before : List Element) (e : Element) (after : List Element) (low high : ℕ) (ls : List Span) →
-    Laid xs low high (before ++ e ∷ after) → Lends (before ++ e ∷ after) ls → is_free e ≡ true → IsUnlent ls e.place e.size
+    Laid xs low high (before ++ e ∷ after) → Lends (before ++ e ∷ after) ls → is_free e ≡ true → IsUnlent ls e.offset e.size
 free_unlent xs [] e after low high ls l o free k a b = lent_above xs after (end_of e) high ls k l.2 (free_lends (is_free e) e (Lends after) ls free o) b
 free_unlent xs (x ∷ before) e after low high ls l o free k a b =
     let s = laid_split xs before (e ∷ after) (end_of x) high l.2 in
-    let at = first_place xs e s.0 s.2.0 in let bound = laid_bound xs before (end_of x) s.0 s.1 in
+    let at = first_offset xs e s.0 s.2.0 in let bound = laid_bound xs before (end_of x) s.0 s.1 in
     one_unlent (is_free x) x (Lends (before ++ e ∷ after)) ls k o (inr (omega arith))
     (λ ss r. free_unlent xs before e after (end_of x) high ss l.2 r free k a b)
 
@@ -47,8 +47,8 @@ first_lent xs [] low high l ls laid o = absurd o
 first_lent xs (e ∷ es) low high l ls laid o = by_state (is_free e) o (first_lent xs es (end_of e) high l ls laid.2)
   where
     by_state : (t : Bool) → LendsOne t e (Lends es) (l ∷ ls) → (Lends es (l ∷ ls) → end_of e ≤ l.0) → low ≤ l.0
-    by_state true o' rest = let p = first_place xs e low laid.0 in let far = rest o' in omega arith
-    by_state false o' rest = let p = first_place xs e low laid.0 in let at = o'.0 in omega arith
+    by_state true o' rest = let p = first_offset xs e low laid.0 in let far = rest o' in omega arith
+    by_state false o' rest = let p = first_offset xs e low laid.0 in let at = o'.0 in omega arith
 
 before_all : (xs : List ℕ) (es : List Element) (low high : ℕ) (s : Span) (ls : List Span) → Laid xs low high es → Lends es ls → s.0 < low →
     with_span s ls ≡ s ∷ ls
@@ -60,10 +60,10 @@ before_all xs es low high s (l ∷ ls) laid o h =
 -- e lends the span at d
 pub lends_more : (xs : List ℕ) (before : List Element) (e : Element) (after : List Element) (low high d n : ℕ) (ls : List Span) →
     Laid xs low high (before ++ e ∷ after) → Lends (before ++ e ∷ after) ls
-    → is_free e ≡ true → e.place + 64 ≤ d → 0 < n → d + n ≤ end_of e → Lends (before ++ marked e d ∷ after) (with_span (d, n) ls)
+    → is_free e ≡ true → e.offset + 64 ≤ d → 0 < n → d + n ≤ end_of e → Lends (before ++ marked e d ∷ after) (with_span (d, n) ls)
 lends_more xs [] e after low high d n ls laid o free lo some hi =
     let rest = free_lends (is_free e) e (Lends after) ls free o in
-    let starts : d ≡ e.place + (d - 64 - e.place) + 64 = omega arith in
+    let starts : d ≡ e.offset + (d - 64 - e.offset) + 64 = omega arith in
     subst (λ (zs : List Span). Lends (marked e d ∷ after) zs) (sym (before_all xs after (end_of e) high (d, n) ls laid.2 rest (omega arith))) (
       starts,
       hi,
@@ -73,10 +73,10 @@ lends_more xs [] e after low high d n ls laid o free lo some hi =
 lends_more xs (x ∷ before) e after low high d n ls laid o free lo some hi =
     by_state (is_free x) ls o (λ zs r. lends_more xs before e after (end_of x) high d n zs laid.2 r free lo some hi)
   where
-    past : end_of x ≤ e.place
+    past : end_of x ≤ e.offset
     past =
         let s = laid_split xs before (e ∷ after) (end_of x) high laid.2 in
-        let at = first_place xs e s.0 s.2.0 in let bound = laid_bound xs before (end_of x) s.0 s.1 in omega arith
+        let at = first_offset xs e s.0 s.2.0 in let bound = laid_bound xs before (end_of x) s.0 s.1 in omega arith
 
     by_state : (t : Bool) (zs : List Span) → LendsOne t x (Lends (before ++ e ∷ after)) zs
         → ((ws : List Span) → Lends (before ++ e ∷ after) ws → Lends (before ++ marked e d ∷ after) (with_span (d, n) ws))
@@ -96,9 +96,9 @@ lent_from xs (e ∷ es) low high q ls laid o is = by_state (is_free e) ls o is (
   where
     by_state : (t : Bool) (zs : List Span) → LendsOne t e (Lends es) zs → listed q zs ≡ true →
         ((ws : List Span) → Lends es ws → listed q ws ≡ true → end_of e ≤ q.0) → low ≤ q.0
-    by_state true zs o' is' more = let p = first_place xs e low laid.0 in let far = more zs o' is' in omega arith
+    by_state true zs o' is' more = let p = first_offset xs e low laid.0 in let far = more zs o' is' in omega arith
     by_state false [] o' is' more = absurd o'
-    by_state false (l ∷ zs) o' is' more = let p = first_place xs e low laid.0 in by_test (is_span q l)
+    by_state false (l ∷ zs) o' is' more = let p = first_offset xs e low laid.0 in by_test (is_span q l)
         (λ same. let at : q.0 ≡ l.0 = ap (λ (s : Span). s.0) (is_span-true q l same) in let starts = o'.0 in omega arith)
         (λ other. let far = more zs o'.3 (sym (ap (λ (b : Bool). b || listed q zs) other) ∙ is') in omega arith)
 
@@ -122,10 +122,10 @@ lends_less xs [] e after low high q ls laid o busy at is = here' (is_free e) ls 
 lends_less xs (x ∷ before) e after low high q ls laid o busy at is =
     there (is_free x) ls o is (λ zs r i. lends_less xs before e after (end_of x) high q zs laid.2 r busy at i)
   where
-    past : end_of x ≤ e.place
+    past : end_of x ≤ e.offset
     past =
         let s = laid_split xs before (e ∷ after) (end_of x) high laid.2 in
-        let p = first_place xs e s.0 s.2.0 in let bound = laid_bound xs before (end_of x) s.0 s.1 in omega arith
+        let p = first_offset xs e s.0 s.2.0 in let bound = laid_bound xs before (end_of x) s.0 s.1 in omega arith
 
     there : (t : Bool) (zs : List Span) → LendsOne t x (Lends (before ++ e ∷ after)) zs → listed q zs ≡ true
         → ((ws : List Span) → Lends (before ++ e ∷ after) ws → listed q ws ≡ true →

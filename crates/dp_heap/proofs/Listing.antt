@@ -1,4 +1,4 @@
--- The places in the lists are those of free elements, each once.
+-- The offsets in the lists are those of free elements, each once.
 use Rattle.std.proofs.Common.{◌≡◌, ℕ, ◌+◌, ◌%◌, ◌^◌, ◌<◌, ◌≤◌, ltb, List, [], ◌∷◌, ◌++◌, length, sym, subst, ◌∙◌, arith, inl, inr, lit<}
 use Rattle.std.specs.Prelude.{◌⊎◌, slice_index}
 use mathlib.Core.Logic.{⊎_elim}
@@ -10,7 +10,7 @@ use Rattle.dp_heap.specs.declared.elements.Element.{Element}
 use Rattle.dp_heap.specs.Elements.{end_of}
 use Rattle.dp_heap.specs.Laid.{elements_in, Laid, Lends, Kept, IsLaid}
 use Rattle.dp_heap.specs.Lists.{none, times, belong, Listed}
-use Rattle.dp_heap.proofs.Laid.{first_place, laid_bound, all_decoded}
+use Rattle.dp_heap.proofs.Laid.{first_offset, laid_bound, all_decoded}
 use Rattle.dp_heap.proofs.Headers.{element-number}
 use Rattle.dp_heap.proofs.Cut.{kept_here, e_bound}
 use Rattle.dp_heap.proofs.Found.{e_header}
@@ -22,7 +22,7 @@ module _ (xs ys : List ℕ) (same : (k : ℕ) → k + 4 ≤ length xs → k % 64
   words : (es : List Element) (low high w : ℕ) → Laid xs low high es → Kept xs w es → high ≤ length xs → Laid ys low high es × Kept ys w es
   words [] low high w l k room = (l, tt)
   words (e ∷ es) low high w l k room =
-      let at = first_place xs e low l.0 in let some = l.1 in let bound = laid_bound xs es (end_of e) high l.2 in let fit = k.1.3 in
+      let at = first_offset xs e low l.0 in let some = l.1 in let bound = laid_bound xs es (end_of e) high l.2 in let fit = k.1.3 in
       let s0 = k.1.0 in let s2 = k.1.2 in
       let rest = words es (end_of e) high e.size l.2 k.2 room in (
         (
@@ -31,7 +31,7 @@ module _ (xs ys : List ℕ) (same : (k : ℕ) → k + 4 ≤ length xs → k % 64
           l.1,
           rest.0,
         ),
-        ((same (e.place + 12) (omega arith) (omega arith) ∙ k.0.0, same (e.place + e.pad + 8) (omega arith) (omega arith) ∙ k.0.1), k.1, rest.1),
+        ((same (e.offset + 12) (omega arith) (omega arith) ∙ k.0.0, same (e.offset + e.pad + 8) (omega arith) (omega arith) ∙ k.0.1), k.1, rest.1),
       )
 
 pub relinked : (r : RegionView) → IsLaid r → (ys : List ℕ) → length ys ≡ length r.bytes →
@@ -57,7 +57,7 @@ pub record Header (r : RegionView) (p : ℕ) : Type 0 where
   pub unlent : IsUnlent r.lent p 64
 
 pub header_of : (r : RegionView) → IsLaid r → (before : List Element) (e : Element) (after : List Element) → elements_in r.bytes ≡ before ++ e ∷ after →
-    Header r e.place
+    Header r e.offset
 header_of r laid before e after split =
     let b = e_bound r laid before e after split in let low = b.0 in let some = b.1 in
     record { step = (kept_here r laid before e after split).1.0; room = omega arith; unlent = e_header r laid before e after split }
@@ -80,7 +80,7 @@ module _ (r : RegionView) (laid : IsLaid r) (heads : List ℕ) (off : List Eleme
   pub head_of : (c : ℕ) → c < 5 → (slice_index heads c ≡ none) ⊎ (1 ≤ times (slice_index heads c) (w.0 c))
   head_of c h = head_in r.bytes none (slice_index heads c) (w.0 c) (w.2 c h)
 
-  -- a place of a list, or its end
+  -- an offset of a list, or its end
   pub link_header : (c p : ℕ) → (p ≡ none) ⊎ (1 ≤ times p (w.0 c)) → p < length r.bytes → Header r p
   link_header c p is in_it = ⊎_elim (λ z. let most = laid.0 in absurd (omega arith)) (λ h. listed_header c p h) is
 

@@ -9,7 +9,7 @@ use Rattle.dp_heap.specs.Elements.{is_free, end_of, data_of, freed, both}
 use Rattle.dp_heap.specs.Edits.{lower, upper, Emptied}
 use Rattle.dp_heap.specs.Laid.{element_at, elements_in, Laid, IsLaid}
 use Rattle.dp_heap.specs.Lists.{none, class_of, belong, Listed, Outside}
-use Rattle.dp_heap.proofs.Laid.{first_place, laid_bound, laid_split}
+use Rattle.dp_heap.proofs.Laid.{first_offset, laid_bound, laid_split}
 use Rattle.dp_heap.proofs.Cut.{front, here, e_bound}
 use Rattle.dp_heap.proofs.Found.{below_last, below_bound}
 use Rattle.dp_heap.proofs.Belong.{member, belong-append, belongs_off}
@@ -17,10 +17,10 @@ use Rattle.dp_heap.proofs.Links.{linked_stay}
 
 -- an element lies between
 between : (xs : List ℕ) (es before : List Element) (e : Element) (after : List Element) (low high : ℕ) → es ≡ before ++ e ∷ after → Laid xs low high es →
-    (low ≤ e.place) × (e.place + 64 ≤ high)
+    (low ≤ e.offset) × (e.offset + 64 ≤ high)
 between xs es before e after low high split l =
     let s = laid_split xs before (e ∷ after) low high (subst (Laid xs low high) split l) in
-    let at = first_place xs e s.0 s.2.0 in let some = s.2.1 in let b1 = laid_bound xs before low s.0 s.1 in
+    let at = first_offset xs e s.0 s.2.0 in let some = s.2.1 in let b1 = laid_bound xs before low s.0 s.1 in
     let b2 = laid_bound xs after (end_of e) high s.2.2 in (omega arith, omega arith)
 
 module _ (xs ys : List ℕ) (before os after ps : List Element) (low high : ℕ) (ordered : low ≤ high) (below : Laid xs 0 low before)
@@ -52,12 +52,12 @@ module _ (xs ys : List ℕ) (before os after ps : List Element) (low high : ℕ)
 -- ps in the place of e
 pub swapped : (r : RegionView) → IsLaid r → (before : List Element) (e : Element) (after : List Element) → elements_in r.bytes ≡ before ++ e ∷ after →
     (ys : List ℕ) (ps : List Element) → elements_in ys ≡ before ++ (ps ++ after)
-    → Outside e.place (end_of e) r.bytes ys → (heads : List ℕ) (off next : List Element) → ((c p : ℕ) → belong c p (e ∷ []) ≡ belong c p off) →
+    → Outside e.offset (end_of e) r.bytes ys → (heads : List ℕ) (off next : List Element) → ((c p : ℕ) → belong c p (e ∷ []) ≡ belong c p off) →
     ((c p : ℕ) → belong c p ps ≡ belong c p next)
     → Listed r.bytes heads (elements_in r.bytes) off → Listed ys heads (elements_in ys) next
 swapped r laid before e after split ys ps new same heads off next was is w =
     subst (λ (es : List Element). Listed ys heads es next) (sym new)
-    (moved r.bytes ys before (e ∷ []) after ps e.place (end_of e) (omega arith) (front r laid before e after split) (here r laid before e after split).2 same
+    (moved r.bytes ys before (e ∷ []) after ps e.offset (end_of e) (omega arith) (front r laid before e after split) (here r laid before e after split).2 same
     heads off next was is
     (subst (λ (es : List Element). Listed r.bytes heads es off) split w))
 
@@ -67,7 +67,7 @@ busy_none e busy c p = let no = belongs_off c p e (λ all. true≢false (sym all
 -- e is cut in two
 pub after_cut : (r : RegionView) → IsLaid r → (before : List Element) (e : Element) (after : List Element) → elements_in r.bytes ≡ before ++ e ∷ after →
     (mid : ℕ) (ys : List ℕ) → elements_in ys ≡ before ++ (lower e mid ∷ upper e mid ∷ after)
-    → Outside e.place (end_of e) r.bytes ys → (heads : List ℕ) → Listed r.bytes heads (elements_in r.bytes) (e ∷ []) → (parts : Element × Element) →
+    → Outside e.offset (end_of e) r.bytes ys → (heads : List ℕ) → Listed r.bytes heads (elements_in r.bytes) (e ∷ []) → (parts : Element × Element) →
     parts ≡ (lower e mid, upper e mid)
     → Listed ys heads (elements_in ys) (parts.0 ∷ parts.1 ∷ []) × Listed ys heads (elements_in ys) (parts.1 ∷ parts.0 ∷ [])
 after_cut r laid before e after split mid ys new same heads w parts is =
@@ -81,38 +81,38 @@ after_cut r laid before e after split mid ys new same heads w parts is =
 -- two neighbours become one
 pub after_join : (r : RegionView) → IsLaid r → (before : List Element) (x y : Element) (after : List Element) → elements_in r.bytes ≡ before
     ++ x ∷ y ∷ after → (ys : List ℕ) → elements_in ys ≡ before ++ both x y ∷ after
-    → (z : Element) → z ≡ both x y → Outside x.place (end_of z) r.bytes ys → (heads : List ℕ) (off : List Element) →
+    → (z : Element) → z ≡ both x y → Outside x.offset (end_of z) r.bytes ys → (heads : List ℕ) (off : List Element) →
     ((c p : ℕ) → belong c p (x ∷ y ∷ []) ≡ belong c p off) → Listed r.bytes heads (elements_in r.bytes) off
     → Listed ys heads (elements_in ys) (z ∷ [])
 after_join r laid before x y after split ys new z is same heads off was w =
-    let h = here r laid before x (y ∷ after) split in let at = first_place r.bytes y (end_of x) h.2.0 in
+    let h = here r laid before x (y ∷ after) split in let at = first_offset r.bytes y (end_of x) h.2.0 in
     let ends : end_of y ≡ end_of (both x y) = omega arith in let some = h.1 in
     subst (λ (k : Element). Listed ys heads (elements_in ys) (k ∷ [])) (sym is)
     (subst (λ (es : List Element). Listed ys heads es (both x y ∷ [])) (sym new)
-    (moved r.bytes ys before (x ∷ y ∷ []) after (both x y ∷ []) x.place (end_of (both x y)) (omega arith) (front r laid before x (y ∷ after) split)
-    (subst (λ (k : ℕ). Laid r.bytes k (length r.bytes) after) ends h.2.2) (subst (λ (k : Element). Outside x.place (end_of k) r.bytes ys) is same) heads off
+    (moved r.bytes ys before (x ∷ y ∷ []) after (both x y ∷ []) x.offset (end_of (both x y)) (omega arith) (front r laid before x (y ∷ after) split)
+    (subst (λ (k : ℕ). Laid r.bytes k (length r.bytes) after) ends h.2.2) (subst (λ (k : Element). Outside x.offset (end_of k) r.bytes ys) is same) heads off
     (both x y ∷ []) was (λ c p. refl)
     (subst (λ (es : List Element). Listed r.bytes heads es off) split w)))
 
--- x stands at another place
-pub elsewhere : (e x : Element) → (e.place ≡ x.place → ⊥) → belong (class_of x.size) x.place (e ∷ []) ≡ 0
-elsewhere e x differ = let no = belongs_off (class_of x.size) x.place e (λ all. differ all.2) in omega arith
+-- x stands at another offset
+pub elsewhere : (e x : Element) → (e.offset ≡ x.offset → ⊥) → belong (class_of x.size) x.offset (e ∷ []) ≡ 0
+elsewhere e x differ = let no = belongs_off (class_of x.size) x.offset e (λ all. differ all.2) in omega arith
 
 module _ (r : RegionView) (laid : IsLaid r) (before : List Element) (e : Element) (after : List Element) (split : elements_in r.bytes ≡ before
     ++ e ∷ after) (y : Element) where
-  pub above_elsewhere : y ≡ element_at r.bytes (end_of e) → belong (class_of y.size) y.place (e ∷ []) ≡ 0
+  pub above_elsewhere : y ≡ element_at r.bytes (end_of e) → belong (class_of y.size) y.offset (e ∷ []) ≡ 0
   above_elsewhere is = let some = (e_bound r laid before e after split).1 in
-      let at = ap (λ (x : Element). x.place) is in elsewhere e y (λ same. absurd (omega arith))
+      let at = ap (λ (x : Element). x.offset) is in elsewhere e y (λ same. absurd (omega arith))
 
-  pub below_elsewhere : (some : 0 < e.place) → y ≡ (below_last r laid before e after split some).last → belong (class_of y.size) y.place (e ∷ []) ≡ 0
+  pub below_elsewhere : (some : 0 < e.offset) → y ≡ (below_last r laid before e after split some).last → belong (class_of y.size) y.offset (e ∷ []) ≡ 0
   below_elsewhere some is = let b = below_bound r laid before e after split some in let b0 = b.0 in let b1 = b.1 in
-      let at = ap (λ (x : Element). x.place) is in elsewhere e y (λ same. absurd (omega arith))
+      let at = ap (λ (x : Element). x.offset) is in elsewhere e y (λ same. absurd (omega arith))
 
 -- an element loses its block
 pub emptied_listed : (r : RegionView) → IsLaid r → (d : ℕ) (x : Element) (ys : List ℕ) → Emptied d x (elements_in r.bytes) (elements_in ys) →
-    Outside x.place (end_of x) r.bytes ys → (heads : List ℕ) → Listed r.bytes heads (elements_in r.bytes) []
+    Outside x.offset (end_of x) r.bytes ys → (heads : List ℕ) → Listed r.bytes heads (elements_in r.bytes) []
     → Listed ys heads (elements_in ys) (x ∷ [])
 emptied_listed r laid d x ys h same heads w =
     let busy : is_free h.1 ≡ false = not-true (is_free h.1) (and_parts (not (is_free h.1)) (eqb (data_of h.1) d) h.4).0 in
-    swapped r laid h.0 h.1 h.2 h.3 ys (freed h.1 ∷ []) h.6 (subst (λ (e : Element). Outside e.place (end_of e) r.bytes ys) h.5 same) heads [] (x ∷ [])
+    swapped r laid h.0 h.1 h.2 h.3 ys (freed h.1 ∷ []) h.6 (subst (λ (e : Element). Outside e.offset (end_of e) r.bytes ys) h.5 same) heads [] (x ∷ [])
     (busy_none h.1 busy) (λ c p. ap (λ (e : Element). belong c p (e ∷ [])) (sym h.5)) w

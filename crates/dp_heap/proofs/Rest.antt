@@ -4,7 +4,7 @@ use Rattle.dp_region.specs.Region.{RegionView}
 use Rattle.dp_heap.specs.declared.elements.Element.{Element}
 use Rattle.dp_heap.specs.Elements.{end_of}
 use Rattle.dp_heap.specs.Laid.{element_at, elements_from, Laid, IsLaid, IsReached}
-use Rattle.dp_heap.proofs.Laid.{first_place, laid_bound, decoded}
+use Rattle.dp_heap.proofs.Laid.{first_offset, laid_bound, decoded}
 use Rattle.dp_heap.proofs.Reached.{Next, next_laid}
 
 abbrev pub rest_of : RegionView → ℕ → List Element
@@ -18,7 +18,7 @@ nothing_left r p w le = rest_is r p w ∙ none w.1 w.3
   where
     none : (es : List Element) → Laid r.bytes p (length r.bytes) es → es ≡ []
     none [] l = refl
-    none (e ∷ es) l = let at = first_place r.bytes e p l.0 in let some = l.1 in
+    none (e ∷ es) l = let at = first_offset r.bytes e p l.0 in let some = l.1 in
         let bound = laid_bound r.bytes es (end_of e) (length r.bytes) l.2 in absurd (omega arith)
 
 module _ (r : RegionView) (laid : IsLaid r) (p : ℕ) (w : IsReached r p) (more : p < length r.bytes) where

@@ -12,7 +12,7 @@ use Rattle.dp_heap.specs.Elements.{end_of, CanHold, NothingFits}
 use Rattle.dp_heap.specs.Edits.{IsIn}
 use Rattle.dp_heap.specs.Laid.{element_at, elements_in, Laid, IsLaid}
 use Rattle.dp_heap.specs.Lists.{none, class_of, Linked, times, belongs, belong, Listed, NoneHolds}
-use Rattle.dp_heap.proofs.Laid.{first_place}
+use Rattle.dp_heap.proofs.Laid.{first_offset}
 use Rattle.dp_heap.proofs.Cut.{here, e_bound}
 use Rattle.dp_heap.proofs.Undo.{free_state}
 use Rattle.dp_heap.proofs.Belong.{bit, class_small, same_one, times-append, times_split, member, belongs_off, belongs_of}
@@ -37,32 +37,32 @@ steps_are (suc n) xs w h (p ∷ ps) l far few =
 
 -- there are no more of them than elements
 module _ (c : ℕ) where
-  belongs_small : (p : ℕ) (e : Element) → belongs c p e ≤ bit (eqb e.place p)
-  belongs_small p e = by_test (eqb e.place p)
-      (λ t. let one : bit (eqb e.place p) ≡ 1 = ap bit t in let most : belongs c p e ≤ 1 =
+  belongs_small : (p : ℕ) (e : Element) → belongs c p e ≤ bit (eqb e.offset p)
+  belongs_small p e = by_test (eqb e.offset p)
+      (λ t. let one : bit (eqb e.offset p) ≡ 1 = ap bit t in let most : belongs c p e ≤ 1 =
       cond_both _ 1 0 (λ n. n ≤ 1) (λ _. omega arith) (λ _. omega arith) in omega arith)
-      (λ t. let no = belongs_off c p e (λ all. true≢false (sym (eq-eqb e.place p all.2) ∙ t)) in omega arith)
+      (λ t. let no = belongs_off c p e (λ all. true≢false (sym (eq-eqb e.offset p all.2) ∙ t)) in omega arith)
 
   pub few_enough : (es : List Element) (ps : List ℕ) → ((p : ℕ) → times p ps ≤ belong c p es) → length ps ≤ length es
   few_enough [] [] h = omega arith
   few_enough [] (p ∷ ps) h = let k : bit (eqb p p) + times p ps ≤ 0 = h p in let one = same_one p in absurd (omega arith)
-  few_enough (e ∷ es) ps h = by_test (ltb 0 (times e.place ps))
-      (λ t. let s = times_split e.place ps (let some = ltb-true 0 (times e.place ps) t in omega arith) in
+  few_enough (e ∷ es) ps h = by_test (ltb 0 (times e.offset ps))
+      (λ t. let s = times_split e.offset ps (let some = ltb-true 0 (times e.offset ps) t in omega arith) in
       let rest = few_enough es (s.0 ++ s.1) (λ p.
-      let k = h p in let j = times-append p s.0 s.1 in let i = ap (times p) s.2 ∙ times-append p s.0 (e.place ∷ s.1) in
+      let k = h p in let j = times-append p s.0 s.1 in let i = ap (times p) s.2 ∙ times-append p s.0 (e.offset ∷ s.1) in
       let small = belongs_small p e in omega arith) in
-      let n1 = ap length s.2 ∙ length-append s.0 (e.place ∷ s.1) in let n2 = length-append s.0 s.1 in
-      let n3 : length (e.place ∷ s.1) ≡ suc (length s.1) = refl in let n4 : length (e ∷ es) ≡ suc (length es) = refl in omega arith)
-      (λ t. let none' = ltb-false 0 (times e.place ps) t in
-      let rest = few_enough es ps (λ p. let k = h p in by_test (eqb e.place p)
-      (λ same. let z : times p ps ≡ times e.place ps = ap (λ (q : ℕ). times q ps) (sym (eqb-true e.place p same)) in omega arith)
-      (λ other. let small = belongs_small p e in let no : bit (eqb e.place p) ≡ 0 = ap bit other in omega arith)) in
+      let n1 = ap length s.2 ∙ length-append s.0 (e.offset ∷ s.1) in let n2 = length-append s.0 s.1 in
+      let n3 : length (e.offset ∷ s.1) ≡ suc (length s.1) = refl in let n4 : length (e ∷ es) ≡ suc (length es) = refl in omega arith)
+      (λ t. let none' = ltb-false 0 (times e.offset ps) t in
+      let rest = few_enough es ps (λ p. let k = h p in by_test (eqb e.offset p)
+      (λ same. let z : times p ps ≡ times e.offset ps = ap (λ (q : ℕ). times q ps) (sym (eqb-true e.offset p same)) in omega arith)
+      (λ other. let small = belongs_small p e in let no : bit (eqb e.offset p) ≡ 0 = ap bit other in omega arith)) in
       let n4 : length (e ∷ es) ≡ suc (length es) = refl in omega arith)
 
 pub count_bound : (xs : List ℕ) (es : List Element) (low high : ℕ) → Laid xs low high es → low + length es ≤ high
 count_bound xs [] low high l = let same : low ≡ high = l in let z : low + 0 ≤ high = omega arith in z
 count_bound xs (e ∷ es) low high l =
-    let at = first_place xs e low l.0 in let some = l.1 in let rest = count_bound xs es (end_of e) high l.2 in
+    let at = first_offset xs e low l.0 in let some = l.1 in let rest = count_bound xs es (end_of e) high l.2 in
     let n : length (e ∷ es) ≡ suc (length es) = refl in omega arith
 
 -- the walk over the list c has come to p: those at `seen` cannot hold the block, and `left` are to come
@@ -154,11 +154,11 @@ module _ (r : RegionView) (laid : IsLaid r) (c n a p : ℕ) (w : Walked r.bytes 
   pub walk_ended : p ≡ none → NoneHolds c n a (elements_in r.bytes)
   walk_ended is e in_it class d can =
       let h = here r laid in_it.0 e in_it.1 in_it.2 in
-      let some : 1 ≤ belong c e.place (elements_in r.bytes) =
-      subst (λ (k : ℕ). 1 ≤ belong k e.place (elements_in r.bytes)) class
-      (subst (λ (es : List Element). 1 ≤ belong (class_of e.size) e.place es) (sym in_it.2) (belongs_of in_it.0 e in_it.1 can.0)) in
-      let count = w.4 e.place in let nothing = empty w.1 w.3 left_far e.place in
-      w.5 e.place (omega arith) d (subst (λ (x : Element). CanHold x n a d) ((h.0)) can)
+      let some : 1 ≤ belong c e.offset (elements_in r.bytes) =
+      subst (λ (k : ℕ). 1 ≤ belong k e.offset (elements_in r.bytes)) class
+      (subst (λ (es : List Element). 1 ≤ belong (class_of e.size) e.offset es) (sym in_it.2) (belongs_of in_it.0 e in_it.1 can.0)) in
+      let count = w.4 e.offset in let nothing = empty w.1 w.3 left_far e.offset in
+      w.5 e.offset (omega arith) d (subst (λ (x : Element). CanHold x n a d) ((h.0)) can)
     where
       empty : (ps : List ℕ) → Linked r.bytes w.2 p ps → ((q : ℕ) → 1 ≤ times q ps → q < none) → (m : ℕ) → times m ps ≡ 0
       empty [] l far m = refl

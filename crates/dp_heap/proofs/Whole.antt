@@ -7,7 +7,7 @@ use Rattle.dp_heap.specs.declared.elements.State.TheVariants.{Free}
 use Rattle.dp_heap.specs.Elements.{is_free, is_busy, count_of}
 use Rattle.dp_heap.specs.Laid.{Laid, Kept}
 use Rattle.dp_heap.specs.Elements.{apart}
-use Rattle.dp_heap.proofs.Laid.{first_place}
+use Rattle.dp_heap.proofs.Laid.{first_offset}
 use Rattle.dp_heap.proofs.Undo.{is_open, open_same}
 
 none_busy : (b : Bool) (n : ℕ) → cond (not b) 1 0 + n ≡ 0 → (b ≡ true) × (n ≡ 0)
@@ -22,12 +22,12 @@ not_two false b rest x y z = true≢false (sym x)
 
 module _ (xs : List ℕ) (some : 0 < length xs) where
   pub whole : (es : List Element) → Laid xs 0 (length xs) es → Kept xs 0 es → IsTrue (apart es) → count_of is_busy es ≡ 0 →
-      es ≡ record { place = 0; size = length xs; state = Free; pad = 0 } ∷ []
+      es ≡ record { offset = 0; size = length xs; state = Free; pad = 0 } ∷ []
   whole [] laid kept off none = absurd (let empty : 0 ≡ length xs = laid in omega arith)
   whole (e ∷ []) laid kept off none =
-      let free = (none_busy (is_free e) 0 none).0 in let place = first_place xs e 0 laid.0 in
-      let size : e.size ≡ length xs = (let end : e.place + e.size ≡ length xs = laid.2 in omega arith) in
-      ap (λ (x : Element). x ∷ []) (is_open e free (kept.1.4 free) ∙ open_same e.place e.size 0 (length xs) place size)
+      let free = (none_busy (is_free e) 0 none).0 in let offset = first_offset xs e 0 laid.0 in
+      let size : e.size ≡ length xs = (let end : e.offset + e.size ≡ length xs = laid.2 in omega arith) in
+      ap (λ (x : Element). x ∷ []) (is_open e free (kept.1.4 free) ∙ open_same e.offset e.size 0 (length xs) offset size)
   whole (e ∷ x ∷ es) laid kept off none =
       let first = none_busy (is_free e) (count_of is_busy (x ∷ es)) none in let second = none_busy (is_free x) (count_of is_busy es) first.1 in
       absurd (not_two (is_free e) (is_free x) (apart (x ∷ es)) first.0 second.0 off)

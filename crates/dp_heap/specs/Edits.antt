@@ -14,21 +14,21 @@ Replaces e ps old new = (before after : List Element) → old ≡ before ++ e �
 
 -- e below mid, and from mid on
 abbrev pub lower : Element → ℕ → Element
-lower e mid = record { place = e.place; size = mid - e.place; state = Free; pad = 0 }
+lower e mid = record { offset = e.offset; size = mid - e.offset; state = Free; pad = 0 }
 
 abbrev pub upper : Element → ℕ → Element
-upper e mid = record { place = mid; size = end_of e - mid; state = Free; pad = 0 }
+upper e mid = record { offset = mid; size = end_of e - mid; state = Free; pad = 0 }
 
 -- e with a block whose data begin at d
 abbrev pub marked : Element → ℕ → Element
-marked e d = record { place = e.place; size = e.size; state = Busy; pad = d - 64 - e.place }
+marked e d = record { offset = e.offset; size = e.size; state = Busy; pad = d - 64 - e.offset }
 
 -- what is left of e once the bytes from `end` on are trimmed, where they are enough for an element, and those before `start`
 abbrev pub below : Element → ℕ → Element
 below e end = if nat_lt 128 (end_of e - end) then lower e end else e
 
 abbrev pub above : Element → ℕ → Element
-above e start = if nat_lt 128 (start - e.place) then upper e start else e
+above e start = if nat_lt 128 (start - e.offset) then upper e start else e
 
 -- es, joined to the last of before
 abbrev pub onto : List Element → List Element → List Element

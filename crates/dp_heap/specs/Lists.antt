@@ -1,4 +1,4 @@
--- The free elements stand in five lists, by size. A list is linked by words of its elements' headers, each a number of 4 bytes: a place, or `none`.
+-- The free elements stand in five lists, by size. A list is linked by words of its elements' headers, each a number of 4 bytes: an offset, or `none`.
 --
 --  16  the next element of the list
 --  20  the one before it
@@ -16,9 +16,9 @@ none = 4294967295
 abbrev pub class_of : ℕ → ℕ
 class_of n = if nat_le n 256 then 0 else if nat_le n 1024 then 1 else if nat_le n 4096 then 2 else if nat_le n 16384 then 3 else 4
 
--- xs with a place in the word k of the header at p, where there is one
+-- xs with an offset in the word k of the header at p, where there is one
 abbrev pub with_link : List ℕ → ℕ → ℕ → ℕ → List ℕ
-with_link xs k p place = if nat_lt p (length xs) then with_number xs (p + k) 4 place else xs
+with_link xs k p offset = if nat_lt p (length xs) then with_number xs (p + k) 4 offset else xs
 
 -- ps follow one another from `head` on, and `before` stands before them
 abbrev pub Linked : List ℕ → ℕ → ℕ → List ℕ → Type 0
@@ -32,7 +32,7 @@ times p (q ∷ ps) = (if q == p then 1 else 0) + times p ps
 
 -- how many of es stand at p and belong to the list c
 abbrev pub belongs : ℕ → ℕ → Element → ℕ
-belongs c p e = if is_free e && ((class_of e.size == c) && (e.place == p)) then 1 else 0
+belongs c p e = if is_free e && ((class_of e.size == c) && (e.offset == p)) then 1 else 0
 
 abbrev pub belong : ℕ → ℕ → List Element → ℕ
 belong c p = sum_of (belongs c p)
@@ -47,6 +47,6 @@ Listed xs heads es off =
 abbrev pub Outside : ℕ → ℕ → List ℕ → List ℕ → Type 0
 Outside low high xs ys = (q : ℕ) → q + 4 ≤ length xs → (q + 4 ≤ low) ⊎ (high ≤ q) → (q + 4 ≤ high + 12) ⊎ (high + 16 ≤ q) → number_at ys q 4 ≡ number_at xs q 4
 
--- no element of the list c has a place for a block of n bytes, aligned to a
+-- no element of the list c has an offset for a block of n bytes, aligned to a
 abbrev pub NoneHolds : ℕ → ℕ → ℕ → List Element → Type 0
 NoneHolds c n a es = (e : Element) → IsIn e es → class_of e.size ≡ c → (d : ℕ) → ¬ CanHold e n a d

@@ -6,45 +6,45 @@ ghost use Rattle.dp_heap.specs.Laid.{word_of, element_at, with_header, with_back
 use crate::elements::{Element, State};
 use dp_region::Region;
 
-// The element whose header lies at `place`.
-pub(crate) fn read_header(region: &Region, place: u32) -> Element
-    requires { IsFree region.now place 12 × (length region.now.bytes ≤ 1073741824) }
-    ensures { result ≡ element_at region.now.bytes place }
+// The element whose header lies at `offset`.
+pub(crate) fn read_header(region: &Region, offset: u32) -> Element
+    requires { IsFree region.now offset 12 × (length region.now.bytes ≤ 1073741824) }
+    ensures { result ≡ element_at region.now.bytes offset }
 {
-    let state = if region.load_u32(place + 4) == 0 {
+    let state = if region.load_u32(offset + 4) == 0 {
         State::Free
     } else {
         State::Busy
     };
     Element {
-        place,
-        size: region.load_u32(place),
+        offset,
+        size: region.load_u32(offset),
         state,
-        pad: region.load_u32(place + 8),
+        pad: region.load_u32(offset + 8),
     }
 }
 
-// A header at `place`, but for the word on the element below.
-pub(crate) fn write_header(region: &mut Region, place: u32, size: u32, state: State, pad: u32)
-    requires { IsFree region.old place 12 × (length region.old.bytes ≤ 1073741824) }
-    ensures { region.new ≡ record region.old { bytes = with_header region.old.bytes place size (word_of state) pad } }
+// A header at `offset`, but for the word on the element below.
+pub(crate) fn write_header(region: &mut Region, offset: u32, size: u32, state: State, pad: u32)
+    requires { IsFree region.old offset 12 × (length region.old.bytes ≤ 1073741824) }
+    ensures { region.new ≡ record region.old { bytes = with_header region.old.bytes offset size (word_of state) pad } }
 {
     let word = match state {
         State::Free => 0,
         State::Busy => 1,
     };
-    region.store_u32(place, size);
-    region.store_u32(place + 4, word);
-    region.store_u32(place + 8, pad);
+    region.store_u32(offset, size);
+    region.store_u32(offset + 4, word);
+    region.store_u32(offset + 8, pad);
 }
 
-// The element at `place`, if that is not the end, learns the size of the one below it.
-pub(crate) fn write_back(region: &mut Region, place: u32, size: u32)
-    requires { (place < length region.old.bytes → IsFree region.old place 16) × (length region.old.bytes ≤ 1073741824) }
-    ensures { region.new ≡ record region.old { bytes = with_back region.old.bytes place size } }
+// The element at `offset`, if that is not the end, learns the size of the one below it.
+pub(crate) fn write_back(region: &mut Region, offset: u32, size: u32)
+    requires { (offset < length region.old.bytes → IsFree region.old offset 16) × (length region.old.bytes ≤ 1073741824) }
+    ensures { region.new ≡ record region.old { bytes = with_back region.old.bytes offset size } }
 {
-    if place < region.size() {
-        region.store_u32(place + 12, size);
+    if offset < region.size() {
+        region.store_u32(offset + 12, size);
     }
 }
 

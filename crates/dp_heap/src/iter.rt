@@ -8,11 +8,11 @@ use crate::header::read_header;
 use dp_region::Region;
 use std::marker::Model;
 
-/// The elements of a heap that are left of a walk from the lowest place. Each is found from the one before it.
+/// The elements of a heap that are left of a walk from the lowest offset. Each is found from the one before it.
 #[derive(Drop)]
 pub struct Iter<'a> {
     region: &'a Region,
-    place: u32,
+    offset: u32,
 }
 
 impl<'a> Model for Iter<'a> {
@@ -22,9 +22,9 @@ impl<'a> Model for Iter<'a> {
 
     ghost Value = { List Element };
 
-    ghost view = { λ w. elements_from (length w.region.now.bytes / 64) w.place w.region.now.bytes };
+    ghost view = { λ w. elements_from (length w.region.now.bytes / 64) w.offset w.region.now.bytes };
 
-    ghost invariant = { λ w. IsLaid w.region.now × IsReached w.region.now w.place };
+    ghost invariant = { λ w. IsLaid w.region.now × IsReached w.region.now w.offset };
 }
 
 impl<'a> Iter<'a> {
@@ -33,7 +33,7 @@ impl<'a> Iter<'a> {
         requires { IsLaid region.now }
         ensures { result ≡ elements_in region.now.bytes }
     {
-        Iter { region, place: 0 }
+        Iter { region, offset: 0 }
     }
 }
 
@@ -45,12 +45,12 @@ impl<'a> Iterator for Iter<'a> {
     ghost remaining = { item_count (λ rest. rest) };
 
     fn next(&mut self) -> Option<Element> {
-        let place = self.place;
-        if place >= self.region.size() {
+        let offset = self.offset;
+        if offset >= self.region.size() {
             return None;
         }
-        let e = read_header(self.region, place);
-        self.place = place + e.size;
+        let e = read_header(self.region, offset);
+        self.offset = offset + e.size;
         Some(e)
     }
 }

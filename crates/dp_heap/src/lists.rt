@@ -19,7 +19,7 @@ const NEXT: u32 = 16;
 
 const BEFORE: u32 = 20;
 
-// The places of the lists' first elements.
+// The offsets of the lists' first elements.
 #[derive(Clone, Copy, Drop)]
 pub(crate) struct Lists {
     heads: [u32; 5],
@@ -46,10 +46,10 @@ impl Lists {
     {
         let class = class_of(e.size as u64);
         let first = self.heads[class];
-        write_link(region, NEXT, e.place, first);
-        write_link(region, BEFORE, e.place, NONE);
-        write_link(region, BEFORE, first, e.place);
-        self.heads[class] = e.place;
+        write_link(region, NEXT, e.offset, first);
+        write_link(region, BEFORE, e.offset, NONE);
+        write_link(region, BEFORE, first, e.offset);
+        self.heads[class] = e.offset;
     }
 
     // `e`, which is free and in its list, leaves that.
@@ -57,15 +57,15 @@ impl Lists {
         requires laid { IsLaid region.old × IsIn e.now (elements_in region.old.bytes) }
         requires free { e.now.state ≡ State.Free }
         requires listed { (off : List Item) × Listed region.old.bytes self.old.heads (elements_in region.old.bytes) off
-            × (belong (class_of e.now.size) e.now.place off ≡ 0) }
+            × (belong (class_of e.now.size) e.now.offset off ≡ 0) }
         ensures laid { IsLaid region.new }
         ensures home { region.new.home ≡ region.old.home }
         ensures same { elements_in region.new.bytes ≡ elements_in region.old.bytes }
         ensures off { (off : List Item) → Listed region.old.bytes self.old.heads (elements_in region.old.bytes) off →
-            belong (class_of e.now.size) e.now.place off ≡ 0 → Listed region.new.bytes self.new.heads (elements_in region.new.bytes) (e.now ∷ off) }
+            belong (class_of e.now.size) e.now.offset off ≡ 0 → Listed region.new.bytes self.new.heads (elements_in region.new.bytes) (e.now ∷ off) }
     {
-        let next = region.load_u32(e.place + NEXT);
-        let before = region.load_u32(e.place + BEFORE);
+        let next = region.load_u32(e.offset + NEXT);
+        let before = region.load_u32(e.offset + BEFORE);
         write_link(region, NEXT, before, next);
         write_link(region, BEFORE, next, before);
         if before == NONE {
@@ -73,7 +73,7 @@ impl Lists {
         }
     }
 
-    // A free element that can hold a block, of the first list on that has one, and the highest place in it.
+    // A free element that can hold a block, of the first list on that has one, and the highest offset in it.
     pub(crate) fn find(&self, region: &Region, len: u64, align: u64) -> Option<(Element, u32)>
         requires laid { IsLaid region.now × Listed region.now.bytes self.now.heads (elements_in region.now.bytes) [] }
         requires align { (64 ≤ align) × (align < 2 ^ 32) × (len < 2 ^ 33) }
@@ -90,7 +90,7 @@ impl Lists {
         None
     }
 
-    // The first element of a list that can hold a block, and the highest place in it.
+    // The first element of a list that can hold a block, and the highest offset in it.
     fn first_fit(
         &self,
         region: &Region,
@@ -104,30 +104,30 @@ impl Lists {
         ensures { MatchOption result (NoneHolds class len align (elements_in region.now.bytes)) (λ f. IsIn f.0 (elements_in region.now.bytes)
             × (f.0.state ≡ State.Free) × IsHighest f.0 len align f.1) }
     {
-        let mut place = self.heads[class];
-        while place != NONE {
-            let e = read_header(region, place);
+        let mut offset = self.heads[class];
+        while offset != NONE {
+            let e = read_header(region, offset);
             if let Some(at) = highest(&e, len, align) {
                 return Some((e, at));
             }
-            place = region.load_u32(place + NEXT);
+            offset = region.load_u32(offset + NEXT);
         }
         None
     }
 }
 
-// The highest place for the data of a block, if there is one.
+// The highest offset for the data of a block, if there is one.
 fn highest(e: &Element, len: u64, align: u64) -> Option<u32>
     requires align { (64 ≤ align) × (align < 2 ^ 32) }
-    requires bounds { (len < 2 ^ 33) × (e.now.place + e.now.size ≤ 1073741824) × (e.now.state ≡ State.Free) }
+    requires bounds { (len < 2 ^ 33) × (e.now.offset + e.now.size ≤ 1073741824) × (e.now.state ≡ State.Free) }
     ensures { MatchOption result ((d : ℕ) → ¬ CanHold e.now len align d) (λ d. IsHighest e.now len align d) }
 {
-    let end = (e.place + e.size) as u64;
+    let end = (e.offset + e.size) as u64;
     if end < len {
         return None;
     }
     let at = (end - len) / align * align;
-    if at < e.place as u64 + 64 {
+    if at < e.offset as u64 + 64 {
         return None;
     }
     Some(at as u32)
@@ -150,12 +150,12 @@ fn class_of(size: u64) -> usize
     }
 }
 
-// A place in the word `word` of the header at `at`, where there is one.
-fn write_link(region: &mut Region, word: u32, at: u32, place: u32)
+// An offset in the word `word` of the header at `at`, where there is one.
+fn write_link(region: &mut Region, word: u32, at: u32, offset: u32)
     requires { (at < length region.old.bytes → IsFree region.old at 64) × (word ≤ 60) × (length region.old.bytes ≤ 1073741824) }
-    ensures { region.new ≡ record region.old { bytes = with_link region.old.bytes word at place } }
+    ensures { region.new ≡ record region.old { bytes = with_link region.old.bytes word at offset } }
 {
     if at < region.size() {
-        region.store_u32(at + word, place);
+        region.store_u32(at + word, offset);
     }
 }

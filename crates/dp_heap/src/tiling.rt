@@ -15,26 +15,26 @@ use dp_region::{Block, Region};
 fn cut(region: &mut Region, e: &Element, mid: u32) -> (Element, Element)
     requires laid { IsLaid region.old × IsIn e.now (elements_in region.old.bytes) }
     requires free { e.now.state ≡ State.Free }
-    requires inside { (mid % 64 ≡ 0) × (e.now.place + 64 ≤ mid) × (mid + 64 ≤ end_of e.now) }
+    requires inside { (mid % 64 ≡ 0) × (e.now.offset + 64 ≤ mid) × (mid + 64 ≤ end_of e.now) }
     ensures parts { result ≡ (lower e.now mid, upper e.now mid) }
     ensures laid { IsLaid region.new }
     ensures home { region.new.home ≡ region.old.home }
-    ensures outside { Outside e.now.place (end_of e.now) region.old.bytes region.new.bytes }
+    ensures outside { Outside e.now.offset (end_of e.now) region.old.bytes region.new.bytes }
     ensures pieces { Replaces e.now (lower e.now mid ∷ upper e.now mid ∷ []) (elements_in region.old.bytes) (elements_in region.new.bytes) }
 {
-    let end = e.place + e.size;
+    let end = e.offset + e.size;
     write_header(region, mid, end - mid, State::Free, 0);
-    write_back(region, mid, mid - e.place);
-    write_header(region, e.place, mid - e.place, State::Free, 0);
+    write_back(region, mid, mid - e.offset);
+    write_header(region, e.offset, mid - e.offset, State::Free, 0);
     write_back(region, end, end - mid);
     (
         Element {
-            size: mid - e.place,
+            size: mid - e.offset,
             pad: 0,
             ..*e
         },
         Element {
-            place: mid,
+            offset: mid,
             size: end - mid,
             pad: 0,
             ..*e
@@ -46,15 +46,15 @@ fn cut(region: &mut Region, e: &Element, mid: u32) -> (Element, Element)
 fn mark(region: &mut Region, e: &Element, at: u32, len: u32) -> Block
     requires laid { IsLaid region.old × IsIn e.now (elements_in region.old.bytes) }
     requires free { e.now.state ≡ State.Free }
-    requires inside { (0 < len) × (e.now.place + 64 ≤ at) × (at + len ≤ end_of e.now) × (at % 64 ≡ 0) }
-    ensures block { (result.home ≡ region.old.home) × (result.place ≡ at) × (length result.bytes ≡ len) }
+    requires inside { (0 < len) × (e.now.offset + 64 ≤ at) × (at + len ≤ end_of e.now) × (at % 64 ≡ 0) }
+    ensures block { (result.home ≡ region.old.home) × (result.offset ≡ at) × (length result.bytes ≡ len) }
     ensures laid { IsLaid region.new }
     ensures home { region.new.home ≡ region.old.home }
-    ensures outside { Outside e.now.place (end_of e.now) region.old.bytes region.new.bytes }
+    ensures outside { Outside e.now.offset (end_of e.now) region.old.bytes region.new.bytes }
     ensures pieces { Replaces e.now (marked e.now at ∷ []) (elements_in region.old.bytes) (elements_in region.new.bytes) }
 {
-    let pad = at - 64 - e.place;
-    write_header(region, e.place, e.size, State::Busy, pad);
+    let pad = at - 64 - e.offset;
+    write_header(region, e.offset, e.size, State::Busy, pad);
     write_pad(region, at, pad);
     region.lend(at, len)
 }
@@ -64,14 +64,14 @@ fn trim_end(region: &mut Region, lists: &mut Lists, e: Element, end: u32) -> Ele
     requires laid { IsLaid region.old × IsIn e (elements_in region.old.bytes) }
     requires free { e.state ≡ State.Free }
     requires listed { Listed region.old.bytes lists.old.heads (elements_in region.old.bytes) (e ∷ []) }
-    requires inside { (e.place + 64 ≤ end) × (end ≤ end_of e) × (end % 64 ≡ 0) }
+    requires inside { (e.offset + 64 ≤ end) × (end ≤ end_of e) × (end % 64 ≡ 0) }
     ensures left { result ≡ below e end }
     ensures laid { IsLaid region.new }
     ensures home { region.new.home ≡ region.old.home }
     ensures listed { Listed region.new.bytes lists.new.heads (elements_in region.new.bytes) (result ∷ []) }
     ensures pieces { Replaces e (below e end ∷ spare end (end_of e - end)) (elements_in region.old.bytes) (elements_in region.new.bytes) }
 {
-    if e.place + e.size - end <= 128 {
+    if e.offset + e.size - end <= 128 {
         return e;
     }
     let (rest, spare) = cut(region, &e, end);
@@ -84,14 +84,14 @@ fn trim_start(region: &mut Region, lists: &mut Lists, e: Element, start: u32) ->
     requires laid { IsLaid region.old × IsIn e (elements_in region.old.bytes) }
     requires free { e.state ≡ State.Free }
     requires listed { Listed region.old.bytes lists.old.heads (elements_in region.old.bytes) (e ∷ []) }
-    requires inside { (e.place ≤ start) × (start + 64 ≤ end_of e) × (start % 64 ≡ 0) }
+    requires inside { (e.offset ≤ start) × (start + 64 ≤ end_of e) × (start % 64 ≡ 0) }
     ensures left { result ≡ above e start }
     ensures laid { IsLaid region.new }
     ensures home { region.new.home ≡ region.old.home }
     ensures listed { Listed region.new.bytes lists.new.heads (elements_in region.new.bytes) (result ∷ []) }
-    ensures pieces { Replaces e (spare e.place (start - e.place) ++ above e start ∷ []) (elements_in region.old.bytes) (elements_in region.new.bytes) }
+    ensures pieces { Replaces e (spare e.offset (start - e.offset) ++ above e start ∷ []) (elements_in region.old.bytes) (elements_in region.new.bytes) }
 {
-    if start - e.place <= 128 {
+    if start - e.offset <= 128 {
         return e;
     }
     let (spare, rest) = cut(region, &e, start);
@@ -104,9 +104,9 @@ pub(crate) fn take(region: &mut Region, lists: &mut Lists, e: Element, at: u32, 
     requires heap { IsHeap region.old × IsIn e (elements_in region.old.bytes) }
     requires free { e.state ≡ State.Free }
     requires listed { Listed region.old.bytes lists.old.heads (elements_in region.old.bytes) [] }
-    requires inside { (0 < len) × (e.place + 64 ≤ at) × (at + len ≤ end_of e) }
+    requires inside { (0 < len) × (e.offset + 64 ≤ at) × (at + len ≤ end_of e) }
     requires steps { (at % 64 ≡ 0) × (len % 64 ≡ 0) }
-    ensures block { (result.home ≡ region.old.home) × (result.place ≡ at) × (length result.bytes ≡ len) }
+    ensures block { (result.home ≡ region.old.home) × (result.offset ≡ at) × (length result.bytes ≡ len) }
     ensures heap { IsHeap region.new }
     ensures home { region.new.home ≡ region.old.home }
     ensures listed { Listed region.new.bytes lists.new.heads (elements_in region.new.bytes) [] }
@@ -124,14 +124,14 @@ pub(crate) fn unmark(region: &mut Region, block: Block) -> Element
     requires block { block.home ≡ region.old.home }
     ensures laid { IsLaid region.new }
     ensures home { region.new.home ≡ region.old.home }
-    ensures outside { Outside result.place (end_of result) region.old.bytes region.new.bytes }
-    ensures emptied { Emptied block.place result (elements_in region.old.bytes) (elements_in region.new.bytes) }
+    ensures outside { Outside result.offset (end_of result) region.old.bytes region.new.bytes }
+    ensures emptied { Emptied block.offset result (elements_in region.old.bytes) (elements_in region.new.bytes) }
 {
-    let at = block.place();
+    let at = block.offset();
     region.reclaim(block);
     let pad = read_pad(region, at);
     let e = read_header(region, at - 64 - pad);
-    write_header(region, e.place, e.size, State::Free, 0);
+    write_header(region, e.offset, e.size, State::Free, 0);
     Element {
         state: State::Free,
         pad: 0,
@@ -147,13 +147,13 @@ fn join(region: &mut Region, x: Element, y: Element) -> Element
     ensures whole { result ≡ both x y }
     ensures laid { IsLaid region.new }
     ensures home { region.new.home ≡ region.old.home }
-    ensures outside { Outside x.place (end_of result) region.old.bytes region.new.bytes }
+    ensures outside { Outside x.offset (end_of result) region.old.bytes region.new.bytes }
     ensures pieces { (before after : List Item) → elements_in region.old.bytes ≡ before ++ x ∷ y ∷ after → elements_in region.new.bytes ≡ before
         ++ both x y ∷ after }
 {
     let size = x.size + y.size;
-    write_header(region, x.place, size, State::Free, 0);
-    write_back(region, x.place + size, size);
+    write_header(region, x.offset, size, State::Free, 0);
+    write_back(region, x.offset + size, size);
     Element { size, pad: 0, ..x }
 }
 
@@ -169,7 +169,7 @@ pub(crate) fn join_above(region: &mut Region, lists: &mut Lists, e: Element) -> 
     ensures pieces { (before after : List Item) → elements_in region.old.bytes ≡ before ++ e ∷ after → (rest : List Item) × (joined e after ≡ result ∷ rest)
         × (elements_in region.new.bytes ≡ before ++ result ∷ rest) }
 {
-    let end = e.place + e.size;
+    let end = e.offset + e.size;
     if end == region.size() {
         return e;
     }
@@ -194,11 +194,11 @@ pub(crate) fn join_below(region: &mut Region, lists: &mut Lists, e: Element) -> 
     ensures listed { Listed region.new.bytes lists.new.heads (elements_in region.new.bytes) (result ∷ []) }
     ensures pieces { (before after : List Item) → elements_in region.old.bytes ≡ before ++ e ∷ after → elements_in region.new.bytes ≡ onto before (e ∷ after) }
 {
-    if e.place == 0 {
+    if e.offset == 0 {
         return e;
     }
-    let size = region.load_u32(e.place + 12);
-    let below = read_header(region, e.place - size);
+    let size = region.load_u32(e.offset + 12);
+    let below = read_header(region, e.offset - size);
     if let State::Free = below.state {
         lists.leave(region, &below);
         return join(region, below, e);

@@ -26,7 +26,7 @@ no_pool = record {
   cached = 0;
   objects = [];
   out = [];
-  zones = record { home = record { block = 0; start = 0; rights = 0 }; object_name = []; object_place = 0; queue_name = []; queue_place = 0 };
+  zones = record { home = record { block = 0; start = 0; rights = 0 }; object_name = []; object_offset = 0; queue_name = []; queue_offset = 0 };
 }
 
 abbrev pub pool_in : List PoolView → ℕ → PoolView

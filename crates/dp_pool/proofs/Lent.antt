@@ -3,10 +3,10 @@ use Rattle.std.proofs.Common.{◌≡◌, ℕ, zero, suc, ◌+◌, ◌<◌, ◌�
 use Rattle.std.specs.Prelude.{slice_index_or, slice_set}
 use Rattle.std.proofs.lemmas.List.{places, same_lists, take_all, drop_all}
 use Rattle.dp_region.specs.Spans.{bytes_in, refilled, overlaid}
-use Rattle.dp_pool.specs.Pools.{stride_of, objects_from, object_place, spilled}
-use Rattle.dp_pool.proofs.Objects.{place_from, place_within, stride_covers}
+use Rattle.dp_pool.specs.Pools.{stride_of, objects_from, object_offset, spilled}
+use Rattle.dp_pool.proofs.Objects.{offset_from, offset_within, stride_covers}
 
--- the bytes behind the place are those that were there, with the rest of ws over them
+-- the bytes behind the offset are those that were there, with the rest of ws over them
 bytes_in-behind : (xs : List ℕ) (p d n : ℕ) (ws : List ℕ) → p + d + n ≤ length xs → bytes_in (overlaid xs p ws) (p + d) n
     ≡ refilled (bytes_in xs (p + d) n) (drop d ws)
 bytes_in-behind xs p d n ws fits = same_lists _ _ (search (rules, places)) (λ k e h. grind (arith, places))
@@ -15,23 +15,23 @@ bytes_in-behind xs p d n ws fits = same_lists _ _ (search (rules, places)) (λ k
 bytes_in-before : (xs : List ℕ) (p q n : ℕ) (ws : List ℕ) → q + n ≤ p → p ≤ length xs → bytes_in (overlaid xs p ws) q n ≡ bytes_in xs q n
 bytes_in-before xs p q n ws before fits = same_lists _ _ (search (rules, places)) (λ k e h. grind (arith, places))
 
--- so do the objects before the place
-objects_before : (xs : List ℕ) (size q p n : ℕ) (ws : List ℕ) → object_place size q n ≤ p → p ≤ length xs → objects_from (overlaid xs p ws) size q n
+-- so do the objects before the offset
+objects_before : (xs : List ℕ) (size q p n : ℕ) (ws : List ℕ) → object_offset size q n ≤ p → p ≤ length xs → objects_from (overlaid xs p ws) size q n
     ≡ objects_from xs size q n
 objects_before xs size q p zero ws before fits = refl
 objects_before xs size q p (suc n) ws before fits =
-    let high = place_from size (q + stride_of size) n in
+    let high = offset_from size (q + stride_of size) n in
     let covers = stride_covers size in
     ap₂ (λ (o : List ℕ) (os : List (List ℕ)). o ∷ os)
     (bytes_in-before xs p q size ws (omega (arith, high, covers, before)) fits)
     (objects_before xs size (q + stride_of size) p n ws before fits)
 
 -- the objects behind it have the rest of ws over them
-objects_behind : (xs : List ℕ) (size p d n : ℕ) (ws : List ℕ) → object_place size (p + d) n ≤ length xs → objects_from (overlaid xs p ws) size (p + d) n
+objects_behind : (xs : List ℕ) (size p d n : ℕ) (ws : List ℕ) → object_offset size (p + d) n ≤ length xs → objects_from (overlaid xs p ws) size (p + d) n
     ≡ spilled (stride_of size) (objects_from xs size (p + d) n) (drop d ws)
 objects_behind xs size p d zero ws fits = refl
 objects_behind xs size p d (suc n) ws fits =
-    let high = place_from size (p + d + stride_of size) n in
+    let high = offset_from size (p + d + stride_of size) n in
     let covers = stride_covers size in
     let next : p + d + stride_of size ≡ p + (d + stride_of size) = omega arith in
     let rest : drop (d + stride_of size) ws ≡ drop (stride_of size) (drop d ws) = sym (drop-drop (stride_of size) d ws) in
@@ -43,19 +43,19 @@ objects_behind xs size p d (suc n) ws fits =
     ∙ ap (λ q. spilled (stride_of size) (objects_from xs size q n) (drop (stride_of size) (drop d ws))) (sym next))))
 
 -- an object of the list has ws over it
-pub objects_left : (xs : List ℕ) (size q n i : ℕ) (ws : List ℕ) → i < n → object_place size q n ≤ length xs
-    → objects_from (overlaid xs (object_place size q i) ws) size q n ≡ take i (objects_from xs size q n)
+pub objects_left : (xs : List ℕ) (size q n i : ℕ) (ws : List ℕ) → i < n → object_offset size q n ≤ length xs
+    → objects_from (overlaid xs (object_offset size q i) ws) size q n ≡ take i (objects_from xs size q n)
     ++ spilled (stride_of size) (drop i (objects_from xs size q n)) ws
 objects_left xs size q zero i ws less fits = absurd (omega (arith, less))
 objects_left xs size q (suc n) zero ws less fits =
     let here : q + 0 ≡ q = omega arith in
     rw here at (objects_behind xs size q 0 (suc n) ws (rw here fits))
 objects_left xs size q (suc n) (suc i) ws less fits =
-    let low = place_from size (q + stride_of size) i in
-    let high = place_within size (q + stride_of size) n i (omega (arith, less)) in
+    let low = offset_from size (q + stride_of size) i in
+    let high = offset_within size (q + stride_of size) n i (omega (arith, less)) in
     let covers = stride_covers size in
     ap₂ (λ (o : List ℕ) (os : List (List ℕ)). o ∷ os)
-    (bytes_in-before xs (object_place size (q + stride_of size) i) q size ws (omega (arith, low, covers)) (omega (arith, high, fits)))
+    (bytes_in-before xs (object_offset size (q + stride_of size) i) q size ws (omega (arith, low, covers)) (omega (arith, high, fits)))
     (objects_left xs size (q + stride_of size) n i ws (omega (arith, less)) fits)
 
 -- ---- as many bytes as an object has

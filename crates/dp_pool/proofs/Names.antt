@@ -21,7 +21,7 @@ without_last name (s ∷ table) r fresh is =
 -- ---- a heap to which a block is given back
 
 abbrev pub given_back : ℕ → HeapView → HeapView
-given_back place h = record { home = h.home; elements = merged place h.elements }
+given_back offset h = record { home = h.home; elements = merged offset h.elements }
 
-pub as_before : (place : ℕ) (old new : HeapView) → new.home ≡ old.home → merged place new.elements ≡ old.elements → given_back place new ≡ old
-as_before place old new home undone = λ i. record { home = home i; elements = undone i }
+pub as_before : (offset : ℕ) (old new : HeapView) → new.home ≡ old.home → merged offset new.elements ≡ old.elements → given_back offset new ≡ old
+as_before offset old new home undone = λ i. record { home = home i; elements = undone i }

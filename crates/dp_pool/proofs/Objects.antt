@@ -8,35 +8,35 @@ use Rattle.std.proofs.lemmas.List.{ext_get_or}
 use Rattle.core.proofs.slots.Runs.{in_run, run_long, inside, outside}
 use Rattle.dp_region.specs.Spans.{bytes_in, with_bytes}
 use Rattle.dp_region.specs.Laws.{length-with_bytes, bytes_in-other}
-use Rattle.dp_pool.specs.Pools.{overwritten, stride_of, objects_from, object_place}
+use Rattle.dp_pool.specs.Pools.{overwritten, stride_of, objects_from, object_offset}
 
 pub stride_covers : (size : ℕ) → size ≤ stride_of size
 stride_covers size = omega arith
 
-pub object_place_is : (size place i : ℕ) → object_place size place i ≡ place + i * stride_of size
-object_place_is size place zero = omega arith
-object_place_is size place (suc i) = object_place_is size (place + stride_of size) i
+pub object_offset_is : (size offset i : ℕ) → object_offset size offset i ≡ offset + i * stride_of size
+object_offset_is size offset zero = omega arith
+object_offset_is size offset (suc i) = object_offset_is size (offset + stride_of size) i
     ∙ (let more : suc i * stride_of size ≡ i * stride_of size + stride_of size = suc-mul i (stride_of size) in omega (arith, more))
 
-pub place_from : (size place i : ℕ) → place ≤ object_place size place i
-place_from size place zero = omega arith
-place_from size place (suc i) = let rest = place_from size (place + stride_of size) i in omega (arith, rest)
+pub offset_from : (size offset i : ℕ) → offset ≤ object_offset size offset i
+offset_from size offset zero = omega arith
+offset_from size offset (suc i) = let rest = offset_from size (offset + stride_of size) i in omega (arith, rest)
 
--- an object ends before the place behind the last
-pub place_within : (size place n i : ℕ) → i < n → object_place size place i + stride_of size ≤ object_place size place n
-place_within size place zero i less = absurd (omega (arith, less))
-place_within size place (suc n) zero less = place_from size (place + stride_of size) n
-place_within size place (suc n) (suc i) less = place_within size (place + stride_of size) n i (omega (arith, less))
+-- an object ends before the offset behind the last
+pub offset_within : (size offset n i : ℕ) → i < n → object_offset size offset i + stride_of size ≤ object_offset size offset n
+offset_within size offset zero i less = absurd (omega (arith, less))
+offset_within size offset (suc n) zero less = offset_from size (offset + stride_of size) n
+offset_within size offset (suc n) (suc i) less = offset_within size (offset + stride_of size) n i (omega (arith, less))
 
-pub length-objects : (bytes : List ℕ) (size place n : ℕ) → length (objects_from bytes size place n) ≡ n
-length-objects bytes size place zero = refl
-length-objects bytes size place (suc n) = let rest = length-objects bytes size (place + stride_of size) n in omega (arith, rest)
+pub length-objects : (bytes : List ℕ) (size offset n : ℕ) → length (objects_from bytes size offset n) ≡ n
+length-objects bytes size offset zero = refl
+length-objects bytes size offset (suc n) = let rest = length-objects bytes size (offset + stride_of size) n in omega (arith, rest)
 
-pub object_is : (bytes : List ℕ) (size place n i : ℕ) → i < n → slice_index_or (objects_from bytes size place n) i []
-    ≡ bytes_in bytes (object_place size place i) size
-object_is bytes size place zero i less = absurd (omega (arith, less))
-object_is bytes size place (suc n) zero less = refl
-object_is bytes size place (suc n) (suc i) less = object_is bytes size (place + stride_of size) n i (omega (arith, less))
+pub object_is : (bytes : List ℕ) (size offset n i : ℕ) → i < n → slice_index_or (objects_from bytes size offset n) i []
+    ≡ bytes_in bytes (object_offset size offset i) size
+object_is bytes size offset zero i less = absurd (omega (arith, less))
+object_is bytes size offset (suc n) zero less = refl
+object_is bytes size offset (suc n) (suc i) less = object_is bytes size (offset + stride_of size) n i (omega (arith, less))
 
 -- ---- writes
 
@@ -75,30 +75,30 @@ bytes_in-inside xs q n at ws fits room =
     ])
 
 -- a write before all the objects leaves them
-objects_kept : (bytes : List ℕ) (size place n p : ℕ) (ws : List ℕ) → p + length ws ≤ length bytes → p + length ws ≤ place →
-    object_place size place n ≤ length bytes
-    → objects_from (with_bytes bytes p ws) size place n ≡ objects_from bytes size place n
-objects_kept bytes size place zero p ws fits before room = refl
-objects_kept bytes size place (suc n) p ws fits before room =
-    let low = place_from size (place + stride_of size) n in
+objects_kept : (bytes : List ℕ) (size offset n p : ℕ) (ws : List ℕ) → p + length ws ≤ length bytes → p + length ws ≤ offset →
+    object_offset size offset n ≤ length bytes
+    → objects_from (with_bytes bytes p ws) size offset n ≡ objects_from bytes size offset n
+objects_kept bytes size offset zero p ws fits before room = refl
+objects_kept bytes size offset (suc n) p ws fits before room =
+    let low = offset_from size (offset + stride_of size) n in
     ap₂ (λ (x : List ℕ) (xs : List (List ℕ)). x ∷ xs)
-    (bytes_in-other bytes p ws fits place size (omega (arith, low, room)) (inr before))
-    (objects_kept bytes size (place + stride_of size) n p ws fits (omega (arith, before)) room)
+    (bytes_in-other bytes p ws fits offset size (omega (arith, low, room)) (inr before))
+    (objects_kept bytes size (offset + stride_of size) n p ws fits (omega (arith, before)) room)
 
 -- a write into an object changes it alone
-pub objects_written : (bytes : List ℕ) (size place n i at : ℕ) (ws : List ℕ) → i < n → at + length ws ≤ size → object_place size place n ≤ length bytes
-    → objects_from (with_bytes bytes (object_place size place i + at) ws) size place n
-    ≡ slice_set (objects_from bytes size place n) i (overwritten (bytes_in bytes (object_place size place i) size) at ws)
-objects_written bytes size place zero i at ws less fits room = absurd (omega (arith, less))
-objects_written bytes size place (suc n) zero at ws less fits room =
-    let low = place_from size (place + stride_of size) n in
+pub objects_written : (bytes : List ℕ) (size offset n i at : ℕ) (ws : List ℕ) → i < n → at + length ws ≤ size → object_offset size offset n ≤ length bytes
+    → objects_from (with_bytes bytes (object_offset size offset i + at) ws) size offset n
+    ≡ slice_set (objects_from bytes size offset n) i (overwritten (bytes_in bytes (object_offset size offset i) size) at ws)
+objects_written bytes size offset zero i at ws less fits room = absurd (omega (arith, less))
+objects_written bytes size offset (suc n) zero at ws less fits room =
+    let low = offset_from size (offset + stride_of size) n in
     ap₂ (λ (x : List ℕ) (xs : List (List ℕ)). x ∷ xs)
-    (bytes_in-inside bytes place size at ws fits (omega (arith, low, room)))
-    (objects_kept bytes size (place + stride_of size) n (place + at) ws (omega (arith, low, room, fits)) (omega (arith, fits)) room)
-objects_written bytes size place (suc n) (suc i) at ws less fits room =
-    let q = object_place size (place + stride_of size) i in
-    let low = place_from size (place + stride_of size) i in
-    let high = place_within size (place + stride_of size) n i (omega (arith, less)) in
+    (bytes_in-inside bytes offset size at ws fits (omega (arith, low, room)))
+    (objects_kept bytes size (offset + stride_of size) n (offset + at) ws (omega (arith, low, room, fits)) (omega (arith, fits)) room)
+objects_written bytes size offset (suc n) (suc i) at ws less fits room =
+    let q = object_offset size (offset + stride_of size) i in
+    let low = offset_from size (offset + stride_of size) i in
+    let high = offset_within size (offset + stride_of size) n i (omega (arith, less)) in
     ap₂ (λ (x : List ℕ) (xs : List (List ℕ)). x ∷ xs)
-    (bytes_in-other bytes (q + at) ws (omega (arith, high, fits, room)) place size (omega (arith, low, high, room)) (inl (omega (arith, low))))
-    (objects_written bytes size (place + stride_of size) n i at ws (omega (arith, less)) fits room)
+    (bytes_in-other bytes (q + at) ws (omega (arith, high, fits, room)) offset size (omega (arith, low, high, room)) (inl (omega (arith, low))))
+    (objects_written bytes size (offset + stride_of size) n i at ws (omega (arith, less)) fits room)

@@ -13,7 +13,7 @@ view_of cache count cached queue = record {
   out = absent count (cached ++ queue.entries);
   name = queue.name;
   home = queue.home;
-  place = queue.place;
+  offset = queue.offset;
   len = queue.len;
 }
 

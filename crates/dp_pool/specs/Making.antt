@@ -26,8 +26,8 @@ object_name name = name ++ codes ".obj"
 abbrev pub queue_name : List ℕ → List ℕ
 queue_name name = name ++ codes ".ring"
 
--- how long they are: a part of its own for each object, and 4 bytes for each place of the queue, which has as many
--- places as the smallest power of two above n
+-- how long they are: a part of its own for each object, and 4 bytes for each slot of the queue, which has as many
+-- slots as the smallest power of two above n
 abbrev pub object_len : ℕ → ℕ → ℕ
 object_len n size = n * stride_of size
 
@@ -35,11 +35,11 @@ abbrev pub IsQueueLen : ℕ → ℕ → Type 0
 IsQueueLen n len = (count : ℕ) × IsNextPowerOfTwo (n + 1) count × (len ≡ 4 * count)
 
 -- a zone of that name and length is taken from the heap and stands last in the table
-pub record Reserves (name : List ℕ) (len : ℕ) (old : List Reserved) (before : List Element) (place : ℕ) (new : List Reserved) (after : List Element) : Type
+pub record Reserves (name : List ℕ) (len : ℕ) (old : List Reserved) (before : List Element) (offset : ℕ) (new : List Reserved) (after : List Element) : Type
     0 where
   pub reservable : IsReservable name len 0 old
-  pub taken : Taken before (rounded len) (alignment 0) place after
-  pub table : new ≡ old ++ record { name = name; place = place; len = rounded len } ∷ []
+  pub taken : Taken before (rounded len) (alignment 0) offset after
+  pub table : new ≡ old ++ record { name = name; offset = offset; len = rounded len } ∷ []
 
 -- no pool is made, for this reason and no earlier one
 abbrev pub IsPoolRefused : PoolError → List ℕ → ℕ → ℕ → ℕ → List Reserved → List Element → Type 0
@@ -50,8 +50,8 @@ IsPoolRefused BadCache name n size cache table es = IsPoolCount n × IsObjectSiz
 IsPoolRefused (Zone error) name n size cache table es =
     IsPoolCount n × IsObjectSize size × IsCacheSize n cache
     × (IsZoneRefused error (object_name name) (object_len n size) 0 table es
-    ⊎ ((len place : ℕ) × (mid : List Reserved) × (left : List Element) × IsQueueLen n len
-    × Reserves (object_name name) (object_len n size) table es place mid left × IsZoneRefused error (queue_name name) len 0 mid left))
+    ⊎ ((len offset : ℕ) × (mid : List Reserved) × (left : List Element) × IsQueueLen n len
+    × Reserves (object_name name) (object_len n size) table es offset mid left × IsZoneRefused error (queue_name name) len 0 mid left))
 
 -- the number of a reason
 abbrev pub number_of : PoolError → ℕ
@@ -77,5 +77,5 @@ pub record IsMade (name : List ℕ) (n size cache : ℕ) (home : Home) (old : Li
   pub len_is : IsQueueLen n len
   pub mid : List Reserved
   pub left : List Element
-  pub objects_reserved : Reserves (object_name name) (object_len n size) old before p.zones.object_place mid left
-  pub queue_reserved : Reserves (queue_name name) len mid left p.zones.queue_place new after
+  pub objects_reserved : Reserves (object_name name) (object_len n size) old before p.zones.object_offset mid left
+  pub queue_reserved : Reserves (queue_name name) len mid left p.zones.queue_offset new after

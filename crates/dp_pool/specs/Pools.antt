@@ -6,19 +6,19 @@ use Rattle.dp_region.specs.Ownership.{Home, home_code}
 use Rattle.dp_region.specs.Spans.{bytes_in, refilled}
 use Rattle.dp_pool.specs.Queues.{in_count, taken, back, cached_after_get, cached_after_put}
 
--- the zones in which a pool stands: the region, and the name and the place of the objects' zone and of the queue's
+-- the zones in which a pool stands: the region, and the name and the offset of the objects' zone and of the queue's
 pub record PoolZones : Type 0 where
   pub home : Home
   pub object_name : List ℕ
-  pub object_place : ℕ
+  pub object_offset : ℕ
   pub queue_name : List ℕ
-  pub queue_place : ℕ
+  pub queue_offset : ℕ
 
 abbrev pub zones_code : Coded PoolZones
 zones_code =
     code_by (Home × (List ℕ × (ℕ × (List ℕ × ℕ)))) (coded× home_code (coded× (coded_list coded_ℕ) (coded× coded_ℕ (coded× (coded_list coded_ℕ) coded_ℕ))))
-    (λ z. (z.home, (z.object_name, (z.object_place, (z.queue_name, z.queue_place)))))
-    (λ p. record { home = p.0; object_name = p.1.0; object_place = p.1.1.0; queue_name = p.1.1.1.0; queue_place = p.1.1.1.1 }) (λ _. refl)
+    (λ z. (z.home, (z.object_name, (z.object_offset, (z.queue_name, z.queue_offset)))))
+    (λ p. record { home = p.0; object_name = p.1.0; object_offset = p.1.1.0; queue_name = p.1.1.1.0; queue_offset = p.1.1.1.1 }) (λ _. refl)
 
 -- what a pool is: the size of an object, how many indexes its cache is for and how many it holds, the bytes of each
 -- object, whether each is out, and the zones in which it stands
@@ -42,7 +42,7 @@ pool_code =
 abbrev pub object_in : PoolView → ℕ → List ℕ
 object_in p i = slice_index_or p.objects i []
 
--- bytes with others written over them from a place on
+-- bytes with others written over them from an offset on
 abbrev pub overwritten : List ℕ → ℕ → List ℕ → List ℕ
 overwritten old at new = take at old ++ (new ++ drop (at + length new) old)
 
@@ -50,7 +50,7 @@ overwritten old at new = take at old ++ (new ++ drop (at + length new) old)
 abbrev pub with_object : PoolView → ℕ → List ℕ → PoolView
 with_object p i bytes = record p { objects = slice_set p.objects i bytes }
 
--- the pool with these bytes written into an object from a place on
+-- the pool with these bytes written into an object from an offset on
 abbrev pub with_written : PoolView → ℕ → ℕ → List ℕ → PoolView
 with_written p i at bytes = with_object p i (overwritten (object_in p i) at bytes)
 
@@ -92,15 +92,15 @@ pub record IsPool (p : PoolView) : Type 0 where
 abbrev pub stride_of : ℕ → ℕ
 stride_of size = (size + 63) / 64 * 64
 
--- the n objects of a size from a place on
+-- the n objects of a size from an offset on
 abbrev pub objects_from : List ℕ → ℕ → ℕ → ℕ → List (List ℕ)
-objects_from bytes size place zero = []
-objects_from bytes size place (suc n) = bytes_in bytes place size ∷ objects_from bytes size (place + stride_of size) n
+objects_from bytes size offset zero = []
+objects_from bytes size offset (suc n) = bytes_in bytes offset size ∷ objects_from bytes size (offset + stride_of size) n
 
 -- where the i-th of them begins
-abbrev pub object_place : ℕ → ℕ → ℕ → ℕ
-object_place size place zero = place
-object_place size place (suc i) = object_place size (place + stride_of size) i
+abbrev pub object_offset : ℕ → ℕ → ℕ → ℕ
+object_offset size offset zero = offset
+object_offset size offset (suc i) = object_offset size (offset + stride_of size) i
 
 -- ---- an object that was lent to be written
 

@@ -11,7 +11,7 @@ pub record IndexView : Type 0 where
   pub out : List Bool
   pub name : List ℕ
   pub home : Home
-  pub place : ℕ
+  pub offset : ℕ
   pub len : ℕ
 
 -- it is stored as the tuple of its fields
@@ -19,8 +19,8 @@ abbrev pub index_code : Coded IndexView
 index_code =
     code_by (ℕ × (ℕ × (List Bool × (List ℕ × (Home × (ℕ × ℕ)))))) (coded× coded_ℕ
     (coded× coded_ℕ (coded× (coded_list coded_bool) (coded× (coded_list coded_ℕ) (coded× home_code (coded× coded_ℕ coded_ℕ))))))
-    (λ v. (v.cache, (v.cached, (v.out, (v.name, (v.home, (v.place, v.len)))))))
-    (λ p. record { cache = p.0; cached = p.1.0; out = p.1.1.0; name = p.1.1.1.0; home = p.1.1.1.1.0; place = p.1.1.1.1.1.0; len = p.1.1.1.1.1.1 }) (λ _. refl)
+    (λ v. (v.cache, (v.cached, (v.out, (v.name, (v.home, (v.offset, v.len)))))))
+    (λ p. record { cache = p.0; cached = p.1.0; out = p.1.1.0; name = p.1.1.1.0; home = p.1.1.1.1.0; offset = p.1.1.1.1.1.0; len = p.1.1.1.1.1.1 }) (λ _. refl)
 
 -- how many indexes are in
 abbrev pub in_count : List Bool → ℕ

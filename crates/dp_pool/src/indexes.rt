@@ -37,7 +37,7 @@ impl Model for Indexes {
       out = absent v.count (v.cached.items ++ v.queue.entries);
       name = v.queue.name;
       home = v.queue.home;
-      place = v.queue.place;
+      offset = v.queue.offset;
       len = v.queue.len;
     } };
 
@@ -111,7 +111,7 @@ impl Indexes {
           out = replicate count false;
           name = queue.name;
           home = queue.home;
-          place = queue.place;
+          offset = queue.offset;
           len = queue.len;
         } }
     {
@@ -127,7 +127,7 @@ impl Indexes {
 
     /// The queue, with any entries.
     pub(crate) fn into_queue(self) -> Ring
-        ensures { (result.name ≡ self.name) × (result.home ≡ self.home) × (result.place ≡ self.place) × (result.len ≡ self.len) }
+        ensures { (result.name ≡ self.name) × (result.home ≡ self.home) × (result.offset ≡ self.offset) × (result.len ≡ self.len) }
     {
         let Indexes {
             queue,

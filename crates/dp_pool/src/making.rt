@@ -56,7 +56,7 @@ pub(crate) fn stride_of(size: u32) -> u32
     (size + 63) / 64 * 64
 }
 
-// How many places the queue has: the smallest power of two above the number of objects.
+// How many slots the queue has: the smallest power of two above the number of objects.
 pub(crate) fn queue_count(count: u32) -> u32
     requires { (1 ≤ count) × (count ≤ 65535) }
     ensures next { IsNextPowerOfTwo (count + 1) result }
@@ -75,8 +75,8 @@ pub(crate) fn reserve(
 ) -> Result<Zone, ZoneError>
     requires { (length suffix.now ≤ 5) × (4 ≤ length suffix.now) }
     ensures zone { IfOk result (λ z. (z.name ≡ name.now ++ suffix.now) × (z.home ≡ heap.old.home) × (length z.bytes ≡ rounded len)) }
-    ensures reserves { IfOk result (λ z. Reserves (name.now ++ suffix.now) len zones.old heap.old.elements z.place zones.new heap.new.elements) }
-    ensures undone { IfOk result (λ z. merged z.place heap.new.elements ≡ heap.old.elements) }
+    ensures reserves { IfOk result (λ z. Reserves (name.now ++ suffix.now) len zones.old heap.old.elements z.offset zones.new heap.new.elements) }
+    ensures undone { IfOk result (λ z. merged z.offset heap.new.elements ≡ heap.old.elements) }
     ensures home { heap.new.home ≡ heap.old.home }
     ensures refused { IfErr result (λ e. IsZoneRefused e (name.now ++ suffix.now) len 0 zones.old heap.old.elements) }
     ensures kept { OnErr result ((zones.new ≡ zones.old) × (heap.new ≡ heap.old)) }

@@ -7,7 +7,7 @@ ghost use Rattle.dp_heap.specs.Elements.{merged, count_of, is_busy};
 ghost use Rattle.dp_zone.specs.Zones.{without_name};
 ghost use Rattle.dp_pool.specs.Making.{IsPoolCount, IsObjectSize, IsCacheSize, IsPoolRefused, IsMade};
 ghost use Rattle.dp_pool.specs.Queues.{in_count, AreOut};
-ghost use Rattle.dp_pool.specs.Pools.{IsPool, AreGot, object_place, stride_of, object_in, with_object, with_written, with_left, is_out_in, got, put_back};
+ghost use Rattle.dp_pool.specs.Pools.{IsPool, AreGot, object_offset, stride_of, object_in, with_object, with_written, with_left, is_out_in, got, put_back};
 ghost use Rattle.dp_pool.specs.Pools.{all_back};
 ghost use Rattle.dp_pool.specs.contracts.pool.Pool.{the_row};
 
@@ -30,13 +30,13 @@ pub struct Pool {
     stride: u32,
 }
 
-// The numbers of a pool: its objects, their size, what its cache is for, and the places of its queue.
+// The numbers of a pool: its objects, their size, what its cache is for, and the slots of its queue.
 #[derive(Clone, Copy)]
 struct Numbers {
     count: u32,
     size: u32,
     cache: u32,
-    places: u32,
+    slots: u32,
 }
 
 impl Model for Pool {
@@ -53,7 +53,7 @@ impl Model for Pool {
       cached = p.indexes.cached;
       objects = objects_from p.objects.bytes p.size 0 p.count;
       out = p.indexes.out;
-      zones = record { home = p.objects.home; object_name = p.objects.name; object_place = p.objects.place; queue_name = p.indexes.name; queue_place = p.indexes.place };
+      zones = record { home = p.objects.home; object_name = p.objects.name; object_offset = p.objects.offset; queue_name = p.indexes.name; queue_offset = p.indexes.offset };
     } };
 
     ghost invariant = { λ p. (length p.indexes.out ≡ p.count) × (1 ≤ p.count) × (p.count ≤ 65535) × (1 ≤ p.size) × (p.size ≤ 4224)
@@ -63,11 +63,11 @@ impl Model for Pool {
 
 // Where an object begins in the zone of so many, each of which takes so many bytes.
 #[inline(always)]
-#[tactic(auto, using(crate::proofs::Pools::place_is, crate::proofs::Pools::place_ends))]
-fn place_of(index: u32, count: u32, size: u32, stride: u32) -> u32
+#[tactic(auto, using(crate::proofs::Pools::offset_is, crate::proofs::Pools::offset_ends))]
+fn offset_of(index: u32, count: u32, size: u32, stride: u32) -> u32
     requires there { index < count }
     requires limits { (count ≤ 65535) × (size ≤ 4224) × (stride ≡ stride_of size) }
-    ensures value { result ≡ object_place size 0 index }
+    ensures value { result ≡ object_offset size 0 index }
     ensures end { result + stride_of size ≤ count * stride_of size }
     ensures bound { result ≤ 276819840 }
 {
@@ -86,19 +86,19 @@ impl Pool {
     fn over(objects: Zone, queue: Zone, numbers: Numbers) -> Pool
         requires numbers { IsPoolCount numbers.count × IsObjectSize numbers.size × IsCacheSize numbers.count numbers.cache }
         requires room { numbers.count * stride_of numbers.size ≤ length objects.bytes }
-        requires places { (numbers.count < numbers.places) × (numbers.places ≤ 65536) × (4 * numbers.places ≤ length queue.bytes) }
+        requires slots { (numbers.count < numbers.slots) × (numbers.slots ≤ 65536) × (4 * numbers.slots ≤ length queue.bytes) }
         requires home { queue.home ≡ objects.home }
         ensures numbers { (result.size ≡ numbers.size) × (result.cache ≡ numbers.cache) × (result.cached ≡ 0) × (length result.objects ≡ numbers.count)
             × (result.out ≡ replicate numbers.count false) }
         ensures zones { result.zones ≡ record {
           home = objects.home;
           object_name = objects.name;
-          object_place = objects.place;
+          object_offset = objects.offset;
           queue_name = queue.name;
-          queue_place = queue.place;
+          queue_offset = queue.offset;
         } }
     {
-        let ring = Ring::over(queue, numbers.places);
+        let ring = Ring::over(queue, numbers.slots);
         Pool {
             objects,
             indexes: Indexes::over(ring, numbers.count, numbers.cache),
@@ -129,12 +129,12 @@ impl Pool {
         if let Some(error) = refused_numbers(count, size, cache) {
             return Err(error);
         }
-        let places = queue_count(count);
+        let slots = queue_count(count);
         let objects = match reserve(heap, zones, name, ".obj", count * stride_of(size)) {
             Ok(objects) => objects,
             Err(error) => return Err(PoolError::Zone(error)),
         };
-        let queue = match reserve(heap, zones, name, ".ring", 4 * places) {
+        let queue = match reserve(heap, zones, name, ".ring", 4 * slots) {
             Ok(queue) => queue,
             Err(error) => {
                 zones.give_back(heap, objects);
@@ -145,7 +145,7 @@ impl Pool {
             count,
             size,
             cache,
-            places,
+            slots,
         };
         Ok(Pool::over(objects, queue, numbers))
     }
@@ -154,7 +154,7 @@ impl Pool {
     pub fn unmake(self, heap: &mut Heap, zones: &mut Zones)
         requires { self.zones.home ≡ heap.old.home }
         ensures table { zones.new ≡ without_name self.zones.object_name (without_name self.zones.queue_name zones.old) }
-        ensures heap { heap.new ≡ record { home = heap.old.home; elements = merged self.zones.object_place (merged self.zones.queue_place heap.old.elements) } }
+        ensures heap { heap.new ≡ record { home = heap.old.home; elements = merged self.zones.object_offset (merged self.zones.queue_offset heap.old.elements) } }
         ensures counted { count_of is_busy heap.new.elements + 2 ≡ count_of is_busy heap.old.elements }
     {
         let Pool {
@@ -218,17 +218,17 @@ impl Pool {
         self.indexes.get()
     }
 
-    // Hands out an object for each place of the list.
+    // Hands out an object for each slot of the list.
     fn get_all(&mut self, indexes: &mut [u32])
         requires { length indexes.old ≤ in_count self.old.out }
         ensures got { AreGot self.old indexes.new self.new }
         ensures len { length indexes.new ≡ length indexes.old }
     {
-        for place in indexes.iter_mut() {
+        for slot in indexes.iter_mut() {
             let Some(index) = self.get() else {
                 unreachable!();
             };
-            *place = index;
+            *slot = index;
         }
     }
 
@@ -242,7 +242,7 @@ impl Pool {
         self.indexes.take_cached(indexes);
     }
 
-    /// Hands out an object for each place of the list, as so many gets, or none and answers false where fewer are in. Each
+    /// Hands out an object for each slot of the list, as so many gets, or none and answers false where fewer are in. Each
     /// is out then, and stands once in the list (`out`).
     #[inline(always)]
     #[tactic(auto, using(crate::proofs::Bulk::got_keeps, crate::proofs::Bulk::got_out))]
@@ -293,8 +293,8 @@ impl Pool {
         ensures value { result.now ≡ object_in self.now index }
         ensures size { length result.now ≡ self.now.size }
     {
-        let place = place_of(index, self.count, self.size, self.stride) as usize;
-        &self.objects.bytes()[place..place + self.size as usize]
+        let offset = offset_of(index, self.count, self.size, self.stride) as usize;
+        &self.objects.bytes()[offset..offset + self.size as usize]
     }
 
     /// The bytes of an object, to be written. Whoever leaves as many bytes there as an object has, which is all that Rust
@@ -307,29 +307,29 @@ impl Pool {
         ensures size { length result.now ≡ self.old.size }
         ensures whole { (ws : List ℕ) → length ws ≡ self.old.size → with_left index self.old ws ≡ with_object self.old index ws }
     {
-        let place = place_of(index, self.count, self.size, self.stride);
-        self.objects.part_mut(place, self.size)
+        let offset = offset_of(index, self.count, self.size, self.stride);
+        self.objects.part_mut(offset, self.size)
     }
 
-    /// Writes bytes into an object from a place on.
+    /// Writes bytes into an object from an offset on.
     #[inline(always)]
     pub fn write(&mut self, index: u32, at: u32, bytes: &[u8])
         requires object { index < length self.old.objects }
         requires fits { at + length bytes.now ≤ self.old.size }
         ensures { self.new ≡ with_written self.old index at bytes.now }
     {
-        let place = place_of(index, self.count, self.size, self.stride);
-        self.objects.write(place + at, bytes);
+        let offset = offset_of(index, self.count, self.size, self.stride);
+        self.objects.write(offset + at, bytes);
     }
 
-    /// Writes zeros into an object from a place on.
+    /// Writes zeros into an object from an offset on.
     #[inline(always)]
     pub fn clear(&mut self, index: u32, at: u32, len: u32)
         requires object { index < length self.old.objects }
         requires fits { at + len ≤ self.old.size }
         ensures { self.new ≡ with_written self.old index at (replicate len 0) }
     {
-        let place = place_of(index, self.count, self.size, self.stride);
-        self.objects.clear(place + at, len);
+        let offset = offset_of(index, self.count, self.size, self.stride);
+        self.objects.clear(offset + at, len);
     }
 }

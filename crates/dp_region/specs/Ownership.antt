@@ -44,8 +44,8 @@ home_code = code_by (ℕ × (ℕ × ℕ)) (coded× coded_ℕ (coded× coded_ℕ 
     (λ p. record { block = p.0; start = p.1.0; rights = p.1.1 }) (λ _. refl)
 
 -- the byte at k of it
-abbrev pub place_in : Home → ℕ → Ptr
-place_in h k = block_ptr h.block (h.start + k)
+abbrev pub ptr_at : Home → ℕ → Ptr
+ptr_at h k = block_ptr h.block (h.start + k)
 
 -- for each span one right, which one owner has
 abbrev pub Rights : Algebra
@@ -73,7 +73,7 @@ shared_unless true t = nothing
 shared_unless false t = t
 
 module _ (ls : List Span) (b : ℕ) where
-  -- those of the bytes xs that are not lent. They lie from b, o on, which is the place k of the region
+  -- those of the bytes xs that are not lent. They lie from b, o on, which is the offset k of the region
   abbrev pub unlent : ℕ → ℕ → List ℕ → Fml
   unlent o k [] = ftrue
   unlent o k (x ∷ xs) = fsep (unless (is_lent ls k) (part_at u8 full_share x b o)) (unlent (o + 1) (k + 1) xs)

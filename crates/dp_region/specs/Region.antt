@@ -17,17 +17,17 @@ region_code =
     code_by (Home × (List ℕ × List Span)) (coded× home_code (coded× (coded_list coded_ℕ) (coded_list (coded× coded_ℕ coded_ℕ))))
     (λ r. (r.home, (r.bytes, r.lent))) (λ p. record { home = p.0; bytes = p.1.0; lent = p.1.1 }) (λ _. refl)
 
--- the region that it is of, its place there, and its bytes
+-- the region that it is of, its offset there, and its bytes
 pub record BlockView : Type 0 where
   pub home : Home
-  pub place : ℕ
+  pub offset : ℕ
   pub bytes : List ℕ
 
 -- it is stored as the tuple of its fields
 abbrev pub block_code : Coded BlockView
 block_code =
     code_by (Home × (ℕ × List ℕ)) (coded× home_code (coded× coded_ℕ (coded_list coded_ℕ)))
-    (λ b. (b.home, (b.place, b.bytes))) (λ p. record { home = p.0; place = p.1.0; bytes = p.1.1 }) (λ _. refl)
+    (λ b. (b.home, (b.offset, b.bytes))) (λ p. record { home = p.0; offset = p.1.0; bytes = p.1.1 }) (λ _. refl)
 
 -- a size that a region may have
 abbrev pub IsRegionSize : ℕ → Type 0
@@ -45,14 +45,14 @@ number_at xs p n = little_number n (bytes_in xs p n)
 abbrev pub with_number : List ℕ → ℕ → ℕ → ℕ → List ℕ
 with_number xs p n x = with_bytes xs p (little_bytes n x)
 
--- the place and the length of a block
+-- the offset and the length of a block
 abbrev pub span_of : BlockView → Span
-span_of b = (b.place, length b.bytes)
+span_of b = (b.offset, length b.bytes)
 
 -- b with ws as its bytes. Where ws has another length it is cut, or filled up from b's
 abbrev pub with_content : BlockView → List ℕ → BlockView
 with_content b ws = record b { bytes = refilled b.bytes ws }
 
--- b with ws over its bytes from a place on
+-- b with ws over its bytes from an offset on
 abbrev pub with_part : ℕ → BlockView → List ℕ → BlockView
 with_part at b ws = record b { bytes = overlaid b.bytes at ws }

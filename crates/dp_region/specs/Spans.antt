@@ -1,8 +1,8 @@
--- Which parts of a region are lent: a list of spans, by place.
+-- Which parts of a region are lent: a list of spans, by offset.
 use Rattle.std.specs.Prelude.{◌≡◌, ℕ, ◌+◌, ◌<◌, ◌≤◌, Bool, false, ◌&&◌, ◌||◌, List, [], ◌∷◌, ◌++◌, length, take, drop, IsTrue, ◌==◌, nat_le, nat_lt}
 use Rattle.std.specs.Prelude.{if◌then◌else◌}
 
--- a place and a length
+-- an offset and a length
 abbrev pub Span : Type 0
 Span = ℕ × ℕ
 

@@ -2,7 +2,7 @@
 ghost use Rattle.std.specs.Prelude.{◌≡◌, ℕ, ◌+◌, ◌^◌, ◌<◌, ◌≤◌, length};
 ghost use Rattle.std.specs.Borrow.{Lends, Array, sem, u8 as byte};
 ghost use Rattle.dp_region.specs.Spans.{bytes_in, with_bytes};
-ghost use Rattle.dp_region.specs.Ownership.{place_in};
+ghost use Rattle.dp_region.specs.Ownership.{ptr_at};
 ghost use Rattle.dp_region.specs.Region.{number_at, with_number, with_content, with_part};
 ghost use Rattle.dp_region.specs.contracts.block.Block.{the_row};
 
@@ -11,9 +11,9 @@ use byteorder::{ByteOrder, LittleEndian};
 use std::marker::Model;
 use std_alloc::vec::Lodged;
 
-/// Bytes of a region that are lent, at least one. They go back by `Region::reclaim`. Places in a block count from its start.
+/// Bytes of a region that are lent, at least one. They go back by `Region::reclaim`. Offsets in a block count from its start.
 pub struct Block {
-    place: u32,
+    offset: u32,
     len: u32,
     bytes: Vec<u8, Lodged>,
     ticket: Ticket,
@@ -21,28 +21,28 @@ pub struct Block {
 
 impl Model for Block {
     ghost use Rattle.std.specs.Prelude.{◌≡◌, ◌<◌, length};
-    ghost use Rattle.dp_region.specs.Ownership.{place_in};
+    ghost use Rattle.dp_region.specs.Ownership.{ptr_at};
     ghost use Rattle.dp_region.specs.Region.{BlockView, block_code};
 
     ghost Value = { BlockView };
 
     ghost coded = { block_code };
 
-    ghost view = { λ b. record { home = b.ticket.home; place = b.place; bytes = b.bytes.items } };
+    ghost view = { λ b. record { home = b.ticket.home; offset = b.offset; bytes = b.bytes.items } };
 
-    ghost invariant = { λ b. (0 < b.len) × (length b.bytes.items ≡ b.len) × (b.bytes.ptr ≡ place_in b.ticket.home b.place) × (b.ticket.place ≡ b.place)
+    ghost invariant = { λ b. (0 < b.len) × (length b.bytes.items ≡ b.len) × (b.bytes.ptr ≡ ptr_at b.ticket.home b.offset) × (b.ticket.offset ≡ b.offset)
         × (b.ticket.len ≡ b.len) };
 }
 
 impl Block {
-    // The bytes of the run, which lie at `place` of the region that the ticket is of.
-    pub(crate) fn over(ptr: *mut u8, place: u32, len: u32, run: Run, ticket: Ticket) -> Block
+    // The bytes of the run, which lie at `offset` of the region that the ticket is of.
+    pub(crate) fn over(ptr: *mut u8, offset: u32, len: u32, run: Run, ticket: Ticket) -> Block
         requires run { (run.start ≡ ptr) × (length run.bytes ≡ len) × (0 < len) }
-        requires ticket { (ticket.place ≡ place) × (ticket.len ≡ len) × (ptr ≡ place_in ticket.home place) }
-        ensures { result ≡ record { home = ticket.home; place = place; bytes = run.bytes } }
+        requires ticket { (ticket.offset ≡ offset) × (ticket.len ≡ len) × (ptr ≡ ptr_at ticket.home offset) }
+        ensures { result ≡ record { home = ticket.home; offset = offset; bytes = run.bytes } }
     {
         Block {
-            place,
+            offset,
             len,
             bytes: house(run, ptr, len as usize),
             ticket,
@@ -51,11 +51,11 @@ impl Block {
 
     // The run, and the right to give it back.
     pub(crate) fn into_parts(self) -> (Run, Ticket)
-        ensures run { (result.0.start ≡ place_in self.home self.place) × (result.0.bytes ≡ self.bytes) }
-        ensures ticket { (result.1.home ≡ self.home) × (result.1.place ≡ self.place) × (result.1.len ≡ length self.bytes) }
+        ensures run { (result.0.start ≡ ptr_at self.home self.offset) × (result.0.bytes ≡ self.bytes) }
+        ensures ticket { (result.1.home ≡ self.home) × (result.1.offset ≡ self.offset) × (result.1.len ≡ length self.bytes) }
     {
         let Block {
-            place: _,
+            offset: _,
             len: _,
             bytes,
             ticket,
@@ -64,10 +64,10 @@ impl Block {
     }
 
     /// Where it begins in its region.
-    pub fn place(&self) -> u32
-        ensures { result ≡ self.now.place }
+    pub fn offset(&self) -> u32
+        ensures { result ≡ self.now.offset }
     {
-        self.place
+        self.offset
     }
 
     /// How many bytes it has.

@@ -1,7 +1,7 @@
 //! The region, as its owner has it.
 ghost use Rattle.std.specs.Prelude.{◌≡◌, ℕ, ◌+◌, ◌<◌, ◌≤◌, true, [], length, replicate, IfOk};
 ghost use Rattle.dp_region.specs.Spans.{Span, listed, IsUnlent, with_span, without_span, Spaced, bytes_in, with_bytes};
-ghost use Rattle.dp_region.specs.Ownership.{Home, place_in};
+ghost use Rattle.dp_region.specs.Ownership.{Home, ptr_at};
 ghost use Rattle.dp_region.specs.Region.{IsRegionSize, IsFree, number_at, with_number, span_of};
 
 use crate::block::Block;
@@ -27,7 +27,7 @@ pub struct Region {
 
 impl Model for Region {
     ghost use Rattle.std.specs.Prelude.{◌≡◌, ◌≤◌, length};
-    ghost use Rattle.dp_region.specs.Ownership.{place_in};
+    ghost use Rattle.dp_region.specs.Ownership.{ptr_at};
     ghost use Rattle.dp_region.specs.Region.{RegionView, region_code, IsRegionSize};
 
     ghost Value = { RegionView };
@@ -36,7 +36,7 @@ impl Model for Region {
 
     ghost view = { λ r. record { home = r.cells.home; bytes = r.cells.bytes; lent = r.cells.lent } };
 
-    ghost invariant = { λ r. (r.ptr ≡ place_in r.cells.home 0) × (r.shell.ptr ≡ r.ptr) × (r.shell.len ≡ r.size) × (length r.cells.bytes ≡ r.size)
+    ghost invariant = { λ r. (r.ptr ≡ ptr_at r.cells.home 0) × (r.shell.ptr ≡ r.ptr) × (r.shell.len ≡ r.size) × (length r.cells.bytes ≡ r.size)
         × IsRegionSize r.size };
 }
 
@@ -67,18 +67,18 @@ impl Region {
         self.size
     }
 
-    /// Lends the `len` bytes from `place` on, at least one, of which none is lent yet. They are as they were.
-    pub fn lend(&mut self, place: u32, len: u32) -> Block
+    /// Lends the `len` bytes from `offset` on, at least one, of which none is lent yet. They are as they were.
+    pub fn lend(&mut self, offset: u32, len: u32) -> Block
         requires some { 0 < len }
-        requires unlent { IsFree self.old place len }
-        ensures block { result ≡ record { home = self.old.home; place = place; bytes = bytes_in self.old.bytes place len } }
+        requires unlent { IsFree self.old offset len }
+        ensures block { result ≡ record { home = self.old.home; offset = offset; bytes = bytes_in self.old.bytes offset len } }
         ensures long { length result.bytes ≡ len }
-        ensures lent { self.new ≡ record self.old { lent = with_span (place, len) self.old.lent } }
+        ensures lent { self.new ≡ record self.old { lent = with_span (offset, len) self.old.lent } }
         ensures apart { Spaced 0 (length self.new.bytes) self.new.lent }
     {
-        let (run, ticket) = replace_with(&mut self.cells, (place as usize, len as usize), take);
-        let ptr = unsafe { self.ptr.byte_add(place as usize) };
-        Block::over(ptr, place, len, run, ticket)
+        let (run, ticket) = replace_with(&mut self.cells, (offset as usize, len as usize), take);
+        let ptr = unsafe { self.ptr.byte_add(offset as usize) };
+        Block::over(ptr, offset, len, run, ticket)
     }
 
     /// Takes back a block of this region. Its bytes stay as the holder left them.
@@ -87,7 +87,7 @@ impl Region {
         ensures was_lent { listed (span_of block) self.old.lent ≡ true }
         ensures back { self.new ≡ record {
           home = self.old.home;
-          bytes = with_bytes self.old.bytes block.place block.bytes;
+          bytes = with_bytes self.old.bytes block.offset block.bytes;
           lent = without_span (span_of block) self.old.lent;
         } }
         ensures size { length self.new.bytes ≡ length self.old.bytes }
@@ -108,70 +108,70 @@ impl Region {
         drop(attach(shell, cells.into_run()));
     }
 
-    fn bytes(&self, place: u32, len: u32) -> &[u8]
-        requires { IsFree self.now place len }
-        ensures { result.now ≡ bytes_in self.now.bytes place len }
+    fn bytes(&self, offset: u32, len: u32) -> &[u8]
+        requires { IsFree self.now offset len }
+        ensures { result.now ≡ bytes_in self.now.bytes offset len }
     {
-        let ptr = unsafe { self.ptr.byte_add(place as usize) };
-        self.cells.view(ptr, place as usize, len as usize)
+        let ptr = unsafe { self.ptr.byte_add(offset as usize) };
+        self.cells.view(ptr, offset as usize, len as usize)
     }
 
-    /// The number in the 4 bytes at `place`, none of them lent.
-    pub fn load_u32(&self, place: u32) -> u32
-        requires { IsFree self.now place 4 }
-        ensures { result ≡ number_at self.now.bytes place 4 }
+    /// The number in the 4 bytes at `offset`, none of them lent.
+    pub fn load_u32(&self, offset: u32) -> u32
+        requires { IsFree self.now offset 4 }
+        ensures { result ≡ number_at self.now.bytes offset 4 }
     {
-        LittleEndian::read_u32(self.bytes(place, 4))
+        LittleEndian::read_u32(self.bytes(offset, 4))
     }
 
-    /// The number in the 8 bytes at `place`, none of them lent.
-    pub fn load_u64(&self, place: u32) -> u64
-        requires { IsFree self.now place 8 }
-        ensures { result ≡ number_at self.now.bytes place 8 }
+    /// The number in the 8 bytes at `offset`, none of them lent.
+    pub fn load_u64(&self, offset: u32) -> u64
+        requires { IsFree self.now offset 8 }
+        ensures { result ≡ number_at self.now.bytes offset 8 }
     {
-        LittleEndian::read_u64(self.bytes(place, 8))
+        LittleEndian::read_u64(self.bytes(offset, 8))
     }
 
-    /// Puts `value` into the 4 bytes at `place`, none of them lent.
-    pub fn store_u32(&mut self, place: u32, value: u32)
-        requires { IsFree self.old place 4 }
-        ensures stored { self.new ≡ record self.old { bytes = with_number self.old.bytes place 4 value } }
+    /// Puts `value` into the 4 bytes at `offset`, none of them lent.
+    pub fn store_u32(&mut self, offset: u32, value: u32)
+        requires { IsFree self.old offset 4 }
+        ensures stored { self.new ≡ record self.old { bytes = with_number self.old.bytes offset 4 value } }
         ensures size { length self.new.bytes ≡ length self.old.bytes }
     {
-        let mut block = self.lend(place, 4);
+        let mut block = self.lend(offset, 4);
         block.store_u32(0, value);
         self.reclaim(block);
     }
 
-    /// Puts `value` into the 8 bytes at `place`, none of them lent.
-    pub fn store_u64(&mut self, place: u32, value: u64)
-        requires { IsFree self.old place 8 }
-        ensures stored { self.new ≡ record self.old { bytes = with_number self.old.bytes place 8 value } }
+    /// Puts `value` into the 8 bytes at `offset`, none of them lent.
+    pub fn store_u64(&mut self, offset: u32, value: u64)
+        requires { IsFree self.old offset 8 }
+        ensures stored { self.new ≡ record self.old { bytes = with_number self.old.bytes offset 8 value } }
         ensures size { length self.new.bytes ≡ length self.old.bytes }
     {
-        let mut block = self.lend(place, 8);
+        let mut block = self.lend(offset, 8);
         block.store_u64(0, value);
         self.reclaim(block);
     }
 }
 
-// The span (place, length) of the bytes leaves, as a run and the right to give it back.
+// The span (offset, length) of the bytes leaves, as a run and the right to give it back.
 fn take(cells: Cells, span: (usize, usize)) -> (Cells, (Run, Ticket))
     requires { (0 < span.1) × (span.0 + span.1 ≤ length cells.bytes) × IsUnlent cells.lent span.0 span.1 }
     ensures cells { (result.0.home ≡ cells.home) × (result.0.bytes ≡ cells.bytes) × (result.0.lent ≡ with_span span cells.lent) }
-    ensures run { (result.1.0.start ≡ place_in cells.home span.0) × (result.1.0.bytes ≡ bytes_in cells.bytes span.0 span.1) }
-    ensures ticket { (result.1.1.home ≡ cells.home) × (result.1.1.place ≡ span.0) × (result.1.1.len ≡ span.1) }
+    ensures run { (result.1.0.start ≡ ptr_at cells.home span.0) × (result.1.0.bytes ≡ bytes_in cells.bytes span.0 span.1) }
+    ensures ticket { (result.1.1.home ≡ cells.home) × (result.1.1.offset ≡ span.0) × (result.1.1.len ≡ span.1) }
 {
-    let (place, len) = span;
-    let (cells, run, ticket) = cells.take(place, len);
+    let (offset, len) = span;
+    let (cells, run, ticket) = cells.take(offset, len);
     (cells, (run, ticket))
 }
 
 // A run comes back by the right to that.
 fn give(cells: Cells, back: (Run, Ticket)) -> (Cells, ())
-    requires { (back.1.home ≡ cells.home) × (back.0.start ≡ place_in cells.home back.1.place) × (length back.0.bytes ≡ back.1.len) }
-    ensures { (listed (back.1.place, back.1.len) cells.lent ≡ true) × (result.0.home ≡ cells.home)
-        × (result.0.bytes ≡ with_bytes cells.bytes back.1.place back.0.bytes) × (result.0.lent ≡ without_span (back.1.place, back.1.len) cells.lent) }
+    requires { (back.1.home ≡ cells.home) × (back.0.start ≡ ptr_at cells.home back.1.offset) × (length back.0.bytes ≡ back.1.len) }
+    ensures { (listed (back.1.offset, back.1.len) cells.lent ≡ true) × (result.0.home ≡ cells.home)
+        × (result.0.bytes ≡ with_bytes cells.bytes back.1.offset back.0.bytes) × (result.0.lent ≡ without_span (back.1.offset, back.1.len) cells.lent) }
 {
     let (run, ticket) = back;
     (cells.give(run, ticket), ())

@@ -51,14 +51,14 @@ run_more bytes numbers k long less fits before = below_more _ k
     ∙ number_at-same bytes (4 * k) (slice_index numbers k) (omega (arith, long, less)) fits)
 
 -- numbers that are written over a part of the bytes
-pub stores : (place : ℕ) (numbers old ws : List ℕ) → 4 * (place + length numbers) ≤ length old → length ws ≡ 4 * length numbers → IsRun ws 0 numbers →
-    Stores place numbers old (with_bytes old (4 * place) ws)
-stores place numbers old ws fits long run = record {
-  long = length-with_bytes old (4 * place) ws (omega arith);
+pub stores : (slot : ℕ) (numbers old ws : List ℕ) → 4 * (slot + length numbers) ≤ length old → length ws ≡ 4 * length numbers → IsRun ws 0 numbers →
+    Stores slot numbers old (with_bytes old (4 * slot) ws)
+stores slot numbers old ws fits long run = record {
+  long = length-with_bytes old (4 * slot) ws (omega arith);
   stored = λ k less.
-      ap (λ p. number_at (with_bytes old (4 * place) ws) p 4) (omega arith)
-      ∙ (number_at-inside old (4 * place) ws (4 * (0 + k)) (omega arith) (omega arith) ∙ run k less);
-  others = λ q room off. number_at-kept old (4 * place) ws q (omega arith) room (⊎_elim (λ a. inl a) (λ b. inr (omega arith)) off);
+      ap (λ p. number_at (with_bytes old (4 * slot) ws) p 4) (omega arith)
+      ∙ (number_at-inside old (4 * slot) ws (4 * (0 + k)) (omega arith) (omega arith) ∙ run k less);
+  others = λ q room off. number_at-kept old (4 * slot) ws q (omega arith) room (⊎_elim (λ a. inl a) (λ b. inr (omega arith)) off);
 }
 
 -- a part of the bytes that was lent and written over

@@ -5,14 +5,14 @@ use Rattle.dp_region.specs.Ownership.{Home, home_code}
 use Rattle.dp_region.specs.Region.{number_at}
 use Rattle.dp_zone.specs.Zones.{ZoneView}
 
--- what a contract sees of a ring: how many places it has, of which one stays unused, its entries, first in first, and
--- the name, the region, the place and the length of the zone in which it stands
+-- what a contract sees of a ring: how many slots it has, of which one stays unused, its entries, first in first, and
+-- the name, the region, the offset and the length of the zone in which it stands
 pub record RingView : Type 0 where
   pub count : ℕ
   pub entries : List ℕ
   pub name : List ℕ
   pub home : Home
-  pub place : ℕ
+  pub offset : ℕ
   pub len : ℕ
 
 -- it is stored as the tuple of its fields
@@ -20,16 +20,16 @@ abbrev pub ring_code : Coded RingView
 ring_code =
     code_by (ℕ × (List ℕ × (List ℕ × (Home × (ℕ × ℕ))))) (coded× coded_ℕ
     (coded× (coded_list coded_ℕ) (coded× (coded_list coded_ℕ) (coded× home_code (coded× coded_ℕ coded_ℕ)))))
-    (λ r. (r.count, (r.entries, (r.name, (r.home, (r.place, r.len))))))
-    (λ p. record { count = p.0; entries = p.1.0; name = p.1.1.0; home = p.1.1.1.0; place = p.1.1.1.1.0; len = p.1.1.1.1.1 }) (λ _. refl)
+    (λ r. (r.count, (r.entries, (r.name, (r.home, (r.offset, r.len))))))
+    (λ p. record { count = p.0; entries = p.1.0; name = p.1.1.0; home = p.1.1.1.0; offset = p.1.1.1.1.0; len = p.1.1.1.1.1 }) (λ _. refl)
 
--- how many places a ring may have. Nothing here rests on its being a power of two, as DPDK's rings want it
+-- how many slots a ring may have. Nothing here rests on its being a power of two, as DPDK's rings want it
 abbrev pub IsCount : ℕ → Type 0
 IsCount n = (2 ≤ n) × (n ≤ 65536)
 
 -- a ring without entries in a zone
 abbrev pub empty_over : ZoneView → ℕ → RingView
-empty_over zone count = record { count = count; entries = []; name = zone.name; home = zone.home; place = zone.place; len = length zone.bytes }
+empty_over zone count = record { count = count; entries = []; name = zone.name; home = zone.home; offset = zone.offset; len = length zone.bytes }
 
 -- how many more entries it can take
 abbrev pub room_in : RingView → ℕ
@@ -45,25 +45,25 @@ without_first r n = record r { entries = drop n r.entries }
 
 -- ---- how the entries stand in the zone's bytes
 
--- the place behind one
-abbrev pub next_place : ℕ → ℕ → ℕ
-next_place count i = if nat_lt (i + 1) count then i + 1 else 0
+-- the slot behind one
+abbrev pub next_slot : ℕ → ℕ → ℕ
+next_slot count i = if nat_lt (i + 1) count then i + 1 else 0
 
--- the n entries from a place on
+-- the n entries from a slot on
 abbrev pub entries_from : List ℕ → ℕ → ℕ → ℕ → List ℕ
 entries_from bytes count first zero = []
-entries_from bytes count first (suc n) = number_at bytes (4 * first) 4 ∷ entries_from bytes count (next_place count first) n
+entries_from bytes count first (suc n) = number_at bytes (4 * first) 4 ∷ entries_from bytes count (next_slot count first) n
 
--- the place that is so far behind one
-abbrev pub place_behind : ℕ → ℕ → ℕ → ℕ
-place_behind count first n = if nat_lt (first + n) count then first + n else first + n - count
+-- the slot that is so far behind one
+abbrev pub slot_behind : ℕ → ℕ → ℕ → ℕ
+slot_behind count first n = if nat_lt (first + n) count then first + n else first + n - count
 
--- the numbers stand in the places from one on
+-- the numbers stand in the slots from one on
 abbrev pub IsRun : List ℕ → ℕ → List ℕ → Type 0
-IsRun bytes place numbers = (k : ℕ) → k < length numbers → number_at bytes (4 * (place + k)) 4 ≡ slice_index numbers k
+IsRun bytes slot numbers = (k : ℕ) → k < length numbers → number_at bytes (4 * (slot + k)) 4 ≡ slice_index numbers k
 
 -- they do so in the new bytes, and each number that is beside them is as in the old ones
-pub record Stores (place : ℕ) (numbers old new : List ℕ) : Type 0 where
+pub record Stores (slot : ℕ) (numbers old new : List ℕ) : Type 0 where
   pub long : length new ≡ length old
-  pub stored : IsRun new place numbers
-  pub others : (q : ℕ) → q + 4 ≤ length old → (q + 4 ≤ 4 * place) ⊎ (4 * (place + length numbers) ≤ q) → number_at new q 4 ≡ number_at old q 4
+  pub stored : IsRun new slot numbers
+  pub others : (q : ℕ) → q + 4 ≤ length old → (q + 4 ≤ 4 * slot) ⊎ (4 * (slot + length numbers) ≤ q) → number_at new q 4 ≡ number_at old q 4

@@ -3,18 +3,18 @@
 ghost use Rattle.std.specs.Prelude.{◌≡◌, ℕ, ◌+◌, ◌-◌, ◌*◌, ◌<◌, ◌≤◌, ◌⊎◌, ◌++◌, [], ◌∷◌, length, take, drop, min, nat_lt, nat_le, if◌then◌else◌, slice_get};
 ghost use Rattle.std.specs.Prelude.{Some, None, MatchOption, ◌==◌};
 ghost use Rattle.std.specs.List.{list_any};
-ghost use Rattle.dp_ring.specs.Rings.{IsCount, empty_over, room_in, with_more, without_first, place_behind, next_place};
+ghost use Rattle.dp_ring.specs.Rings.{IsCount, empty_over, room_in, with_more, without_first, slot_behind, next_slot};
 
 use crate::runs::{load_one, load_run, store_one, store_run};
 use dp_zone::Zone;
 use std::marker::Model;
 
-/// A ring of `count` places, a power of two from 2 to 65,536, of which one stays unused. It stands in a zone of at
-/// least 4 bytes a place, and gives it back by `into_zone`.
+/// A ring of `count` slots, a power of two from 2 to 65,536, of which one stays unused. It stands in a zone of at
+/// least 4 bytes a slot, and gives it back by `into_zone`.
 pub struct Ring {
     zone: Zone,
     count: u32,
-    // The place of the first entry.
+    // The slot of the first entry.
     first: u32,
     // How many entries there are.
     used: u32,
@@ -34,18 +34,18 @@ impl Model for Ring {
       entries = entries_from r.zone.bytes r.count r.first r.used;
       name = r.zone.name;
       home = r.zone.home;
-      place = r.zone.place;
+      offset = r.zone.offset;
       len = length r.zone.bytes;
     } };
 
     ghost invariant = { λ r. (r.first < r.count) × (r.used < r.count) × (r.count ≤ 65536) × (4 * r.count ≤ length r.zone.bytes) };
 }
 
-// The place that is so far behind one.
+// The slot that is so far behind one.
 #[inline(always)]
-fn place_behind(count: u32, first: u32, n: u32) -> u32
+fn slot_behind(count: u32, first: u32, n: u32) -> u32
     requires { (first < count) × (n < count) × (count ≤ 65536) }
-    ensures value { result ≡ place_behind count first n }
+    ensures value { result ≡ slot_behind count first n }
     ensures bound { result < count }
 {
     let behind = first + n;
@@ -56,24 +56,24 @@ fn place_behind(count: u32, first: u32, n: u32) -> u32
     }
 }
 
-// The place behind one.
+// The slot behind one.
 #[inline(always)]
-fn next_place(count: u32, place: u32) -> u32
-    requires { (place < count) × (count ≤ 65536) }
-    ensures value { result ≡ next_place count place }
+fn next_slot(count: u32, slot: u32) -> u32
+    requires { (slot < count) × (count ≤ 65536) }
+    ensures value { result ≡ next_slot count slot }
     ensures bound { result < count }
 {
-    let next = place + 1;
+    let next = slot + 1;
     if next < count { next } else { 0 }
 }
 
-// How many of so many numbers stand from a place on before the places begin again.
-fn before_turn(count: u32, place: u32, number: usize) -> usize
-    requires { place < count }
-    ensures most { (result ≤ number) × (result ≤ count - place) }
-    ensures cut { (result ≡ number) ⊎ (result ≡ count - place) }
+// How many of so many numbers stand from a slot on before the slots begin again.
+fn before_turn(count: u32, slot: u32, number: usize) -> usize
+    requires { slot < count }
+    ensures most { (result ≤ number) × (result ≤ count - slot) }
+    ensures cut { (result ≡ number) ⊎ (result ≡ count - slot) }
 {
-    let left = (count - place) as usize;
+    let left = (count - slot) as usize;
     if number < left { number } else { left }
 }
 
@@ -119,8 +119,8 @@ impl Ring {
         if k >= self.used {
             return None;
         }
-        let place = place_behind(self.count, self.first, k);
-        Some(load_one(&self.zone, place))
+        let slot = slot_behind(self.count, self.first, k);
+        Some(load_one(&self.zone, slot))
     }
 
     /// Whether a number is one of the entries. All of them are looked at.
@@ -146,8 +146,8 @@ impl Ring {
         ensures { self.new ≡ with_more self.old (value ∷ []) }
     {
         let used = self.used;
-        let place = place_behind(self.count, self.first, used);
-        store_one(&mut self.zone, place, value);
+        let slot = slot_behind(self.count, self.first, used);
+        store_one(&mut self.zone, slot, value);
         self.used = used + 1;
     }
 
@@ -159,7 +159,7 @@ impl Ring {
         ensures rest { self.new ≡ without_first self.old 1 }
     {
         let value = load_one(&self.zone, self.first);
-        self.first = next_place(self.count, self.first);
+        self.first = next_slot(self.count, self.first);
         self.used -= 1;
         value
     }
@@ -194,9 +194,9 @@ impl Ring {
         requires { length values.now ≤ room_in self.old }
         ensures { self.new ≡ with_more self.old values.now }
     {
-        let place = place_behind(self.count, self.first, self.used);
-        let number = before_turn(self.count, place, values.len());
-        store_run(&mut self.zone, place, &values[..number]);
+        let slot = slot_behind(self.count, self.first, self.used);
+        let number = before_turn(self.count, slot, values.len());
+        store_run(&mut self.zone, slot, &values[..number]);
         store_run(&mut self.zone, 0, &values[number..]);
         self.used += values.len() as u32;
     }
@@ -218,11 +218,11 @@ impl Ring {
         ensures { self.new ≡ without_first self.old number }
     {
         let left = self.used - number as u32;
-        self.first = place_behind(self.count, self.first, number as u32);
+        self.first = slot_behind(self.count, self.first, number as u32);
         self.used = left;
     }
 
-    // Takes the first entries out, in order, as many as there are places for them.
+    // Takes the first entries out, in order, as many as there are slots for them.
     fn pop_all(&mut self, values: &mut [u32])
         requires { length values.old ≤ length self.old.entries }
         ensures first { values.new ≡ take (length values.old) self.old.entries }
@@ -232,7 +232,7 @@ impl Ring {
         self.skip(values.len());
     }
 
-    /// Puts all entries behind the others, in order, or none and answers false where the free places are fewer.
+    /// Puts all entries behind the others, in order, or none and answers false where the free slots are fewer.
     pub fn enqueue_bulk(&mut self, values: &[u32]) -> bool
         ensures taken { result ≡ nat_le (length values.now) (room_in self.old) }
         ensures entries { self.new ≡ (if nat_le (length values.now) (room_in self.old) then with_more self.old values.now else self.old) }
@@ -282,7 +282,7 @@ impl Ring {
 
     /// Gives the zone back, with any bytes.
     pub fn into_zone(self) -> Zone
-        ensures place { (result.name ≡ self.name) × (result.home ≡ self.home) × (result.place ≡ self.place) }
+        ensures offset { (result.name ≡ self.name) × (result.home ≡ self.home) × (result.offset ≡ self.offset) }
         ensures len { length result.bytes ≡ self.len }
     {
         let Ring {

@@ -1,4 +1,4 @@
-//! Numbers in the places of a zone: one alone, and runs of them, one behind the other.
+//! Numbers in the slots of a zone: one alone, and runs of them, one behind the other.
 ghost use Rattle.std.specs.Prelude.{◌≡◌, ℕ, ◌+◌, ◌*◌, ◌<◌, ◌≤◌, length, slice_index};
 ghost use Rattle.dp_region.specs.Region.{number_at, with_number};
 ghost use Rattle.dp_ring.specs.Rings.{IsRun, Stores};
@@ -6,7 +6,7 @@ ghost use Rattle.dp_ring.specs.Rings.{IsRun, Stores};
 use byteorder::{ByteOrder, LittleEndian};
 use dp_zone::Zone;
 
-// Writes a number into the 4 bytes from a place on.
+// Writes a number into the 4 bytes from an offset on.
 #[inline(always)]
 fn write_number(bytes: &mut [u8], at: usize, number: u32)
     requires { at + 4 ≤ length bytes.old }
@@ -26,40 +26,40 @@ fn write_numbers(bytes: &mut [u8], numbers: &[u32])
     }
 }
 
-/// Writes a number into a place of a zone.
+/// Writes a number into a slot of a zone.
 #[inline(always)]
-pub(crate) fn store_one(zone: &mut Zone, place: u32, number: u32)
-    requires { 4 * place + 4 ≤ length zone.old.bytes }
-    ensures { zone.new ≡ record zone.old { bytes = with_number zone.old.bytes (4 * place) 4 number } }
+pub(crate) fn store_one(zone: &mut Zone, slot: u32, number: u32)
+    requires { 4 * slot + 4 ≤ length zone.old.bytes }
+    ensures { zone.new ≡ record zone.old { bytes = with_number zone.old.bytes (4 * slot) 4 number } }
 {
-    write_number(zone.bytes_mut(), 4 * place as usize, number);
+    write_number(zone.bytes_mut(), 4 * slot as usize, number);
 }
 
-/// The number in a place of a zone.
+/// The number in a slot of a zone.
 #[inline(always)]
-pub(crate) fn load_one(zone: &Zone, place: u32) -> u32
-    requires { 4 * place + 4 ≤ length zone.now.bytes }
-    ensures { result ≡ number_at zone.now.bytes (4 * place) 4 }
+pub(crate) fn load_one(zone: &Zone, slot: u32) -> u32
+    requires { 4 * slot + 4 ≤ length zone.now.bytes }
+    ensures { result ≡ number_at zone.now.bytes (4 * slot) 4 }
 {
-    let at = 4 * place as usize;
+    let at = 4 * slot as usize;
     LittleEndian::read_u32(&zone.bytes()[at..at + 4])
 }
 
-/// Writes numbers into the places of a zone from one on.
-pub(crate) fn store_run(zone: &mut Zone, place: u32, numbers: &[u32])
-    requires { 4 * (place + length numbers.now) ≤ length zone.old.bytes }
-    ensures bytes { Stores place numbers.now zone.old.bytes zone.new.bytes }
-    ensures others { (zone.new.name ≡ zone.old.name) × (zone.new.home ≡ zone.old.home) × (zone.new.place ≡ zone.old.place) }
+/// Writes numbers into the slots of a zone from one on.
+pub(crate) fn store_run(zone: &mut Zone, slot: u32, numbers: &[u32])
+    requires { 4 * (slot + length numbers.now) ≤ length zone.old.bytes }
+    ensures bytes { Stores slot numbers.now zone.old.bytes zone.new.bytes }
+    ensures others { (zone.new.name ≡ zone.old.name) × (zone.new.home ≡ zone.old.home) × (zone.new.offset ≡ zone.old.offset) }
 {
-    let at = 4 * place as usize;
+    let at = 4 * slot as usize;
     write_numbers(&mut zone.bytes_mut()[at..at + 4 * numbers.len()], numbers);
 }
 
-/// Reads the numbers in the places of a zone from one on.
-pub(crate) fn load_run(zone: &Zone, place: u32, numbers: &mut [u32])
-    requires { 4 * (place + length numbers.old) ≤ length zone.now.bytes }
-    ensures { IsRun zone.now.bytes place numbers.new }
+/// Reads the numbers in the slots of a zone from one on.
+pub(crate) fn load_run(zone: &Zone, slot: u32, numbers: &mut [u32])
+    requires { 4 * (slot + length numbers.old) ≤ length zone.now.bytes }
+    ensures { IsRun zone.now.bytes slot numbers.new }
 {
-    let at = 4 * place as usize;
+    let at = 4 * slot as usize;
     LittleEndian::read_u32_into(&zone.bytes()[at..at + 4 * numbers.len()], numbers);
 }

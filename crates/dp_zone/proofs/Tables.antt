@@ -27,7 +27,7 @@ zone_named_entry name (e ∷ entries) = by (same_name e.name.bytes name) (find (
 
 -- what a look-up tells
 pub lookup_found : (name : List ℕ) (entries : List Entry) (e : Entry) → find (λ e. same_name e.name.bytes name) entries ≡ Some e
-    → Some (record { place = e.place; len = e.len }) ≡ option_map info_of (zone_named name (table_of entries))
+    → Some (record { offset = e.offset; len = e.len }) ≡ option_map info_of (zone_named name (table_of entries))
 lookup_found name entries e is = ap (λ o. option_map info_of (option_map entry_of o)) (sym is) ∙ ap (option_map info_of) (zone_named_entry name entries)
 
 pub lookup_missed : (name : List ℕ) (entries : List Entry) → find (λ e. same_name e.name.bytes name) entries ≡ None →

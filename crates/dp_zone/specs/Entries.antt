@@ -5,7 +5,7 @@ use Rattle.dp_zone.specs.Zones.{Reserved}
 
 -- an entry as what the table knows of its zone
 abbrev pub entry_of : Entry → Reserved
-entry_of e = record { name = e.name.bytes; place = e.place; len = e.len }
+entry_of e = record { name = e.name.bytes; offset = e.offset; len = e.len }
 
 abbrev pub table_of : List Entry → List Reserved
 table_of entries = map entry_of entries

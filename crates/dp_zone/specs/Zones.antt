@@ -12,35 +12,35 @@ use Rattle.dp_zone.specs.declared.error.ZoneError.TheVariants.{BadName, BadLengt
 use Rattle.dp_zone.specs.declared.zones.ZoneInfo.{ZoneInfo}
 use Rattle.dp_zone.specs.Names.{is_name, same_name}
 
--- a zone: its name, the region that it is of, its place there, and its bytes
+-- a zone: its name, the region that it is of, its offset there, and its bytes
 pub record ZoneView : Type 0 where
   pub name : List ℕ
   pub home : Home
-  pub place : ℕ
+  pub offset : ℕ
   pub bytes : List ℕ
 
 -- it is stored as the tuple of its fields
 abbrev pub zone_code : Coded ZoneView
 zone_code =
     code_by (List ℕ × (Home × (ℕ × List ℕ))) (coded× (coded_list coded_ℕ) (coded× home_code (coded× coded_ℕ (coded_list coded_ℕ))))
-    (λ z. (z.name, (z.home, (z.place, z.bytes)))) (λ p. record { name = p.0; home = p.1.0; place = p.1.1.0; bytes = p.1.1.1 }) (λ _. refl)
+    (λ z. (z.name, (z.home, (z.offset, z.bytes)))) (λ p. record { name = p.0; home = p.1.0; offset = p.1.1.0; bytes = p.1.1.1 }) (λ _. refl)
 
 -- z with ws as its bytes. Where ws has another length it is cut, or filled up from z's
 abbrev pub with_content : ZoneView → List ℕ → ZoneView
 with_content z ws = record z { bytes = refilled z.bytes ws }
 
--- z with ws over its bytes from a place on
+-- z with ws over its bytes from an offset on
 abbrev pub with_part : ℕ → ZoneView → List ℕ → ZoneView
 with_part at z ws = record z { bytes = overlaid z.bytes at ws }
 
 -- what a table knows of a zone
 pub record Reserved : Type 0 where
   pub name : List ℕ
-  pub place : ℕ
+  pub offset : ℕ
   pub len : ℕ
 
 abbrev pub reserved_of : ZoneView → Reserved
-reserved_of z = record { name = z.name; place = z.place; len = length z.bytes }
+reserved_of z = record { name = z.name; offset = z.offset; len = length z.bytes }
 
 -- whether it has this name
 abbrev pub is_named : List ℕ → Reserved → Bool
@@ -71,7 +71,7 @@ pub record IsZoneTable (table : List Reserved) : Type 0 where
 
 -- what a look-up tells of it
 abbrev pub info_of : Reserved → ZoneInfo
-info_of r = record { place = r.place; len = r.len }
+info_of r = record { offset = r.offset; len = r.len }
 
 -- a length that a zone may have
 abbrev pub IsLength : ℕ → Type 0

@@ -24,20 +24,20 @@ impl Model for Zone {
 
     ghost coded = { zone_code };
 
-    ghost view = { λ z. record { name = z.name; home = z.block.home; place = z.block.place; bytes = z.block.bytes } };
+    ghost view = { λ z. record { name = z.name; home = z.block.home; offset = z.block.offset; bytes = z.block.bytes } };
 }
 
 impl Zone {
     // The zone of this name that a block is.
     pub(crate) fn over(name: ZoneName, block: Block) -> Zone
-        ensures { result ≡ record { name = name; home = block.home; place = block.place; bytes = block.bytes } }
+        ensures { result ≡ record { name = name; home = block.home; offset = block.offset; bytes = block.bytes } }
     {
         Zone { name, block }
     }
 
     // The name and the block.
     pub(crate) fn into_parts(self) -> (ZoneName, Block)
-        ensures { (result.0 ≡ self.name) × (result.1 ≡ record { home = self.home; place = self.place; bytes = self.bytes }) }
+        ensures { (result.0 ≡ self.name) × (result.1 ≡ record { home = self.home; offset = self.offset; bytes = self.bytes }) }
     {
         let Zone { name, block } = self;
         (name, block)
@@ -51,10 +51,10 @@ impl Zone {
     }
 
     /// Where it begins, in bytes from the region's start.
-    pub fn place(&self) -> u32
-        ensures { result ≡ self.now.place }
+    pub fn offset(&self) -> u32
+        ensures { result ≡ self.now.offset }
     {
-        self.block.place()
+        self.block.offset()
     }
 
     /// How many bytes it has.

@@ -22,10 +22,10 @@ const MOST: usize = 64;
 /// The longest zone, in bytes.
 const LONGEST: u32 = 1_073_741_824;
 
-/// Where a zone is: its place, in bytes from the region's start, and how many bytes it has.
+/// Where a zone is: its offset, in bytes from the region's start, and how many bytes it has.
 #[derive(Clone, Copy, Debug, PartialEq, Eq)]
 pub struct ZoneInfo {
-    pub place: u32,
+    pub offset: u32,
     pub len: u32,
 }
 
@@ -33,7 +33,7 @@ pub struct ZoneInfo {
 #[derive(Clone, Copy, Default, Drop)]
 struct Entry {
     name: ArrayString<31>,
-    place: u32,
+    offset: u32,
     len: u32,
 }
 
@@ -46,8 +46,8 @@ impl Entry {
     }
 }
 
-// The place of the entry of that name.
-fn place_of(entries: &[Entry], name: &str) -> Option<usize>
+// The index of the entry of that name.
+fn index_of(entries: &[Entry], name: &str) -> Option<usize>
     ensures { result ≡ position (λ e. same_name e.name.bytes name.now) entries.now }
 {
     entries.iter().position(|e| e.is(name))
@@ -118,7 +118,7 @@ impl Zones {
     {
         match entry_named(self.entries.as_slice(), name) {
             Some(entry) => Some(ZoneInfo {
-                place: entry.place,
+                offset: entry.offset,
                 len: entry.len,
             }),
             None => None,
@@ -153,8 +153,8 @@ impl Zones {
         ensures table { self.new ≡ without_name name.now self.old }
         ensures gone { zone_named name.now self.new ≡ None }
     {
-        if let Some(place) = place_of(self.entries.as_slice(), name) {
-            self.entries.remove(place);
+        if let Some(index) = index_of(self.entries.as_slice(), name) {
+            self.entries.remove(index);
         }
     }
 
@@ -168,8 +168,8 @@ impl Zones {
         align: u32,
     ) -> Result<Zone, ZoneError>
         ensures zone { IfOk result (λ z. (z.name ≡ name.now) × (z.home ≡ heap.old.home) × (length z.bytes ≡ rounded len)) }
-        ensures taken { IfOk result (λ z. Taken heap.old.elements (rounded len) (alignment align) z.place heap.new.elements) }
-        ensures undone { IfOk result (λ z. merged z.place heap.new.elements ≡ heap.old.elements) }
+        ensures taken { IfOk result (λ z. Taken heap.old.elements (rounded len) (alignment align) z.offset heap.new.elements) }
+        ensures undone { IfOk result (λ z. merged z.offset heap.new.elements ≡ heap.old.elements) }
         ensures table { IfOk result (λ z. self.new ≡ self.old ++ reserved_of z ∷ []) }
         ensures reservable { OnOk result (IsReservable name.now len align self.old) }
         ensures home { heap.new.home ≡ heap.old.home }
@@ -188,7 +188,7 @@ impl Zones {
             Ok(block) => {
                 self.entries.push(Entry {
                     name: zone_name.text(),
-                    place: block.place(),
+                    offset: block.offset(),
                     len: block.len(),
                 });
                 Ok(Zone::over(zone_name, block))
@@ -201,10 +201,10 @@ impl Zones {
     /// the heap's.
     pub fn give_back(&mut self, heap: &mut Heap, zone: Zone)
         requires { zone.home ≡ heap.old.home }
-        ensures was_out { IsOut zone.place heap.old.elements }
+        ensures was_out { IsOut zone.offset heap.old.elements }
         ensures table { self.new ≡ without_name zone.name self.old }
         ensures gone { zone_named zone.name self.new ≡ None }
-        ensures heap { heap.new ≡ record { home = heap.old.home; elements = merged zone.place heap.old.elements } }
+        ensures heap { heap.new ≡ record { home = heap.old.home; elements = merged zone.offset heap.old.elements } }
         ensures counted { count_of is_busy heap.new.elements + 1 ≡ count_of is_busy heap.old.elements }
     {
         let (name, block) = zone.into_parts();

@@ -248,7 +248,7 @@ fn names_of_its_zones(rt: HostRuntime) {
     assert_eq!(rt;
         heap.element(0),
         Some(Element {
-            place: 0,
+            offset: 0,
             size: 4096,
             state: State::Free,
             pad: 0,

@@ -9,7 +9,7 @@ use std::test::Fail;
 
 fn write_low(low: &mut Block)
     requires { length low.old.bytes ≡ 3 }
-    ensures { (low.new.home ≡ low.old.home) × (low.new.place ≡ low.old.place) × (length low.new.bytes ≡ 3) }
+    ensures { (low.new.home ≡ low.old.home) × (low.new.offset ≡ low.old.offset) × (length low.new.bytes ≡ 3) }
 {
     low.bytes_mut()[0] = 9;
     low.part_mut(1, 2)[1] = 5;
@@ -17,7 +17,7 @@ fn write_low(low: &mut Block)
 
 fn write_high(high: &mut Block)
     requires { length high.old.bytes ≡ 64 }
-    ensures { (high.new.home ≡ high.old.home) × (high.new.place ≡ high.old.place) × (length high.new.bytes ≡ 64) }
+    ensures { (high.new.home ≡ high.old.home) × (high.new.offset ≡ high.old.offset) × (length high.new.bytes ≡ 64) }
 {
     high.store_u16(62, 0x0807);
     high.copy_within(62, 2, 0);
@@ -35,7 +35,7 @@ fn visit(region: &mut Region) -> (u8, u8, u32, u32, u32)
         low.bytes()[0],
         low.bytes()[2],
         high.load_u32(0),
-        high.place(),
+        high.offset(),
         high.len(),
     );
     write_low(&mut low);

@@ -11,7 +11,7 @@ use std::test::Fail;
 
 /// The one element of a heap of 4,096 bytes of which nothing is out.
 const WHOLE: Element = Element {
-    place: 0,
+    offset: 0,
     size: 4096,
     state: State::Free,
     pad: 0,
@@ -43,7 +43,7 @@ fn refused_in_order(rt: HostRuntime) {
     let mut zones = Zones::new();
     let a = zones.reserve(&mut heap, "a", 100, 0).expect(&rt, "a");
     assert_eq!(rt; a.len(), 128);
-    assert_eq!(rt; a.place(), 3968);
+    assert_eq!(rt; a.offset(), 3968);
     let exists = refusal(&mut zones, &mut heap, "a", 100, 0);
     let long = refusal(
         &mut zones,
@@ -144,11 +144,11 @@ fn looked_up_by_whole_names(rt: HostRuntime) {
     zones.give_back(&mut heap, long);
     heap.close().close();
     let of_short = Some(ZoneInfo {
-        place: 4032,
+        offset: 4032,
         len: 64,
     });
     let of_long = Some(ZoneInfo {
-        place: 3072,
+        offset: 3072,
         len: 128,
     });
     assert_eq!(rt; found, [None, of_short, of_long, None]);

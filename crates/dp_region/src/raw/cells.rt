@@ -2,7 +2,7 @@
 // Neither takes any memory.
 ghost use Rattle.std.specs.Prelude.{◌≡◌, ℕ, ◌+◌, ◌^◌, ◌<◌, ◌≤◌, true, List, [], length};
 ghost use Rattle.dp_region.specs.Spans.{Span, listed, IsUnlent, with_span, without_span, Spaced, bytes_in, with_bytes};
-ghost use Rattle.dp_region.specs.Ownership.{Home, place_in, ticket, cells_own, cells_shared};
+ghost use Rattle.dp_region.specs.Ownership.{Home, ptr_at, ticket, cells_own, cells_shared};
 
 use super::Run;
 use std::marker::Model;
@@ -25,18 +25,18 @@ impl Model for Cells {
 // The right to give a span back. There is one for each span that is lent.
 pub(crate) struct Ticket {
     ghost home: { Home },
-    ghost place: { ℕ },
+    ghost offset: { ℕ },
     ghost len: { ℕ },
 }
 
 impl Model for Ticket {
-    ghost also_owns = { λ t. ticket t.home (t.place, t.len) };
+    ghost also_owns = { λ t. ticket t.home (t.offset, t.len) };
 }
 
 impl Cells {
     pub(crate) fn new(run: Run) -> Cells
         requires { length run.bytes < 2 ^ 63 }
-        ensures { (run.start ≡ place_in result.home 0) × (result.bytes ≡ run.bytes) × (result.lent ≡ []) }
+        ensures { (run.start ≡ ptr_at result.home 0) × (result.bytes ≡ run.bytes) × (result.lent ≡ []) }
     {
         let Run {} = run;
         Cells {}
@@ -44,30 +44,30 @@ impl Cells {
 
     pub(crate) fn into_run(self) -> Run
         requires { self.lent ≡ [] }
-        ensures { (result.start ≡ place_in self.home 0) × (result.bytes ≡ self.bytes) }
+        ensures { (result.start ≡ ptr_at self.home 0) × (result.bytes ≡ self.bytes) }
     {
         let Cells {} = self;
         Run {}
     }
 
-    pub(crate) fn take(self, place: usize, len: usize) -> (Cells, Run, Ticket)
-        requires { (0 < len) × (place + len ≤ length self.bytes) × IsUnlent self.lent place len }
+    pub(crate) fn take(self, offset: usize, len: usize) -> (Cells, Run, Ticket)
+        requires { (0 < len) × (offset + len ≤ length self.bytes) × IsUnlent self.lent offset len }
         ensures { (result.0.home ≡ self.home) × (result.0.bytes ≡ self.bytes)
-            × (result.0.lent ≡ with_span (place, len) self.lent)
-            × (result.1.start ≡ place_in self.home place)
-            × (result.1.bytes ≡ bytes_in self.bytes place len)
-            × (result.2.home ≡ self.home) × (result.2.place ≡ place) × (result.2.len ≡ len) }
+            × (result.0.lent ≡ with_span (offset, len) self.lent)
+            × (result.1.start ≡ ptr_at self.home offset)
+            × (result.1.bytes ≡ bytes_in self.bytes offset len)
+            × (result.2.home ≡ self.home) × (result.2.offset ≡ offset) × (result.2.len ≡ len) }
     {
         let Cells {} = self;
         (Cells {}, Run {}, Ticket {})
     }
 
     pub(crate) fn give(self, run: Run, ticket: Ticket) -> Cells
-        requires { (ticket.home ≡ self.home) × (run.start ≡ place_in self.home ticket.place)
+        requires { (ticket.home ≡ self.home) × (run.start ≡ ptr_at self.home ticket.offset)
             × (length run.bytes ≡ ticket.len) }
-        ensures { (listed (ticket.place, ticket.len) self.lent ≡ true) × (result.home ≡ self.home)
-            × (result.bytes ≡ with_bytes self.bytes ticket.place run.bytes)
-            × (result.lent ≡ without_span (ticket.place, ticket.len) self.lent) }
+        ensures { (listed (ticket.offset, ticket.len) self.lent ≡ true) × (result.home ≡ self.home)
+            × (result.bytes ≡ with_bytes self.bytes ticket.offset run.bytes)
+            × (result.lent ≡ without_span (ticket.offset, ticket.len) self.lent) }
     {
         let Run {} = run;
         let Ticket {} = ticket;
@@ -75,12 +75,12 @@ impl Cells {
         Cells {}
     }
 
-    pub(crate) fn view(&self, ptr: *const u8, place: usize, len: usize) -> &[u8]
-        requires { (ptr ≡ place_in self.now.home place)
-            × (place + len ≤ length self.now.bytes) × IsUnlent self.now.lent place len }
-        ensures { result.now ≡ bytes_in self.now.bytes place len }
+    pub(crate) fn view(&self, ptr: *const u8, offset: usize, len: usize) -> &[u8]
+        requires { (ptr ≡ ptr_at self.now.home offset)
+            × (offset + len ≤ length self.now.bytes) × IsUnlent self.now.lent offset len }
+        ensures { result.now ≡ bytes_in self.now.bytes offset len }
     {
-        let _ = place;
+        let _ = offset;
         unsafe { slice::from_raw_parts(ptr, len) }
     }
 }

@@ -9,4 +9,4 @@ unreachable-requires c =
     c.in-Err.ensures.refused
 
 pub returns-clause-size : goal.returns-clause-size
-returns-clause-size c = taken_size (rounded c.args.len) 64 c.in-Ok.zone.place c.args.heap.now.elements c.reserve.new.heap.elements c.in-Ok.ensures.taken
+returns-clause-size c = taken_size (rounded c.args.len) 64 c.in-Ok.zone.offset c.args.heap.now.elements c.reserve.new.heap.elements c.in-Ok.ensures.taken

@@ -8,7 +8,7 @@ use Rattle.dp_ring.proofs.runs.load_run.Goals as goal
 pub returns : goal.returns
 returns c k less =
     let bytes = c.args.zone.now.bytes in
-    let at = 4 * c.args.place in
+    let at = 4 * c.args.slot in
     let m = 4 * length c.args.numbers.now in
     ap (λ p. number_at bytes p 4) (omega arith)
     ∙ (number_in_part bytes at m (4 * k) (omega (arith, less))

@@ -8,5 +8,5 @@ use Rattle.dp_engine.proofs.space.Space.end_pool.Goals as goal
 pub returns-in-Some : goal.returns-in-Some
 returns-in-Some c =
     subst (λ (o : Option PoolView). Returns (2 * (if is_some o then 1 else 0)) c.args.self.now (seen c.unmake.new.heap)) (sym c.in-Some.is)
-    (two_back c.self.inside.heap c.unmake.new.heap c.args.self.now c.in-Some.pool.zones.object_place c.in-Some.pool.zones.queue_place c.self.view_is
+    (two_back c.self.inside.heap c.unmake.new.heap c.args.self.now c.in-Some.pool.zones.object_offset c.in-Some.pool.zones.queue_offset c.self.view_is
     c.unmake.ensures.heap c.unmake.ensures.counted)

@@ -37,7 +37,7 @@ make-pool-requires-clause-queue c = λ place mid taken none.
     let back = released c.self.inside.heap c.self.inside.zones c.self.inside.spare c.args.self.left c.give_back.new.heap.elements c.self.invariant
     (ap (λ (v : StackView). v.left) c.self.view_is) (omega (arith, view, some))
     (ap (λ (h : HeapView). h.elements) c.give_back.ensures.heap) in
-    last_queue c.self.inside.spare.place (length c.self.inside.spare.bytes) place c.args.spec c.give_back.new.heap.elements mid c.requires.spec
+    last_queue c.self.inside.spare.offset (length c.self.inside.spare.bytes) place c.args.spec c.give_back.new.heap.elements mid c.requires.spec
     c.self.invariant.high c.self.invariant.even
     (ap (λ (v : StackView). v.spare) c.self.view_is ∙ c.requires.spare) back.1 taken none
 
@@ -45,5 +45,5 @@ pub returns-clause-same : goal.returns-clause-same
 returns-clause-same c = (
   c.make-pool.ensures.home ∙ ap (λ (h : HeapView). h.home) c.give_back.ensures.heap ∙ ap (λ (v : StackView). v.home) c.self.view_is,
   c.make-pool.ensures.size ∙ ap (λ (h : HeapView). size_of h.elements) c.give_back.ensures.heap
-      ∙ merged_size c.self.inside.spare.place c.self.inside.heap.elements ∙ ap (λ (v : StackView). v.size) c.self.view_is,
+      ∙ merged_size c.self.inside.spare.offset c.self.inside.heap.elements ∙ ap (λ (v : StackView). v.size) c.self.view_is,
 )

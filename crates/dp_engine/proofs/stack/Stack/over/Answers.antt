@@ -15,9 +15,9 @@ invariant_of-result c =
     let r = c.reserve-spare.ensures in let none = c.new-heap.ensures.counted in let one = r.counted in
     let more = table_more c.new-zones.result c.reserve-spare.new.zones _ r.names in
     let empty = ap (λ (t : List Reserved). length t) c.new-zones.ensures in
-    (stack_new (length c.args.region.bytes) c.args.len c.reserve-spare.result.place c.reserve-spare.new.heap c.reserve-spare.new.zones c.reserve-spare.result
+    (stack_new (length c.args.region.bytes) c.args.len c.reserve-spare.result.offset c.reserve-spare.new.heap c.reserve-spare.new.zones c.reserve-spare.result
     (ap (λ (n : ℕ). n % 64) (sym c.size-size.ensures.value) ∙ c.size-size.ensures.range.2) c.requires.room
-    (subst (λ (es : List Element). Taken es (rounded c.args.len) 64 c.reserve-spare.result.place c.reserve-spare.new.heap.elements) c.new-heap.ensures.one
+    (subst (λ (es : List Element). Taken es (rounded c.args.len) 64 c.reserve-spare.result.offset c.reserve-spare.new.heap.elements) c.new-heap.ensures.one
     r.taken)
     refl r.zone.1 (r.zone.0 ∙ sym r.home) (omega (arith, one, none)) (omega (arith, more, empty))).0
 
@@ -26,8 +26,8 @@ returns-clause-left c =
     let r = c.reserve-spare.ensures in let none = c.new-heap.ensures.counted in let one = r.counted in
     let more = table_more c.new-zones.result c.reserve-spare.new.zones _ r.names in
     let empty = ap (λ (t : List Reserved). length t) c.new-zones.ensures in
-    (stack_new (length c.args.region.bytes) c.args.len c.reserve-spare.result.place c.reserve-spare.new.heap c.reserve-spare.new.zones c.reserve-spare.result
+    (stack_new (length c.args.region.bytes) c.args.len c.reserve-spare.result.offset c.reserve-spare.new.heap c.reserve-spare.new.zones c.reserve-spare.result
     (ap (λ (n : ℕ). n % 64) (sym c.size-size.ensures.value) ∙ c.size-size.ensures.range.2) c.requires.room
-    (subst (λ (es : List Element). Taken es (rounded c.args.len) 64 c.reserve-spare.result.place c.reserve-spare.new.heap.elements) c.new-heap.ensures.one
+    (subst (λ (es : List Element). Taken es (rounded c.args.len) 64 c.reserve-spare.result.offset c.reserve-spare.new.heap.elements) c.new-heap.ensures.one
     r.taken)
     refl r.zone.1 (r.zone.0 ∙ sym r.home) (omega (arith, one, none)) (omega (arith, more, empty))).1

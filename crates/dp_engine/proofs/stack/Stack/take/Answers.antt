@@ -5,14 +5,14 @@ use Rattle.dp_engine.proofs.stack.Stack.take.Goals as goal
 
 pub invariant_of-self : goal.invariant_of-self
 invariant_of-self c =
-    (stack_more c.self.inside.heap c.reserve.new.heap c.self.inside.zones c.reserve.new.zones c.self.inside.spare c.args.len c.reserve.result.place
+    (stack_more c.self.inside.heap c.reserve.new.heap c.self.inside.zones c.reserve.new.zones c.self.inside.spare c.args.len c.reserve.result.offset
     c.args.self.now.left c.args.name.now
     c.self.invariant (ap (λ (v : StackView). v.left) c.self.view_is) c.requires.room c.reserve.ensures.taken c.reserve.ensures.home c.reserve.ensures.counted
     c.reserve.ensures.names).0
 
 pub returns-clause-left : goal.returns-clause-left
 returns-clause-left c =
-    (stack_more c.self.inside.heap c.reserve.new.heap c.self.inside.zones c.reserve.new.zones c.self.inside.spare c.args.len c.reserve.result.place
+    (stack_more c.self.inside.heap c.reserve.new.heap c.self.inside.zones c.reserve.new.zones c.self.inside.spare c.args.len c.reserve.result.offset
     c.args.self.now.left c.args.name.now
     c.self.invariant (ap (λ (v : StackView). v.left) c.self.view_is) c.requires.room c.reserve.ensures.taken c.reserve.ensures.home c.reserve.ensures.counted
     c.reserve.ensures.names).1

@@ -5,57 +5,57 @@ use Rattle.dp_heap.specs.Elements.{CanHold}
 use Rattle.dp_heap.proofs.Walk.{walk_begins, found_at, onward, smaller, walk_ended}
 use Rattle.dp_heap.proofs.lists.Lists.first_fit.Goals as goal
 
-pub loop-place-init : goal.loop-place-init
-loop-place-init c = walk_begins c.args.region.now.bytes c.args.self.now.heads c.args.class c.args.len c.args.align c.requires.class c.requires.laid.1
+pub loop-offset-init : goal.loop-offset-init
+loop-offset-init c = walk_begins c.args.region.now.bytes c.args.self.now.heads c.args.class c.args.len c.args.align c.requires.class c.requires.laid.1
 
 pub read_header-e-requires : goal.read_header-e-requires
 read_header-e-requires c =
-    let r = c.args.region.now in let h = (found_at r c.requires.laid.0 c.args.class c.args.len c.args.align c.loop-place.place c.loop-place.invariant
-    c.loop-place-test.true).header in let room = h.room in
+    let r = c.args.region.now in let h = (found_at r c.requires.laid.0 c.args.class c.args.len c.args.align c.loop-offset.offset c.loop-offset.invariant
+    c.loop-offset-test.true).header in let room = h.room in
     ((omega arith, λ k p q. h.unlent k p (omega arith)), c.requires.laid.0.0)
 
 pub highest-requires-clause-bounds : goal.highest-requires-clause-bounds
 highest-requires-clause-bounds c =
-    let r = c.args.region.now in let f = found_at r c.requires.laid.0 c.args.class c.args.len c.args.align c.loop-place.place c.loop-place.invariant
-    c.loop-place-test.true in
+    let r = c.args.region.now in let f = found_at r c.requires.laid.0 c.args.class c.args.len c.args.align c.loop-offset.offset c.loop-offset.invariant
+    c.loop-offset-test.true in
     rw c.read_header-e.ensures (c.requires.align.2, f.bound, f.free)
 
 pub returns-in-Some : goal.returns-in-Some
 returns-in-Some c =
-    let r = c.args.region.now in let f = found_at r c.requires.laid.0 c.args.class c.args.len c.args.align c.loop-place.place c.loop-place.invariant
-    c.loop-place-test.true in (
+    let r = c.args.region.now in let f = found_at r c.requires.laid.0 c.args.class c.args.len c.args.align c.loop-offset.offset c.loop-offset.invariant
+    c.loop-offset-test.true in (
       (f.before, f.after, f.split ∙ ap (λ (x : Item). f.before ++ x ∷ f.after) (sym c.read_header-e.ensures)),
       subst (λ (x : Item). x.state ≡ Free) (sym c.read_header-e.ensures) f.free,
       c.in-Some.ensures,
     )
 
-pub overflow_add-place : goal.overflow_add-place
-overflow_add-place c =
+pub overflow_add-offset : goal.overflow_add-offset
+overflow_add-offset c =
     let r = c.args.region.now in let most = c.requires.laid.0.0 in
-    let room = (found_at r c.requires.laid.0 c.args.class c.args.len c.args.align c.loop-place.place c.loop-place.invariant
-    c.loop-place-test.true).header.room in
+    let room = (found_at r c.requires.laid.0 c.args.class c.args.len c.args.align c.loop-offset.offset c.loop-offset.invariant
+    c.loop-offset-test.true).header.room in
     record { fits = omega arith }
 
-pub load_u32-place-requires : goal.load_u32-place-requires
-load_u32-place-requires c =
-    let r = c.args.region.now in let h = (found_at r c.requires.laid.0 c.args.class c.args.len c.args.align c.loop-place.place c.loop-place.invariant
-    c.loop-place-test.true).header in let room = h.room in
+pub load_u32-offset-requires : goal.load_u32-offset-requires
+load_u32-offset-requires c =
+    let r = c.args.region.now in let h = (found_at r c.requires.laid.0 c.args.class c.args.len c.args.align c.loop-offset.offset c.loop-offset.invariant
+    c.loop-offset-test.true).header in let room = h.room in
     (omega arith, λ k p q. h.unlent k (omega arith) (omega arith))
 
-pub loop-place-smaller : goal.loop-place-smaller
-loop-place-smaller c =
+pub loop-offset-smaller : goal.loop-offset-smaller
+loop-offset-smaller c =
     let r = c.args.region.now in
     let never = subst (λ (x : Item). (d : ℕ) → CanHold x c.args.len c.args.align d → ⊥) c.read_header-e.ensures c.in_default.ensures in
-    rw c.load_u32-place.ensures (smaller r c.requires.laid.0 c.args.class c.args.len c.args.align c.loop-place.place c.loop-place.invariant
-    c.loop-place-test.true never)
+    rw c.load_u32-offset.ensures (smaller r c.requires.laid.0 c.args.class c.args.len c.args.align c.loop-offset.offset c.loop-offset.invariant
+    c.loop-offset-test.true never)
 
-pub loop-place-preserved : goal.loop-place-preserved
-loop-place-preserved c =
+pub loop-offset-preserved : goal.loop-offset-preserved
+loop-offset-preserved c =
     let r = c.args.region.now in
     let never = subst (λ (x : Item). (d : ℕ) → CanHold x c.args.len c.args.align d → ⊥) c.read_header-e.ensures c.in_default.ensures in
-    rw c.load_u32-place.ensures (onward r c.requires.laid.0 c.args.class c.args.len c.args.align c.loop-place.place c.loop-place.invariant
-    c.loop-place-test.true never).more
+    rw c.load_u32-offset.ensures (onward r c.requires.laid.0 c.args.class c.args.len c.args.align c.loop-offset.offset c.loop-offset.invariant
+    c.loop-offset-test.true never).more
 
 pub returns : goal.returns
-returns c = walk_ended c.args.region.now c.requires.laid.0 c.args.class c.args.len c.args.align c.loop-place.place c.loop-place.invariant
-    c.loop-place-test.false
+returns c = walk_ended c.args.region.now c.requires.laid.0 c.args.class c.args.len c.args.align c.loop-offset.offset c.loop-offset.invariant
+    c.loop-offset-test.false

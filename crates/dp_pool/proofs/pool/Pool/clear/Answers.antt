@@ -1,16 +1,16 @@
--- The bytes go to the object's place in the zone.
+-- The bytes go to the object's offset in the zone.
 use Rattle.std.proofs.Common.{ℕ, replicate, arith}
 use Rattle.std.proofs.lemmas.List.{length-replicate}
 use Rattle.dp_pool.proofs.Pools.{index_below, pool_written}
 use Rattle.dp_pool.proofs.pool.Pool.clear.Goals as goal
 
-pub place_of-place-requires-clause-there : goal.place_of-place-requires-clause-there
-place_of-place-requires-clause-there c = index_below c.self.inside.objects c.self.inside.indexes c.self.inside.count c.self.inside.size c.args.index
+pub offset_of-offset-requires-clause-there : goal.offset_of-offset-requires-clause-there
+offset_of-offset-requires-clause-there c = index_below c.self.inside.objects c.self.inside.indexes c.self.inside.count c.self.inside.size c.args.index
     c.args.self.now c.self.view_is c.requires.object
 
 pub returns : goal.returns
 returns c =
     pool_written c.self.inside.objects c.self.inside.indexes c.self.inside.count c.self.inside.size c.args.index c.args.self.now c.self.view_is
     c.requires.object
-    c.args.at (replicate c.args.len 0) c.place_of-place.result c.clear.new.self c.place_of-place.ensures.value (let long =
+    c.args.at (replicate c.args.len 0) c.offset_of-offset.result c.clear.new.self c.offset_of-offset.ensures.value (let long =
     length-replicate {A = ℕ} c.args.len 0 in let fits = c.requires.fits in omega (arith, long, fits)) c.self.invariant.6 c.clear.ensures

@@ -9,9 +9,9 @@ returns-clause-pool c =
     let zones : PoolZones = record {
       home = c.self.inside.objects.home;
       object_name = c.self.inside.objects.name;
-      object_place = c.self.inside.objects.place;
+      object_offset = c.self.inside.objects.offset;
       queue_name = c.self.inside.indexes.name;
-      queue_place = c.self.inside.indexes.place;
+      queue_offset = c.self.inside.indexes.offset;
     } in
     let small = rw c.bytes.ensures at c.are_small.ensures in
     subst IsPool c.self.view_is (is_pool c.self.inside.size c.self.inside.indexes.cache c.self.inside.indexes.cached c.self.inside.count

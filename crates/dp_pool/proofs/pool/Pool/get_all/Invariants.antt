@@ -4,8 +4,8 @@ use Rattle.dp_pool.specs.Queues.{in_count}
 use Rattle.dp_pool.specs.Pools.{AreGot}
 use Rattle.dp_pool.proofs.pool.Pool.get_all.Given as goal
 
-abbrev pub invariant-loop-place : goal.invariant-loop-place
-invariant-loop-place l =
-    AreGot l.initial.self (take l.place-index l.indexes) l.self
-    × (in_count l.self.out + l.place-index ≡ in_count l.initial.self.out)
+abbrev pub invariant-loop-slot : goal.invariant-loop-slot
+invariant-loop-slot l =
+    AreGot l.initial.self (take l.slot-index l.indexes) l.self
+    × (in_count l.self.out + l.slot-index ≡ in_count l.initial.self.out)
     × (length l.indexes ≡ length l.initial.indexes)

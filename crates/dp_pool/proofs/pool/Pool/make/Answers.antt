@@ -14,8 +14,8 @@ returns-in-Err-reserve-clause-kept c =
           ∙ (ap₂ (λ n t. without_name n t) name (refused.kept.0 ∙ objects.reserves.table)
           ∙ without_last (object_name c.args.name.now) c.args.zones.now _ objects.reserves.reservable.fresh refl),
       c.give_back.ensures.heap
-          ∙ (ap (given_back c.in-Ok.objects.place) refused.kept.1
-          ∙ as_before c.in-Ok.objects.place c.args.heap.now c.reserve.new.heap objects.home objects.undone),
+          ∙ (ap (given_back c.in-Ok.objects.offset) refused.kept.1
+          ∙ as_before c.in-Ok.objects.offset c.args.heap.now c.reserve.new.heap objects.home objects.undone),
     )
 
 pub returns-clause-made : goal.returns-clause-made
@@ -35,17 +35,17 @@ returns-clause-made c =
       all_in = made.numbers.4;
       home_is = ap (λ z. z.home) made.zones ∙ objects.zone.1;
       names = (ap (λ z. z.object_name) made.zones ∙ objects.zone.0, ap (λ z. z.queue_name) made.zones ∙ queue.zone.0);
-      len = 4 * c.queue_count-places.result;
-      len_is = (c.queue_count-places.result, c.queue_count-places.ensures.next, refl);
+      len = 4 * c.queue_count-slots.result;
+      len_is = (c.queue_count-slots.result, c.queue_count-slots.ensures.next, refl);
       mid = c.reserve.new.zones;
       left = c.reserve.new.heap.elements;
       objects_reserved =
           subst (λ p. Reserves (object_name c.args.name.now) (object_len c.args.count c.args.size) c.args.zones.now c.args.heap.now.elements p
-          c.reserve.new.zones c.reserve.new.heap.elements) (sym (ap (λ z. z.object_place) made.zones))
-          (subst (λ n. Reserves (object_name c.args.name.now) (c.args.count * n) c.args.zones.now c.args.heap.now.elements c.in-Ok.objects.place
+          c.reserve.new.zones c.reserve.new.heap.elements) (sym (ap (λ z. z.object_offset) made.zones))
+          (subst (λ n. Reserves (object_name c.args.name.now) (c.args.count * n) c.args.zones.now c.args.heap.now.elements c.in-Ok.objects.offset
           c.reserve.new.zones c.reserve.new.heap.elements) c.stride_of.ensures objects.reserves);
       queue_reserved =
-          subst (λ p. Reserves (queue_name c.args.name.now) (4 * c.queue_count-places.result) c.reserve.new.zones c.reserve.new.heap.elements p
-          c.reserve-2.new.zones c.reserve-2.new.heap.elements) (sym (ap (λ z. z.queue_place) made.zones))
+          subst (λ p. Reserves (queue_name c.args.name.now) (4 * c.queue_count-slots.result) c.reserve.new.zones c.reserve.new.heap.elements p
+          c.reserve-2.new.zones c.reserve-2.new.heap.elements) (sym (ap (λ z. z.queue_offset) made.zones))
           queue.reserves;
     }

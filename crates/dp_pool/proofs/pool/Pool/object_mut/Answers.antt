@@ -4,8 +4,8 @@ use Rattle.dp_region.specs.Spans.{bytes_in}
 use Rattle.dp_pool.proofs.Pools.{index_below, object_bytes, pool_left, left_alone}
 use Rattle.dp_pool.proofs.pool.Pool.object_mut.Goals as goal
 
-pub place_of-place-requires-clause-there : goal.place_of-place-requires-clause-there
-place_of-place-requires-clause-there c = index_below c.self.inside.objects c.self.inside.indexes c.self.inside.count c.self.inside.size c.args.index
+pub offset_of-offset-requires-clause-there : goal.offset_of-offset-requires-clause-there
+offset_of-offset-requires-clause-there c = index_below c.self.inside.objects c.self.inside.indexes c.self.inside.count c.self.inside.size c.args.index
     c.args.self.now c.self.view_is c.requires
 
 pub returns : goal.returns
@@ -16,11 +16,11 @@ returns c =
     let size = c.self.inside.size in
     let now = c.args.self.now in
     let room = c.self.invariant.6 in
-    let place = c.place_of-place.ensures.value in (
-      (refl, pool_left zone indexes count size c.args.index now c.self.view_is c.requires c.place_of-place.result place room),
+    let offset = c.offset_of-offset.ensures.value in (
+      (refl, pool_left zone indexes count size c.args.index now c.self.view_is c.requires c.offset_of-offset.result offset room),
       record {
         writes_back = tt;
-        value = c.part_mut.ensures.value ∙ (ap (λ p. bytes_in zone.bytes p size) place
+        value = c.part_mut.ensures.value ∙ (ap (λ p. bytes_in zone.bytes p size) offset
             ∙ object_bytes zone indexes count size c.args.index now c.self.view_is c.requires);
         size = c.part_mut.ensures.size ∙ ap (λ v. v.size) c.self.view_is;
         whole = left_alone zone indexes count size c.args.index now c.self.view_is c.requires room;

@@ -1,6 +1,6 @@
 use Rattle.std.proofs.Common.{◌≡◌, ℕ, true, List, length, sym, ap, ◌∙◌, arith}
 use Rattle.dp_region.specs.Spans.{Span, listed, Spaced, with_bytes}
-use Rattle.dp_region.specs.Ownership.{place_in}
+use Rattle.dp_region.specs.Ownership.{ptr_at}
 use Rattle.dp_region.proofs.Spans.{listed_bounds}
 use Rattle.dp_region.specs.Laws.{length-with_bytes}
 use Rattle.dp_region.proofs.region.Region.reclaim.Goals as goal
@@ -16,11 +16,11 @@ invariant_of-self c =
     let i = c.self.inside in let inv = c.self.invariant in let e = c.replace_with.ensures in let run = c.into_parts.result.0 in
     let ticket = c.into_parts.result.1 in
     let long = ap length c.into_parts.ensures.run.1 ∙ sym c.into_parts.ensures.ticket.2 in
-    let size = same_size i.cells.bytes i.cells.lent ticket.place ticket.len run.bytes i.cells.ok.0 e.0 long in
-    (inv.0 ∙ ap (λ h. place_in h 0) (sym e.1), inv.1, inv.2, ap length e.2 ∙ size ∙ inv.3, inv.4)
+    let size = same_size i.cells.bytes i.cells.lent ticket.offset ticket.len run.bytes i.cells.ok.0 e.0 long in
+    (inv.0 ∙ ap (λ h. ptr_at h 0) (sym e.1), inv.1, inv.2, ap length e.2 ∙ size ∙ inv.3, inv.4)
 
 pub returns-clause-size : goal.returns-clause-size
 returns-clause-size c =
     let i = c.self.inside in let e = c.replace_with.ensures in let run = c.into_parts.result.0 in let ticket = c.into_parts.result.1 in
     let long = ap length c.into_parts.ensures.run.1 ∙ sym c.into_parts.ensures.ticket.2 in
-    rw (sym c.self.view_is) (ap length e.2 ∙ same_size i.cells.bytes i.cells.lent ticket.place ticket.len run.bytes i.cells.ok.0 e.0 long)
+    rw (sym c.self.view_is) (ap length e.2 ∙ same_size i.cells.bytes i.cells.lent ticket.offset ticket.len run.bytes i.cells.ok.0 e.0 long)

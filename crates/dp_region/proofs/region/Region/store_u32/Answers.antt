@@ -8,4 +8,4 @@ pub returns-clause-stored : goal.returns-clause-stored
 returns-clause-stored c =
     let r = c.args.self.now in
     rw (c.reclaim.ensures.back, c.store_u32.ensures.stored, c.lend-block.ensures.block, c.lend-block.ensures.lent)
-    (stored r c.args.place 4 (little_bytes 4 c.args.value) refl c.requires.0 (unlent_unlisted r.lent c.args.place 4 (lit< tt) c.requires.1))
+    (stored r c.args.offset 4 (little_bytes 4 c.args.value) refl c.requires.0 (unlent_unlisted r.lent c.args.offset 4 (lit< tt) c.requires.1))

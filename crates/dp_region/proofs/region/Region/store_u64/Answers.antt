@@ -8,4 +8,4 @@ pub returns-clause-stored : goal.returns-clause-stored
 returns-clause-stored c =
     let r = c.args.self.now in
     rw (c.reclaim.ensures.back, c.store_u64.ensures.stored, c.lend-block.ensures.block, c.lend-block.ensures.lent)
-    (stored r c.args.place 8 (little_bytes 8 c.args.value) refl c.requires.0 (unlent_unlisted r.lent c.args.place 8 (lit< tt) c.requires.1))
+    (stored r c.args.offset 8 (little_bytes 8 c.args.value) refl c.requires.0 (unlent_unlisted r.lent c.args.offset 8 (lit< tt) c.requires.1))

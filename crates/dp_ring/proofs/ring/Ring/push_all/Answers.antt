@@ -27,19 +27,19 @@ returns c =
     let values = c.args.values.now in
     let n = c.before_turn-number.result in
     let inside = c.self.inside in
-    let p = c.place_behind-place.ensures.value in
-    let front = subst (λ place. Stores place (take n values) inside.zone.bytes c.store_run.new.zone.bytes) p c.store_run.ensures.bytes in
+    let p = c.slot_behind-slot.ensures.value in
+    let front = subst (λ slot. Stores slot (take n values) inside.zone.bytes c.store_run.new.zone.bytes) p c.store_run.ensures.bytes in
     let rest : take (length values - n) (drop n values) ≡ drop n values = take_all (length values - n) (drop n values) (omega (arith, length-drop n values)) in
     let back = subst (λ part. Stores 0 part c.store_run.new.zone.bytes c.store_run-2.new.zone.bytes) rest c.store_run-2.ensures.bytes in
-    let fits = subst (λ place. n ≤ inside.count - place) p c.before_turn-number.ensures.most.1 in
-    let cut = subst (λ place. (n ≡ length values) ⊎ (n ≡ inside.count - place)) p c.before_turn-number.ensures.cut in
+    let fits = subst (λ slot. n ≤ inside.count - slot) p c.before_turn-number.ensures.most.1 in
+    let cut = subst (λ slot. (n ≡ length values) ⊎ (n ≡ inside.count - slot)) p c.before_turn-number.ensures.cut in
     let stands : entries_from c.store_run-2.new.zone.bytes inside.count inside.first (inside.used + length values)
     ≡ entries_from inside.zone.bytes inside.count inside.first inside.used ++ values =
     entries_stored inside.count inside.first inside.used n values inside.zone.bytes c.store_run.new.zone.bytes c.store_run-2.new.zone.bytes c.self.invariant.0
     (few c) c.self.invariant.3 c.before_turn-number.ensures.most.0 fits cut front back in
     let name = c.store_run-2.ensures.others.0 ∙ c.store_run.ensures.others.0 in
     let home = c.store_run-2.ensures.others.1 ∙ c.store_run.ensures.others.1 in
-    let place = c.store_run-2.ensures.others.2 ∙ c.store_run.ensures.others.2 in
+    let offset = c.store_run-2.ensures.others.2 ∙ c.store_run.ensures.others.2 in
     let len = long c in
-    (λ i. record { count = inside.count; entries = stands i; name = name i; home = home i; place = place i; len = len i })
+    (λ i. record { count = inside.count; entries = stands i; name = name i; home = home i; offset = offset i; len = len i })
     ∙ ap (λ r. with_more r values) c.self.view_is

@@ -4,7 +4,7 @@ use Rattle.dp_region.proofs.Steps.{ !, qed, done, move, keep, use1, use2, split,
 use Rattle.dp_region.proofs.Steps.{no_more, alloc_all, pass_all, free_all, look_at, sets, yes, bytes, plain, nothing, heard, Stays, stay_dropped, says}
 use Rattle.dp_region.proofs.Steps.{walk_of, ends_at, Goes-blank, proved}
 use Rattle.dp_region.specs.Spans.{listed, without_span, Spaced, with_bytes}
-use Rattle.dp_region.specs.Ownership.{place_in, run_owns, unlent, tickets_but, ticket, cells_own}
+use Rattle.dp_region.specs.Ownership.{ptr_at, run_owns, unlent, tickets_but, ticket, cells_own}
 use Rattle.dp_region.specs.Laws.{length-with_bytes}
 use Rattle.dp_region.proofs.Rights.{ticket_known, ticket_in}
 use Rattle.dp_region.proofs.Spans.{listed_bounds, spaced_without}
@@ -36,13 +36,13 @@ give_spec 𝓤 𝓛 𝓜 𝓡 wired =
     f.Key.name code.function (code.unfolded 𝓤 𝓛.H 𝓜 𝓡 wired)
     (λ κs. ((λ d. cells_laws.lowered d ∷ []), ((λ r. run_laws.lowered r ∷ []), ((λ t. ticket_laws.lowered t ∷ []), tt))))
     (λ κs. (cells_laws.lowers.val_is, (run_laws.lowers.val_is, (ticket_laws.lowers.val_is, tt)))) (λ κs qs bounds a g are.
-    let d = a.0 in let r = a.1.0 in let t = a.1.1.0 in let h = d.home in let xs = d.bytes in let ls = d.lent in let ws = r.bytes in let p = t.place in
+    let d = a.0 in let r = a.1.0 in let t = a.1.1.0 in let h = d.home in let xs = d.bytes in let ls = d.lent in let ws = r.bytes in let p = t.offset in
     let n = t.len in
     let ls' = without_span (p, n) ls in let xs' = with_bytes xs p ws in
     let y : (walk_of 𝓛 f.ended stayed c).Ghost = ((κs, qs, bounds, a, (bare ∷ [], (bare ∷ [], (bare ∷ [], tt)))), g) in
     qed 𝓛 ((‵ ftrue ⊛ ‵ ((Cells.the_row).own_val d (bare ∷ [])) ⊛ ‵ ((Run.the_row).own_val r (bare ∷ [])) ⊛ ‵ ((Ticket.the_row).own_val t (bare ∷ [])) ⊛ ‵
     ftrue)
-    ∷ raw (fact 𝓤 ((t.home ≡ h) × (r.start ≡ place_in h p) × (length ws ≡ n))) ∷ []) ∵
+    ∷ raw (fact 𝓤 ((t.home ≡ h) × (r.start ≡ ptr_at h p) × (length ws ≡ n))) ∷ []) ∵
     move ! (1 ∷ []) $ heard ! _ (λ asked. let ours = asked.0 in let there = asked.1 in let long = asked.2 in
     split ! $ move ! (1 ∷ []) $ split ! $ move ! (1 ∷ []) $ split ! $ move ! (1 ∷ []) $ split ! $ keep ! (0 ∷ 2 ∷ 3 ∷ []) $
     -- [the right; the run; the cells]
@@ -59,7 +59,7 @@ give_spec 𝓤 𝓛 𝓜 𝓡 wired =
     } in
     use2 𝓛 (‵ (tickets_but h ls')) (ticket_in 𝓛 h (p, n) ls 0 (length xs) d.ok.0 out) $ move ! (2 ∷ []) $
     release ! (run_owns r.start ws) $ rewrite ! 0 (λ q. ‵ (run_owns q ws)) there refl $
-    use1 𝓛 (given (place_in h p ≡ place_in h p) (‵ (bytes full_share ws h.block (h.start + p)))) (run_out 𝓛 (place_in h p) ws) $ learn !
+    use1 𝓛 (given (ptr_at h p ≡ ptr_at h p) (‵ (bytes full_share ws h.block (h.start + p)))) (run_out 𝓛 (ptr_at h p) ws) $ learn !
     (λ _. move ! (0 ∷ 2 ∷ []) $
     use2 𝓛 (‵ (unlent ls' h.block h.start 0 xs')) (given_back 𝓛 h.block ls h.start xs p n high ws 0 (length xs) d.ok.0 out long) $
     fjoin ! $ hold ! (cells_own h ls' xs') $

@@ -4,7 +4,7 @@ use Rattle.dp_region.proofs.Steps.{use1, split, join, fsplit, fjoin, suffices, g
 use Rattle.dp_region.proofs.Steps.{look_at, get, sets, yes, usize, uint_vals, uint_Tells, bytes, plain, nothing, heard, Stays, stay_dropped, says, walk_of}
 use Rattle.dp_region.proofs.Steps.{ends_at, Goes-blank, proved}
 use Rattle.dp_region.specs.Spans.{IsUnlent, with_span, bytes_in}
-use Rattle.dp_region.specs.Ownership.{place_in, run_owns, unlent, tickets_but, ticket, cells_own}
+use Rattle.dp_region.specs.Ownership.{ptr_at, run_owns, unlent, tickets_but, ticket, cells_own}
 use Rattle.dp_region.proofs.Rights.{ticket_out}
 use Rattle.dp_region.proofs.Spans.{spaced_with, unlent_unlisted}
 use Rattle.dp_region.proofs.Unlent.{taken, run_in}
@@ -41,11 +41,11 @@ take_spec 𝓤 𝓛 𝓜 𝓡 wired =
       lent = ls';
       ok = (spaced_with ls 0 (length xs) p n d.ok.0 (omega arith) some fits free, d.ok.1);
     } in
-    let run : (Run.the_row).Denot = record { start = place_in h p; bytes = ys } in
-    let right : (Ticket.the_row).Denot = record { home = h; place = p; len = n } in
+    let run : (Run.the_row).Denot = record { start = ptr_at h p; bytes = ys } in
+    let right : (Ticket.the_row).Denot = record { home = h; offset = p; len = n } in
     split ! $ move ! (1 ∷ []) $ split ! $ keep ! (0 ∷ []) $ release ! (cells_own h ls xs) $ fsplit ! $
     use1 𝓛 (‵ (bytes full_share ys h.block (h.start + p)) ⊛ ‵ (unlent ls' h.block h.start 0 xs)) (taken 𝓛 h.block ls h.start xs p n fits free) $ split ! $
-    use1 𝓛 (‵ (run_owns (place_in h p) ys)) (run_in 𝓛 h.block (h.start + p) ys) $ hold ! (run_owns (place_in h p) ys) $ move ! (2 ∷ []) $
+    use1 𝓛 (‵ (run_owns (ptr_at h p) ys)) (run_in 𝓛 h.block (h.start + p) ys) $ hold ! (run_owns (ptr_at h p) ys) $ move ! (2 ∷ []) $
     use1 𝓛 (‵ (ticket h (p, n)) ⊛ ‵ (tickets_but h ls')) (ticket_out 𝓛 h (p, n) ls (unlent_unlisted ls p n some free)) $ split ! $ hold ! (ticket h (p, n)) $
     -- [the ticket; the other rights; the run; the bytes that are left]
     nothing ! $ move ! (1 ∷ 0 ∷ []) $ fjoin ! $ move ! (2 ∷ 0 ∷ []) $ fjoin ! $ move ! (2 ∷ 1 ∷ []) $ fjoin ! $ hold ! (cells_own h ls' xs) $ fjoin ! $

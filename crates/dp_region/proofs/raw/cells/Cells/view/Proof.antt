@@ -13,7 +13,7 @@ use denote.Ref.{ShrRef, shr_vals, shr_Tells}
 use denote.Slice.{slice_val, elements_shared}
 use Rattle.core.proofs.slots.Runs.{run_long}
 use Rattle.dp_region.specs.Spans.{IsUnlent, bytes_in}
-use Rattle.dp_region.specs.Ownership.{place_in}
+use Rattle.dp_region.specs.Ownership.{ptr_at}
 use Rattle.dp_region.proofs.Shared.{shown}
 use Rattle.dp_region.specs.contracts.raw.cells.Cells as Cells
 use Rattle.dp_region.specs.contracts.raw.cells.Cells.view as f
@@ -42,7 +42,7 @@ view_spec 𝓤 𝓛 𝓜 𝓡 wired =
     let y : Ptr → W.Ghost = λ q. ((κs, qs, bounds, (a.0, (q, (p, (n, tt)))), (shr_vals a.0, (rawptr_vals q, (uint_vals w64 p, (uint_vals w64 n, tt))))), g) in
     qed 𝓛 (((‵ (flft κ qs.0) ⊛ ‵ ftrue) ⊛ ‵ ((ShrRef (named 0) κ Cells.the_row).own_val a.0 (shr_vals a.0)) ⊛ ‵ (RawPtr.own_val a.1.0 (rawptr_vals a.1.0)) ⊛ ‵
     (usize.own_val p (uint_vals w64 p)) ⊛ ‵ (usize.own_val n (uint_vals w64 n)) ⊛ ‵ ftrue)
-    ∷ raw (fact 𝓤 ((a.1.0 ≡ place_in h p) × (p + n ≤ length d.bytes) × IsUnlent d.lent p n)) ∷ []) ∵
+    ∷ raw (fact 𝓤 ((a.1.0 ≡ ptr_at h p) × (p + n ≤ length d.bytes) × IsUnlent d.lent p n)) ∷ []) ∵
     move ! (1 ∷ []) $ heard ! _ (λ asked. let fits = asked.1 in let small = d.ok.1 in let long : length ys ≡ n = run_long d.bytes p n fits in
     split ! $ move ! (1 ∷ []) $ split ! $ fsplit ! $ drop ! $ unhide ! $ fsplit ! $ keep ! (1 ∷ 3 ∷ []) $
     -- [what the `&` holds of the bytes; the token]
@@ -62,9 +62,9 @@ view_spec 𝓤 𝓛 𝓜 𝓡 wired =
       tt,
       (tt, (record { fits = are.1.1.1.0.1 }, tt)),
     ) $
-    exec ! 𝓣.C 𝓣.Λ (env code.function.locals l) (seq (assign (place 0 []) (rv_opd (copy (place 5 [])))) return) (at_ret _ (W.post (y (place_in h p)))) $
+    exec ! 𝓣.C 𝓣.Λ (env code.function.locals l) (seq (assign (place 0 []) (rv_opd (copy (place 5 [])))) return) (at_ret _ (W.post (y (ptr_at h p)))) $
     sets ! (of_opd ! (get ! refl)) refl (tt, (tt, (record { fits = are.1.1.1.0.1 }, tt))) $ returns ! (look_at ! 0 refl) $ free_all ! refl $
-    suffices ! _ (ends_at 𝓛 f.ended stayed c (y (place_in h p)) (slice_val (b, o) n) (record { ref_ptr = (b, o); now = ys }) (tt, (tt, (tt, (tt, tt)))) (
+    suffices ! _ (ends_at 𝓛 f.ended stayed c (y (ptr_at h p)) (slice_val (b, o) n) (record { ref_ptr = (b, o); now = ys }) (tt, (tt, (tt, (tt, tt)))) (
       tt,
       (tt, (tt, (tt, tt))),
     )) $ says ! refl $
