@@ -2,7 +2,7 @@
 use Rattle.std.specs.Prelude.{◌≡◌, ℕ, ◌-◌, Bool, true, false, ◌&&◌, List, [], ◌∷◌, ◌++◌, ◌==◌, nat_lt, if◌then◌else◌, ⊤}
 use Rattle.dp_heap.specs.declared.elements.Element.{Element}
 use Rattle.dp_heap.specs.declared.elements.State.TheVariants.{Free, Busy}
-use Rattle.dp_heap.specs.Elements.{is_busy, end_of, data_of, freed, joined}
+use Rattle.dp_heap.specs.Elements.{header_len, slack, is_busy, end_of, data_of, freed, joined}
 
 -- e is one of them
 abbrev pub IsIn : Element → List Element → Type 0
@@ -21,14 +21,14 @@ upper e mid = record { offset = mid; size = end_of e - mid; state = Free; pad = 
 
 -- e with a block whose data begin at d
 abbrev pub marked : Element → ℕ → Element
-marked e d = record { offset = e.offset; size = e.size; state = Busy; pad = d - 64 - e.offset }
+marked e d = record { offset = e.offset; size = e.size; state = Busy; pad = d - header_len - e.offset }
 
 -- what is left of e once the bytes from `end` on are trimmed, where they are enough for an element, and those before `start`
 abbrev pub below : Element → ℕ → Element
-below e end = if nat_lt 128 (end_of e - end) then lower e end else e
+below e end = if nat_lt slack (end_of e - end) then lower e end else e
 
 abbrev pub above : Element → ℕ → Element
-above e start = if nat_lt 128 (start - e.offset) then upper e start else e
+above e start = if nat_lt slack (start - e.offset) then upper e start else e
 
 -- es, joined to the last of before
 abbrev pub onto : List Element → List Element → List Element

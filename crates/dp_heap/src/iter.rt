@@ -18,11 +18,12 @@ pub struct Iter<'a> {
 impl<'a> Model for Iter<'a> {
     ghost use Rattle.std.specs.Prelude.{List, length, ◌/◌};
     ghost use Rattle.dp_heap.specs.declared.elements.Element.{Element};
+    ghost use Rattle.dp_heap.specs.Elements.{header_len};
     ghost use Rattle.dp_heap.specs.Laid.{elements_from, IsLaid, IsReached};
 
     ghost Value = { List Element };
 
-    ghost view = { λ w. elements_from (length w.region.now.bytes / 64) w.offset w.region.now.bytes };
+    ghost view = { λ w. elements_from (length w.region.now.bytes / header_len) w.offset w.region.now.bytes };
 
     ghost invariant = { λ w. IsLaid w.region.now × IsReached w.region.now w.offset };
 }

@@ -1,13 +1,13 @@
 //! The free elements in five lists, by size. They are linked through their headers: `specs/Lists.antt` says by which words.
 ghost use Rattle.std.specs.Prelude.{◌≡◌, ℕ, ◌+◌, ◌^◌, ◌<◌, ◌≤◌, List, [], ◌∷◌, length, replicate, slice_index, MatchOption};
-ghost use Rattle.dp_region.specs.Region.{IsFree, number_at};
-ghost use Rattle.dp_heap.specs.Elements.{CanHold, NothingFits, IsHighest};
+ghost use Rattle.dp_region.specs.Region.{IsFree, cache_line, largest_region, number_at};
+ghost use Rattle.dp_heap.specs.Elements.{header_len, CanHold, NothingFits, IsHighest};
 ghost use Rattle.dp_heap.specs.Edits.{IsIn};
 ghost use Rattle.dp_heap.specs.Laid.{element_at, elements_in, IsLaid};
 ghost use Rattle.dp_heap.specs.Lists.{none, class_of, with_link, belong, Listed, NoneHolds};
 ghost use Rattle.dp_heap.specs.declared.elements.Element.{Element as Item};
 
-use crate::elements::{Element, State};
+use crate::elements::{Element, HEADER_LEN, State};
 use crate::header::read_header;
 use dp_region::Region;
 
@@ -76,11 +76,11 @@ impl Lists {
     // A free element that can hold a block, of the first list on that has one, and the highest offset in it.
     pub(crate) fn find(&self, region: &Region, len: u64, align: u64) -> Option<(Element, u32)>
         requires laid { IsLaid region.now × Listed region.now.bytes self.now.heads (elements_in region.now.bytes) [] }
-        requires align { (64 ≤ align) × (align < 2 ^ 32) × (len < 2 ^ 33) }
+        requires align { (cache_line ≤ align) × (align < 2 ^ 32) × (len < 2 ^ 33) }
         ensures { MatchOption result (NothingFits len align (elements_in region.now.bytes)) (λ f. IsIn f.0 (elements_in region.now.bytes)
             × (f.0.state ≡ State.Free) × IsHighest f.0 len align f.1) }
     {
-        let mut class = class_of(len + 64);
+        let mut class = class_of(len + HEADER_LEN as u64);
         while class < 5 {
             if let Some(found) = self.first_fit(region, class, len, align) {
                 return Some(found);
@@ -99,7 +99,7 @@ impl Lists {
         align: u64,
     ) -> Option<(Element, u32)>
         requires laid { IsLaid region.now × Listed region.now.bytes self.now.heads (elements_in region.now.bytes) [] }
-        requires align { (64 ≤ align) × (align < 2 ^ 32) × (len < 2 ^ 33) }
+        requires align { (cache_line ≤ align) × (align < 2 ^ 32) × (len < 2 ^ 33) }
         requires class { class < 5 }
         ensures { MatchOption result (NoneHolds class len align (elements_in region.now.bytes)) (λ f. IsIn f.0 (elements_in region.now.bytes)
             × (f.0.state ≡ State.Free) × IsHighest f.0 len align f.1) }
@@ -118,8 +118,8 @@ impl Lists {
 
 // The highest offset for the data of a block, if there is one.
 fn highest(e: &Element, len: u64, align: u64) -> Option<u32>
-    requires align { (64 ≤ align) × (align < 2 ^ 32) }
-    requires bounds { (len < 2 ^ 33) × (e.now.offset + e.now.size ≤ 1073741824) × (e.now.state ≡ State.Free) }
+    requires align { (cache_line ≤ align) × (align < 2 ^ 32) }
+    requires bounds { (len < 2 ^ 33) × (e.now.offset + e.now.size ≤ largest_region) × (e.now.state ≡ State.Free) }
     ensures { MatchOption result ((d : ℕ) → ¬ CanHold e.now len align d) (λ d. IsHighest e.now len align d) }
 {
     let end = (e.offset + e.size) as u64;
@@ -127,7 +127,7 @@ fn highest(e: &Element, len: u64, align: u64) -> Option<u32>
         return None;
     }
     let at = (end - len) / align * align;
-    if at < e.offset as u64 + 64 {
+    if at < e.offset as u64 + HEADER_LEN as u64 {
         return None;
     }
     Some(at as u32)
@@ -152,7 +152,7 @@ fn class_of(size: u64) -> usize
 
 // An offset in the word `word` of the header at `at`, where there is one.
 fn write_link(region: &mut Region, word: u32, at: u32, offset: u32)
-    requires { (at < length region.old.bytes → IsFree region.old at 64) × (word ≤ 60) × (length region.old.bytes ≤ 1073741824) }
+    requires { (at < length region.old.bytes → IsFree region.old at header_len) × (word ≤ 60) × (length region.old.bytes ≤ largest_region) }
     ensures { region.new ≡ record region.old { bytes = with_link region.old.bytes word at offset } }
 {
     if at < region.size() {

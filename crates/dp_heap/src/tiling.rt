@@ -1,21 +1,26 @@
 //! Edits of the elements that lie in a region. Each is stated for the list of elements, wherever in it they stand.
 ghost use Rattle.std.specs.Prelude.{◌≡◌, ◌+◌, ◌-◌, ◌%◌, ◌<◌, ◌≤◌, List, [], ◌∷◌, ◌++◌, length};
-ghost use Rattle.dp_heap.specs.Elements.{joined, end_of, both, spare, pieces};
+ghost use Rattle.dp_region.specs.Region.{cache_line};
+ghost use Rattle.dp_heap.specs.Elements.{header_len, joined, end_of, both, spare, pieces};
 ghost use Rattle.dp_heap.specs.Edits.{onto, Emptied, lower, upper, marked, below, above, IsIn, Replaces};
 ghost use Rattle.dp_heap.specs.Laid.{elements_in, IsLaid, IsHeap};
 ghost use Rattle.dp_heap.specs.Lists.{Listed, Outside};
 ghost use Rattle.dp_heap.specs.declared.elements.Element.{Element as Item};
 
-use crate::elements::{Element, State};
-use crate::header::{read_header, read_pad, write_back, write_header, write_pad};
+use crate::elements::{Element, HEADER_LEN, State};
+use crate::header::{BACK, read_header, read_pad, write_back, write_header, write_pad};
 use crate::lists::Lists;
 use dp_region::{Block, Region};
+
+// The most bytes that are no element of their own: those of a header and of a cache line, as DPDK wants more than a header and
+// its least data to split an element.
+const SLACK: u32 = 128;
 
 // The header of `e` becomes that of its bytes below `mid`, and those from there on are an element of their own.
 fn cut(region: &mut Region, e: &Element, mid: u32) -> (Element, Element)
     requires laid { IsLaid region.old × IsIn e.now (elements_in region.old.bytes) }
     requires free { e.now.state ≡ State.Free }
-    requires inside { (mid % 64 ≡ 0) × (e.now.offset + 64 ≤ mid) × (mid + 64 ≤ end_of e.now) }
+    requires inside { (mid % cache_line ≡ 0) × (e.now.offset + header_len ≤ mid) × (mid + header_len ≤ end_of e.now) }
     ensures parts { result ≡ (lower e.now mid, upper e.now mid) }
     ensures laid { IsLaid region.new }
     ensures home { region.new.home ≡ region.old.home }
@@ -46,32 +51,32 @@ fn cut(region: &mut Region, e: &Element, mid: u32) -> (Element, Element)
 fn mark(region: &mut Region, e: &Element, at: u32, len: u32) -> Block
     requires laid { IsLaid region.old × IsIn e.now (elements_in region.old.bytes) }
     requires free { e.now.state ≡ State.Free }
-    requires inside { (0 < len) × (e.now.offset + 64 ≤ at) × (at + len ≤ end_of e.now) × (at % 64 ≡ 0) }
+    requires inside { (0 < len) × (e.now.offset + header_len ≤ at) × (at + len ≤ end_of e.now) × (at % cache_line ≡ 0) }
     ensures block { (result.home ≡ region.old.home) × (result.offset ≡ at) × (length result.bytes ≡ len) }
     ensures laid { IsLaid region.new }
     ensures home { region.new.home ≡ region.old.home }
     ensures outside { Outside e.now.offset (end_of e.now) region.old.bytes region.new.bytes }
     ensures pieces { Replaces e.now (marked e.now at ∷ []) (elements_in region.old.bytes) (elements_in region.new.bytes) }
 {
-    let pad = at - 64 - e.offset;
+    let pad = at - HEADER_LEN - e.offset;
     write_header(region, e.offset, e.size, State::Busy, pad);
     write_pad(region, at, pad);
     region.lend(at, len)
 }
 
-// `e`, which is free and in no list, loses what lies from `end` on, where that is more than 128 bytes.
+// `e`, which is free and in no list, loses what lies from `end` on, where that is more than the slack.
 fn trim_end(region: &mut Region, lists: &mut Lists, e: Element, end: u32) -> Element
     requires laid { IsLaid region.old × IsIn e (elements_in region.old.bytes) }
     requires free { e.state ≡ State.Free }
     requires listed { Listed region.old.bytes lists.old.heads (elements_in region.old.bytes) (e ∷ []) }
-    requires inside { (e.offset + 64 ≤ end) × (end ≤ end_of e) × (end % 64 ≡ 0) }
+    requires inside { (e.offset + header_len ≤ end) × (end ≤ end_of e) × (end % cache_line ≡ 0) }
     ensures left { result ≡ below e end }
     ensures laid { IsLaid region.new }
     ensures home { region.new.home ≡ region.old.home }
     ensures listed { Listed region.new.bytes lists.new.heads (elements_in region.new.bytes) (result ∷ []) }
     ensures pieces { Replaces e (below e end ∷ spare end (end_of e - end)) (elements_in region.old.bytes) (elements_in region.new.bytes) }
 {
-    if e.offset + e.size - end <= 128 {
+    if e.offset + e.size - end <= SLACK {
         return e;
     }
     let (rest, spare) = cut(region, &e, end);
@@ -79,19 +84,19 @@ fn trim_end(region: &mut Region, lists: &mut Lists, e: Element, end: u32) -> Ele
     rest
 }
 
-// `e`, which is free and in no list, loses what lies before `start`, where that is more than 128 bytes.
+// `e`, which is free and in no list, loses what lies before `start`, where that is more than the slack.
 fn trim_start(region: &mut Region, lists: &mut Lists, e: Element, start: u32) -> Element
     requires laid { IsLaid region.old × IsIn e (elements_in region.old.bytes) }
     requires free { e.state ≡ State.Free }
     requires listed { Listed region.old.bytes lists.old.heads (elements_in region.old.bytes) (e ∷ []) }
-    requires inside { (e.offset ≤ start) × (start + 64 ≤ end_of e) × (start % 64 ≡ 0) }
+    requires inside { (e.offset ≤ start) × (start + header_len ≤ end_of e) × (start % cache_line ≡ 0) }
     ensures left { result ≡ above e start }
     ensures laid { IsLaid region.new }
     ensures home { region.new.home ≡ region.old.home }
     ensures listed { Listed region.new.bytes lists.new.heads (elements_in region.new.bytes) (result ∷ []) }
     ensures pieces { Replaces e (spare e.offset (start - e.offset) ++ above e start ∷ []) (elements_in region.old.bytes) (elements_in region.new.bytes) }
 {
-    if start - e.offset <= 128 {
+    if start - e.offset <= SLACK {
         return e;
     }
     let (spare, rest) = cut(region, &e, start);
@@ -104,8 +109,8 @@ pub(crate) fn take(region: &mut Region, lists: &mut Lists, e: Element, at: u32, 
     requires heap { IsHeap region.old × IsIn e (elements_in region.old.bytes) }
     requires free { e.state ≡ State.Free }
     requires listed { Listed region.old.bytes lists.old.heads (elements_in region.old.bytes) [] }
-    requires inside { (0 < len) × (e.offset + 64 ≤ at) × (at + len ≤ end_of e) }
-    requires steps { (at % 64 ≡ 0) × (len % 64 ≡ 0) }
+    requires inside { (0 < len) × (e.offset + header_len ≤ at) × (at + len ≤ end_of e) }
+    requires steps { (at % cache_line ≡ 0) × (len % cache_line ≡ 0) }
     ensures block { (result.home ≡ region.old.home) × (result.offset ≡ at) × (length result.bytes ≡ len) }
     ensures heap { IsHeap region.new }
     ensures home { region.new.home ≡ region.old.home }
@@ -114,7 +119,7 @@ pub(crate) fn take(region: &mut Region, lists: &mut Lists, e: Element, at: u32, 
 {
     lists.leave(region, &e);
     let low = trim_end(region, lists, e, at + len);
-    let mid = trim_start(region, lists, low, at - 64);
+    let mid = trim_start(region, lists, low, at - HEADER_LEN);
     mark(region, &mid, at, len)
 }
 
@@ -130,7 +135,7 @@ pub(crate) fn unmark(region: &mut Region, block: Block) -> Element
     let at = block.offset();
     region.reclaim(block);
     let pad = read_pad(region, at);
-    let e = read_header(region, at - 64 - pad);
+    let e = read_header(region, at - HEADER_LEN - pad);
     write_header(region, e.offset, e.size, State::Free, 0);
     Element {
         state: State::Free,
@@ -197,7 +202,7 @@ pub(crate) fn join_below(region: &mut Region, lists: &mut Lists, e: Element) -> 
     if e.offset == 0 {
         return e;
     }
-    let size = region.load_u32(e.offset + 12);
+    let size = region.load_u32(e.offset + BACK);
     let below = read_header(region, e.offset - size);
     if let State::Free = below.state {
         lists.leave(region, &below);

@@ -1,9 +1,10 @@
 -- Pools of objects.
-use Rattle.std.specs.Prelude.{◌≡◌, refl, ℕ, zero, suc, ◌+◌, ◌*◌, ◌/◌, ◌<◌, ◌≤◌, Bool, false, List, [], ◌∷◌, ◌++◌, take, drop, length, slice_get, slice_index}
-use Rattle.std.specs.Prelude.{slice_index_or, slice_set, Some, unwrap_or}
+use Rattle.std.specs.Prelude.{◌≡◌, refl, ℕ, zero, suc, ◌+◌, ◌-◌, ◌*◌, ◌/◌, ◌<◌, ◌≤◌, Bool, false, List, [], ◌∷◌, ◌++◌, take, drop, length, slice_get}
+use Rattle.std.specs.Prelude.{slice_index, slice_index_or, slice_set, Some, unwrap_or}
 use Rattle.std.specs.Coded.{Coded, code_by, coded×, coded_list, coded_ℕ, coded_bool}
 use Rattle.dp_region.specs.Ownership.{Home, home_code}
 use Rattle.dp_region.specs.Spans.{bytes_in, refilled}
+use Rattle.dp_region.specs.Region.{cache_line}
 use Rattle.dp_pool.specs.Queues.{in_count, taken, back, cached_after_get, cached_after_put}
 
 -- the zones in which a pool stands: the region, and the name and the offset of the objects' zone and of the queue's
@@ -76,21 +77,31 @@ abbrev pub all_back : PoolView → List ℕ → PoolView
 all_back p [] = p
 all_back p (i ∷ is) = all_back (put_back p i) is
 
+-- the most objects of a pool, the bytes of the largest, and the most indexes that a cache is for
+abbrev pub most_objects : ℕ
+most_objects = 65535
+
+abbrev pub largest_object : ℕ
+largest_object = 4224
+
+abbrev pub largest_cache : ℕ
+largest_cache = 512
+
 -- true of every pool
 pub record IsPool (p : PoolView) : Type 0 where
   pub some : 1 ≤ length p.objects
-  pub count : length p.objects ≤ 65535
+  pub count : length p.objects ≤ most_objects
   pub out : length p.out ≡ length p.objects
   pub sizes : (i : ℕ) → i < length p.objects → length (object_in p i) ≡ p.size
   pub bytes : (i k : ℕ) → slice_index (object_in p i) k < 256
-  pub size : (1 ≤ p.size) × (p.size ≤ 4224)
-  pub cache : (p.cache ≤ 512) × (3 * p.cache ≤ 2 * length p.objects)
+  pub size : (1 ≤ p.size) × (p.size ≤ largest_object)
+  pub cache : (p.cache ≤ largest_cache) × (3 * p.cache ≤ 2 * length p.objects)
 
 -- ---- how the objects stand in their zone
 
 -- what an object of a size takes
 abbrev pub stride_of : ℕ → ℕ
-stride_of size = (size + 63) / 64 * 64
+stride_of size = (size + (cache_line - 1)) / cache_line * cache_line
 
 -- the n objects of a size from an offset on
 abbrev pub objects_from : List ℕ → ℕ → ℕ → ℕ → List (List ℕ)

@@ -8,13 +8,13 @@ use thiserror::Error;
 /// Why a pool is not made: the first of these that applies.
 #[derive(Clone, Copy, Debug, PartialEq, Eq, Drop, Error)]
 pub enum PoolError {
-    /// There would be no objects, or more than 65,535.
+    /// There would be no objects, or more than `MOST_OBJECTS`.
     #[error("bad number of objects")]
     BadCount,
-    /// An object would have no bytes, or more than 4,224.
+    /// An object would have no bytes, or more than `LARGEST_OBJECT`.
     #[error("bad object size")]
     BadSize,
-    /// The cache would be for more than 512 indexes, or for more than two thirds of the objects.
+    /// The cache would be for more than `LARGEST_CACHE` indexes, or for more than two thirds of the objects.
     #[error("bad cache size")]
     BadCache,
     /// The zone of the objects or that of the queue is refused.

@@ -4,18 +4,21 @@ ghost use Rattle.std.specs.Prelude.{◌≡◌, ℕ, ◌+◌, ◌-◌, ◌*◌, �
 ghost use Rattle.std.specs.Prelude.{MatchOption, Some, slice_get, slice_set, count_by, replicate, ◌==◌};
 ghost use Rattle.std.specs.List.{list_any};
 ghost use Rattle.dp_pool.specs.Once.{upto};
-ghost use Rattle.dp_pool.specs.Pools.{is_out_in};
+ghost use Rattle.dp_pool.specs.Pools.{most_objects, largest_cache, is_out_in};
 ghost use Rattle.dp_ring.specs.Rings.{room_in, with_more, without_first};
-ghost use Rattle.dp_pool.specs.Queues.{in_count, taken, back, cached_after_get, cached_after_put, AreHanded, AreOut, all_returned};
+ghost use Rattle.dp_pool.specs.Queues.{most_cached, in_count, taken, back, cached_after_get, cached_after_put, AreHanded, AreOut, all_returned};
 
 use arrayvec::ArrayVec;
 use dp_ring::Ring;
 use std::marker::Model;
 
+/// The most indexes in a cache: half as many again as the largest is for, as DPDK flushes one at 1.5 times its size.
+const MOST_CACHED: usize = 768;
+
 /// The indexes below a number, of which each is in or out. Those that are in stand in the queue or in the cache.
 pub(crate) struct Indexes {
     queue: Ring,
-    cached: ArrayVec<u32, 768>,
+    cached: ArrayVec<u32, MOST_CACHED>,
     // How many the cache is for.
     cache: u32,
     // How many indexes there are.
@@ -23,8 +26,9 @@ pub(crate) struct Indexes {
 }
 
 impl Model for Indexes {
-    ghost use Rattle.std.specs.Prelude.{◌≡◌, ◌<◌, ◌≤◌, ◌++◌, length};
-    ghost use Rattle.dp_pool.specs.Queues.{IndexView, index_code};
+    ghost use Rattle.std.specs.Prelude.{◌≡◌, ◌-◌, ◌<◌, ◌≤◌, ◌++◌, length};
+    ghost use Rattle.dp_pool.specs.Pools.{most_objects, largest_cache};
+    ghost use Rattle.dp_pool.specs.Queues.{most_cached, IndexView, index_code};
     ghost use Rattle.dp_pool.specs.Once.{absent, AreOnce};
 
     ghost Value = { IndexView };
@@ -41,15 +45,15 @@ impl Model for Indexes {
       len = v.queue.len;
     } };
 
-    ghost invariant = { λ v. AreOnce v.count (v.cached.items ++ v.queue.entries) × (v.count < v.queue.count) × (v.cache ≤ 512) × (length v.cached.items ≤ 767)
-        × (v.cache ≡ 0 → length v.cached.items ≡ 0) × (v.count ≤ 65535) };
+    ghost invariant = { λ v. AreOnce v.count (v.cached.items ++ v.queue.entries) × (v.count < v.queue.count) × (v.cache ≤ largest_cache)
+        × (length v.cached.items ≤ most_cached - 1) × (v.cache ≡ 0 → length v.cached.items ≡ 0) × (v.count ≤ most_objects) };
 }
 
 // Moves the first indexes of the queue to the end of the cache.
 #[inline(never)]
-fn move_in(queue: &mut Ring, cached: &mut ArrayVec<u32, 768>, number: u32)
+fn move_in(queue: &mut Ring, cached: &mut ArrayVec<u32, MOST_CACHED>, number: u32)
     requires there { number ≤ length queue.old.entries }
-    requires room { length cached.old.items + number ≤ 768 }
+    requires room { length cached.old.items + number ≤ most_cached }
     ensures cached { cached.new.items ≡ cached.old.items ++ take number queue.old.entries }
     ensures queue { queue.new ≡ without_first queue.old number }
 {
@@ -62,7 +66,7 @@ fn move_in(queue: &mut Ring, cached: &mut ArrayVec<u32, 768>, number: u32)
 
 // Moves all that the cache holds beyond a number to the end of the queue.
 #[inline(never)]
-fn move_out(queue: &mut Ring, cached: &mut ArrayVec<u32, 768>, keep: usize)
+fn move_out(queue: &mut Ring, cached: &mut ArrayVec<u32, MOST_CACHED>, keep: usize)
     requires some { keep ≤ length cached.old.items }
     requires room { length cached.old.items ≤ keep + room_in queue.old }
     ensures cached { cached.new.items ≡ take keep cached.old.items }
@@ -74,8 +78,8 @@ fn move_out(queue: &mut Ring, cached: &mut ArrayVec<u32, 768>, keep: usize)
 
 // Puts indexes at the end of the cache.
 #[inline(always)]
-fn extend(cached: &mut ArrayVec<u32, 768>, indexes: &[u32])
-    requires { length cached.old.items + length indexes.now ≤ 768 }
+fn extend(cached: &mut ArrayVec<u32, MOST_CACHED>, indexes: &[u32])
+    requires { length cached.old.items + length indexes.now ≤ most_cached }
     ensures { cached.new.items ≡ cached.old.items ++ indexes.now }
 {
     let _ = cached.try_extend_from_slice(indexes);
@@ -104,7 +108,7 @@ impl Indexes {
     pub(crate) fn over(queue: Ring, count: u32, cache: u32) -> Indexes
         requires empty { queue.entries ≡ [] }
         requires room { count < queue.count }
-        requires limits { (count ≤ 65535) × (cache ≤ 512) }
+        requires limits { (count ≤ most_objects) × (cache ≤ largest_cache) }
         ensures { result ≡ record {
           cache = cache;
           cached = 0;

@@ -6,13 +6,24 @@ ghost use Rattle.std.specs.Prelude.{◌⊎◌};
 ghost use Rattle.std.specs.Int.{IsNextPowerOfTwo};
 ghost use Rattle.dp_heap.specs.Elements.{rounded, merged, IsOut, count_of, is_busy};
 ghost use Rattle.dp_zone.specs.Zones.{IsZoneRefused, without_name};
-ghost use Rattle.dp_pool.specs.Pools.{stride_of};
+ghost use Rattle.dp_ring.specs.Rings.{most_slots};
+ghost use Rattle.dp_pool.specs.Pools.{most_objects, largest_object, stride_of};
 ghost use Rattle.dp_pool.specs.Making.{IsPoolCount, IsObjectSize, IsCacheSize, object_name, queue_name, Reserves, IsPoolRefused, IsMade};
 
 use crate::error::PoolError;
 use arrayvec::ArrayString;
 use dp_heap::Heap;
+use dp_region::CACHE_LINE;
 use dp_zone::{Zone, ZoneError, Zones};
+
+/// The most objects of a pool: as many as have indexes of 2 bytes in the header of an mbuf, but for one.
+pub const MOST_OBJECTS: u32 = 65_535;
+
+/// The bytes of the largest object: the header of an mbuf and 4,096 of data.
+pub const LARGEST_OBJECT: u32 = 4224;
+
+/// The most indexes that a cache is for: DPDK's `RTE_MEMPOOL_CACHE_MAX_SIZE`.
+pub const LARGEST_CACHE: u32 = 512;
 
 // The name of a zone of the pool of that name, if it is short enough for a zone.
 fn with_suffix(name: &str, suffix: &str) -> Option<ArrayString<32>>
@@ -36,13 +47,13 @@ pub(crate) fn refused_numbers(count: u32, size: u32, cache: u32) -> Option<PoolE
         ⊎ (e ≡ PoolError.BadCache × IsPoolCount count × IsObjectSize size × ¬ IsCacheSize count cache))) }
     ensures none { IfNone result (IsPoolCount count × IsObjectSize size × IsCacheSize count cache) }
 {
-    if count == 0 || count > 65_535 {
+    if count == 0 || count > MOST_OBJECTS {
         return Some(PoolError::BadCount);
     }
-    if size == 0 || size > 4_224 {
+    if size == 0 || size > LARGEST_OBJECT {
         return Some(PoolError::BadSize);
     }
-    if cache > 512 || 3 * cache > 2 * count {
+    if cache > LARGEST_CACHE || 3 * cache > 2 * count {
         return Some(PoolError::BadCache);
     }
     None
@@ -50,17 +61,17 @@ pub(crate) fn refused_numbers(count: u32, size: u32, cache: u32) -> Option<PoolE
 
 // What an object takes.
 pub(crate) fn stride_of(size: u32) -> u32
-    requires { size ≤ 4224 }
+    requires { size ≤ largest_object }
     ensures { result ≡ stride_of size }
 {
-    (size + 63) / 64 * 64
+    (size + (CACHE_LINE - 1)) / CACHE_LINE * CACHE_LINE
 }
 
 // How many slots the queue has: the smallest power of two above the number of objects.
 pub(crate) fn queue_count(count: u32) -> u32
-    requires { (1 ≤ count) × (count ≤ 65535) }
+    requires { (1 ≤ count) × (count ≤ most_objects) }
     ensures next { IsNextPowerOfTwo (count + 1) result }
-    ensures bound { (count < result) × (result ≤ 65536) }
+    ensures bound { (count < result) × (result ≤ most_slots) }
 {
     (count + 1).next_power_of_two()
 }

@@ -8,7 +8,8 @@ ghost use Rattle.dp_zone.specs.Zones.{without_name};
 ghost use Rattle.dp_pool.specs.Making.{IsPoolCount, IsObjectSize, IsCacheSize, IsPoolRefused, IsMade};
 ghost use Rattle.dp_pool.specs.Queues.{in_count, AreOut};
 ghost use Rattle.dp_pool.specs.Pools.{IsPool, AreGot, object_offset, stride_of, object_in, with_object, with_written, with_left, is_out_in, got, put_back};
-ghost use Rattle.dp_pool.specs.Pools.{all_back};
+ghost use Rattle.dp_ring.specs.Rings.{most_slots};
+ghost use Rattle.dp_pool.specs.Pools.{most_objects, largest_object, all_back};
 ghost use Rattle.dp_pool.specs.contracts.pool.Pool.{the_row};
 
 use crate::error::PoolError;
@@ -41,7 +42,7 @@ struct Numbers {
 
 impl Model for Pool {
     ghost use Rattle.std.specs.Prelude.{◌≡◌, ◌*◌, ◌≤◌, length};
-    ghost use Rattle.dp_pool.specs.Pools.{PoolView, PoolZones, pool_code, objects_from, stride_of};
+    ghost use Rattle.dp_pool.specs.Pools.{most_objects, largest_object, largest_cache, PoolView, PoolZones, pool_code, objects_from, stride_of};
 
     ghost Value = { PoolView };
 
@@ -53,12 +54,18 @@ impl Model for Pool {
       cached = p.indexes.cached;
       objects = objects_from p.objects.bytes p.size 0 p.count;
       out = p.indexes.out;
-      zones = record { home = p.objects.home; object_name = p.objects.name; object_offset = p.objects.offset; queue_name = p.indexes.name; queue_offset = p.indexes.offset };
+      zones = record {
+        home = p.objects.home;
+        object_name = p.objects.name;
+        object_offset = p.objects.offset;
+        queue_name = p.indexes.name;
+        queue_offset = p.indexes.offset;
+      };
     } };
 
-    ghost invariant = { λ p. (length p.indexes.out ≡ p.count) × (1 ≤ p.count) × (p.count ≤ 65535) × (1 ≤ p.size) × (p.size ≤ 4224)
+    ghost invariant = { λ p. (length p.indexes.out ≡ p.count) × (1 ≤ p.count) × (p.count ≤ most_objects) × (1 ≤ p.size) × (p.size ≤ largest_object)
         × (p.stride ≡ stride_of p.size) × (p.count * stride_of p.size ≤ length p.objects.bytes) × (p.indexes.home ≡ p.objects.home)
-        × (p.indexes.cache ≤ 512) × (3 * p.indexes.cache ≤ 2 * p.count) };
+        × (p.indexes.cache ≤ largest_cache) × (3 * p.indexes.cache ≤ 2 * p.count) };
 }
 
 // Where an object begins in the zone of so many, each of which takes so many bytes.
@@ -66,10 +73,10 @@ impl Model for Pool {
 #[tactic(auto, using(crate::proofs::Pools::offset_is, crate::proofs::Pools::offset_ends))]
 fn offset_of(index: u32, count: u32, size: u32, stride: u32) -> u32
     requires there { index < count }
-    requires limits { (count ≤ 65535) × (size ≤ 4224) × (stride ≡ stride_of size) }
+    requires limits { (count ≤ most_objects) × (size ≤ largest_object) × (stride ≡ stride_of size) }
     ensures value { result ≡ object_offset size 0 index }
     ensures end { result + stride_of size ≤ count * stride_of size }
-    ensures bound { result ≤ 276819840 }
+    ensures bound { result ≤ most_objects * largest_object }
 {
     index * stride
 }
@@ -86,7 +93,7 @@ impl Pool {
     fn over(objects: Zone, queue: Zone, numbers: Numbers) -> Pool
         requires numbers { IsPoolCount numbers.count × IsObjectSize numbers.size × IsCacheSize numbers.count numbers.cache }
         requires room { numbers.count * stride_of numbers.size ≤ length objects.bytes }
-        requires slots { (numbers.count < numbers.slots) × (numbers.slots ≤ 65536) × (4 * numbers.slots ≤ length queue.bytes) }
+        requires slots { (numbers.count < numbers.slots) × (numbers.slots ≤ most_slots) × (4 * numbers.slots ≤ length queue.bytes) }
         requires home { queue.home ≡ objects.home }
         ensures numbers { (result.size ≡ numbers.size) × (result.cache ≡ numbers.cache) × (result.cached ≡ 0) × (length result.objects ≡ numbers.count)
             × (result.out ≡ replicate numbers.count false) }
@@ -108,8 +115,8 @@ impl Pool {
         }
     }
 
-    /// A pool of `count` objects (1 to 65,535) of `size` bytes (1 to 4,224), all of them in, with a cache for `cache`
-    /// indexes (at most 512 and at most two thirds of the objects). It reserves the zones `NAME.obj` and `NAME.ring`. An
+    /// A pool of `count` objects (1 to `MOST_OBJECTS`) of `size` bytes (1 to `LARGEST_OBJECT`), all of them in, with a cache for
+    /// `cache` indexes (at most `LARGEST_CACHE` and at most two thirds of the objects). It reserves the zones `NAME.obj` and `NAME.ring`. An
     /// error is the first that applies, and then zones and elements are as before.
     pub fn make(
         heap: &mut Heap,
@@ -154,7 +161,10 @@ impl Pool {
     pub fn unmake(self, heap: &mut Heap, zones: &mut Zones)
         requires { self.zones.home ≡ heap.old.home }
         ensures table { zones.new ≡ without_name self.zones.object_name (without_name self.zones.queue_name zones.old) }
-        ensures heap { heap.new ≡ record { home = heap.old.home; elements = merged self.zones.object_offset (merged self.zones.queue_offset heap.old.elements) } }
+        ensures heap { heap.new ≡ record {
+          home = heap.old.home;
+          elements = merged self.zones.object_offset (merged self.zones.queue_offset heap.old.elements);
+        } }
         ensures counted { count_of is_busy heap.new.elements + 2 ≡ count_of is_busy heap.old.elements }
     {
         let Pool {

@@ -29,9 +29,20 @@ block_code =
     code_by (Home × (ℕ × List ℕ)) (coded× home_code (coded× coded_ℕ (coded_list coded_ℕ)))
     (λ b. (b.home, (b.offset, b.bytes))) (λ p. record { home = p.0; offset = p.1.0; bytes = p.1.1 }) (λ _. refl)
 
+-- the bytes of a cache line: a region is a multiple of it
+abbrev pub cache_line : ℕ
+cache_line = 64
+
+-- the bytes of the smallest region and of the largest
+abbrev pub least_region : ℕ
+least_region = 4096
+
+abbrev pub largest_region : ℕ
+largest_region = 1073741824
+
 -- a size that a region may have
 abbrev pub IsRegionSize : ℕ → Type 0
-IsRegionSize n = (4096 ≤ n) × (n ≤ 1073741824) × (n % 64 ≡ 0)
+IsRegionSize n = (least_region ≤ n) × (n ≤ largest_region) × (n % cache_line ≡ 0)
 
 -- the n bytes at p are in the region, and none of them is lent
 abbrev pub IsFree : RegionView → ℕ → ℕ → Type 0

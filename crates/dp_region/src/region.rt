@@ -12,6 +12,15 @@ use std::alloc::Global;
 use std::marker::Model;
 use thiserror::Error;
 
+/// The bytes of a cache line, as DPDK's `RTE_CACHE_LINE_SIZE`: a region is a multiple of it.
+pub const CACHE_LINE: u32 = 64;
+
+/// The bytes of the smallest region.
+pub const LEAST_REGION: u32 = 4096;
+
+/// The bytes of the largest region.
+pub const LARGEST_REGION: u32 = 1_073_741_824;
+
 /// The memory for a region was refused.
 #[derive(Clone, Copy, Debug, PartialEq, Eq, Error)]
 #[error("out of memory")]
@@ -41,7 +50,8 @@ impl Model for Region {
 }
 
 impl Region {
-    /// A region of `size` bytes, all 0: a multiple of 64, 4,096 to 1,073,741,824. `Memory` where that much is not to be had.
+    /// A region of `size` bytes, all 0: a multiple of `CACHE_LINE`, from `LEAST_REGION` to `LARGEST_REGION`. `Memory` where that much
+    /// is not to be had.
     pub fn new(alloc: Global, size: u32) -> Result<Region, Memory>
         requires { IsRegionSize size }
         ensures { IfOk result (λ r. (r.bytes ≡ replicate size 0) × (r.lent ≡ [])) }

@@ -23,9 +23,13 @@ ring_code =
     (λ r. (r.count, (r.entries, (r.name, (r.home, (r.offset, r.len))))))
     (λ p. record { count = p.0; entries = p.1.0; name = p.1.1.0; home = p.1.1.1.0; offset = p.1.1.1.1.0; len = p.1.1.1.1.1 }) (λ _. refl)
 
+-- the most slots of a ring
+abbrev pub most_slots : ℕ
+most_slots = 65536
+
 -- how many slots a ring may have. Nothing here rests on its being a power of two, as DPDK's rings want it
 abbrev pub IsCount : ℕ → Type 0
-IsCount n = (2 ≤ n) × (n ≤ 65536)
+IsCount n = (2 ≤ n) × (n ≤ most_slots)
 
 -- a ring without entries in a zone
 abbrev pub empty_over : ZoneView → ℕ → RingView

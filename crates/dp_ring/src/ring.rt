@@ -3,7 +3,7 @@
 ghost use Rattle.std.specs.Prelude.{◌≡◌, ℕ, ◌+◌, ◌-◌, ◌*◌, ◌<◌, ◌≤◌, ◌⊎◌, ◌++◌, [], ◌∷◌, length, take, drop, min, nat_lt, nat_le, if◌then◌else◌, slice_get};
 ghost use Rattle.std.specs.Prelude.{Some, None, MatchOption, ◌==◌};
 ghost use Rattle.std.specs.List.{list_any};
-ghost use Rattle.dp_ring.specs.Rings.{IsCount, empty_over, room_in, with_more, without_first, slot_behind, next_slot};
+ghost use Rattle.dp_ring.specs.Rings.{most_slots, IsCount, empty_over, room_in, with_more, without_first, slot_behind, next_slot};
 
 use crate::runs::{load_one, load_run, store_one, store_run};
 use dp_zone::Zone;
@@ -23,7 +23,7 @@ pub struct Ring {
 impl Model for Ring {
     ghost use Rattle.std.specs.Prelude.{◌*◌, ◌<◌, ◌≤◌, length};
     ghost use Rattle.std.specs.List.{list_any};
-    ghost use Rattle.dp_ring.specs.Rings.{RingView, ring_code, entries_from};
+    ghost use Rattle.dp_ring.specs.Rings.{most_slots, RingView, ring_code, entries_from};
 
     ghost Value = { RingView };
 
@@ -38,13 +38,13 @@ impl Model for Ring {
       len = length r.zone.bytes;
     } };
 
-    ghost invariant = { λ r. (r.first < r.count) × (r.used < r.count) × (r.count ≤ 65536) × (4 * r.count ≤ length r.zone.bytes) };
+    ghost invariant = { λ r. (r.first < r.count) × (r.used < r.count) × (r.count ≤ most_slots) × (4 * r.count ≤ length r.zone.bytes) };
 }
 
 // The slot that is so far behind one.
 #[inline(always)]
 fn slot_behind(count: u32, first: u32, n: u32) -> u32
-    requires { (first < count) × (n < count) × (count ≤ 65536) }
+    requires { (first < count) × (n < count) × (count ≤ most_slots) }
     ensures value { result ≡ slot_behind count first n }
     ensures bound { result < count }
 {
@@ -59,7 +59,7 @@ fn slot_behind(count: u32, first: u32, n: u32) -> u32
 // The slot behind one.
 #[inline(always)]
 fn next_slot(count: u32, slot: u32) -> u32
-    requires { (slot < count) × (count ≤ 65536) }
+    requires { (slot < count) × (count ≤ most_slots) }
     ensures value { result ≡ next_slot count slot }
     ensures bound { result < count }
 {

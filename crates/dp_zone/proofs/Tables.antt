@@ -21,7 +21,8 @@ pub zone_named_entry : (name : List ℕ) (entries : List Entry) → option_map e
 zone_named_entry name [] = refl
 zone_named_entry name (e ∷ entries) = by (same_name e.name.bytes name) (find (λ x. same_name x.name.bytes name) entries) (zone_named name (table_of entries))
     (zone_named_entry name entries) where
-      by : (b : Bool) (x : Option Entry) (y : Option Reserved) → option_map entry_of x ≡ y → option_map entry_of (cond b (Some e) x) ≡ cond b (Some (entry_of e)) y
+      by : (b : Bool) (x : Option Entry) (y : Option Reserved) → option_map entry_of x ≡ y →
+          option_map entry_of (cond b (Some e) x) ≡ cond b (Some (entry_of e)) y
       by true x y is = refl
       by false x y is = is
 

@@ -4,6 +4,7 @@ use Rattle.std.specs.List.{list_any}
 use Rattle.std.specs.Coded.{Coded, code_by, coded×, coded_list, coded_ℕ}
 use Rattle.dp_region.specs.Ownership.{Home, home_code}
 use Rattle.dp_region.specs.Spans.{refilled, overlaid}
+use Rattle.dp_region.specs.Region.{largest_region}
 use Rattle.dp_heap.specs.declared.elements.Element.{Element}
 use Rattle.dp_heap.specs.Elements.{rounded, alignment, NothingFits}
 use Rattle.dp_heap.specs.Refusals.{IsAlign}
@@ -64,9 +65,13 @@ abbrev pub AreApart : List Reserved → Type 0
 AreApart [] = Unit {0}
 AreApart (r ∷ rs) = (has_name r.name rs ≡ false) × AreApart rs
 
+-- the most zones of a table
+abbrev pub most_zones : ℕ
+most_zones = 64
+
 -- what every table is
 pub record IsZoneTable (table : List Reserved) : Type 0 where
-  pub few : length table ≤ 64
+  pub few : length table ≤ most_zones
   pub apart : AreApart table
 
 -- what a look-up tells of it
@@ -75,7 +80,7 @@ info_of r = record { offset = r.offset; len = r.len }
 
 -- a length that a zone may have
 abbrev pub IsLength : ℕ → Type 0
-IsLength len = (0 < len) × (len ≤ 1073741824)
+IsLength len = (0 < len) × (len ≤ largest_region)
 
 -- a request is refused by this error: none of the earlier ones applies
 abbrev pub IsZoneRefused : ZoneError → List ℕ → ℕ → ℕ → List Reserved → List Element → Type 0
@@ -84,9 +89,9 @@ IsZoneRefused BadLength name len align table es = (is_name name ≡ true) × ¬ 
 IsZoneRefused BadAlign name len align table es = (is_name name ≡ true) × IsLength len × ¬ IsAlign align
 IsZoneRefused Exists name len align table es = (is_name name ≡ true) × IsLength len × IsAlign align × (has_name name table ≡ true)
 IsZoneRefused Full name len align table es =
-    (is_name name ≡ true) × IsLength len × IsAlign align × (has_name name table ≡ false) × (length table ≡ 64)
+    (is_name name ≡ true) × IsLength len × IsAlign align × (has_name name table ≡ false) × (length table ≡ most_zones)
 IsZoneRefused NoRoom name len align table es =
-    (is_name name ≡ true) × IsLength len × IsAlign align × (has_name name table ≡ false) × (length table < 64)
+    (is_name name ≡ true) × IsLength len × IsAlign align × (has_name name table ≡ false) × (length table < most_zones)
     × NothingFits (rounded len) (alignment align) es
 
 -- the number of a cause
@@ -104,4 +109,4 @@ pub record IsReservable (name : List ℕ) (len align : ℕ) (table : List Reserv
   pub length_fits : IsLength len
   pub aligned : IsAlign align
   pub fresh : has_name name table ≡ false
-  pub room : length table < 64
+  pub room : length table < most_zones

@@ -7,10 +7,10 @@ use thiserror::Error;
 /// Why a zone is not reserved: the first of these that applies.
 #[derive(Clone, Copy, Debug, PartialEq, Eq, Drop, Error)]
 pub enum ZoneError {
-    /// The name has not 1 to 31 characters, or one of them is not from 33 to 126.
+    /// The name has no character or more than `LONGEST_NAME`, or one of them is not from 33 to 126.
     #[error("bad zone name")]
     BadName,
-    /// The length is 0 or above 1,073,741,824.
+    /// The length is 0 or above `dp_region::LARGEST_REGION`.
     #[error("bad zone length")]
     BadLength,
     /// The alignment is neither 0 nor a power of two.
@@ -19,7 +19,7 @@ pub enum ZoneError {
     /// There is a zone of that name.
     #[error("the zone exists")]
     Exists,
-    /// There are 64 zones.
+    /// There are `MOST_ZONES` zones.
     #[error("too many zones")]
     Full,
     /// No free part of the heap is large enough.

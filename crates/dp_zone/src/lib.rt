@@ -7,6 +7,6 @@ mod zone;
 mod zones;
 
 pub use error::ZoneError;
-pub use name::ZoneName;
+pub use name::{LONGEST_NAME, ZoneName};
 pub use zone::Zone;
-pub use zones::{ZoneInfo, Zones};
+pub use zones::{MOST_ZONES, ZoneInfo, Zones};

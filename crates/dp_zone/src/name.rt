@@ -7,10 +7,13 @@ ghost use Rattle.dp_zone.specs.Names.{is_name, same_name};
 use arrayvec::ArrayString;
 use std::marker::Model;
 
-/// The name of a zone: 1 to 31 visible ASCII characters, without blanks.
+/// The most characters of a zone's name, one fewer than DPDK's `RTE_MEMZONE_NAMESIZE`, which counts the end of the text.
+pub const LONGEST_NAME: usize = 31;
+
+/// The name of a zone: 1 to `LONGEST_NAME` visible ASCII characters, without blanks.
 #[derive(Drop)]
 pub struct ZoneName {
-    text: ArrayString<31>,
+    text: ArrayString<LONGEST_NAME>,
 }
 
 impl Model for ZoneName {
@@ -35,7 +38,7 @@ fn are_visible(bytes: &[u8]) -> bool
 pub(crate) fn is_name(text: &str) -> bool
     ensures { result ≡ is_name text.now }
 {
-    !text.is_empty() && text.len() <= 31 && are_visible(text.as_bytes())
+    !text.is_empty() && text.len() <= LONGEST_NAME && are_visible(text.as_bytes())
 }
 
 impl ZoneName {
@@ -60,7 +63,7 @@ impl ZoneName {
     }
 
     // Its text, in room of its own.
-    pub(crate) fn text(&self) -> ArrayString<31>
+    pub(crate) fn text(&self) -> ArrayString<LONGEST_NAME>
         ensures { result.bytes ≡ self.now }
     {
         self.text

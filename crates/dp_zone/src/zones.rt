@@ -10,17 +10,15 @@ ghost use Rattle.dp_zone.specs.Entries.{table_of};
 ghost use Rattle.dp_zone.specs.Zones.{Reserved, info_of, reserved_of, is_named, has_name, zone_named, without_name, IsZoneRefused, IsReservable, IsZoneTable};
 
 use crate::error::ZoneError;
-use crate::name::{ZoneName, is_name};
+use crate::name::{LONGEST_NAME, ZoneName, is_name};
 use crate::zone::Zone;
 use arrayvec::{ArrayString, ArrayVec};
 use dp_heap::{Heap, HeapError};
+use dp_region::LARGEST_REGION;
 use std::marker::Model;
 
-/// The most zones of a table.
-const MOST: usize = 64;
-
-/// The longest zone, in bytes.
-const LONGEST: u32 = 1_073_741_824;
+/// The most zones of a table. DPDK has 2,560, `RTE_MAX_MEMZONE`.
+pub const MOST_ZONES: usize = 64;
 
 /// Where a zone is: its offset, in bytes from the region's start, and how many bytes it has.
 #[derive(Clone, Copy, Debug, PartialEq, Eq)]
@@ -32,7 +30,7 @@ pub struct ZoneInfo {
 // What the table knows of a zone.
 #[derive(Clone, Copy, Default, Drop)]
 struct Entry {
-    name: ArrayString<31>,
+    name: ArrayString<LONGEST_NAME>,
     offset: u32,
     len: u32,
 }
@@ -67,10 +65,10 @@ fn entry_named(entries: &[Entry], name: &str) -> Option<Entry>
     entries.iter().copied().find(|e| e.is(name))
 }
 
-/// A table of at most 64 zones, each with a name of its own.
+/// A table of at most `MOST_ZONES` zones, each with a name of its own.
 #[derive(Drop)]
 pub struct Zones {
-    entries: ArrayVec<Entry, 64>,
+    entries: ArrayVec<Entry, MOST_ZONES>,
 }
 
 impl Model for Zones {
@@ -95,7 +93,7 @@ impl Zones {
         }
     }
 
-    /// How many zones there are: at most 64, each of a name of its own.
+    /// How many zones there are: at most `MOST_ZONES`, each of a name of its own.
     pub fn count(&self) -> usize
         ensures value { result ≡ length self.now }
         ensures table { IsZoneTable self.now }
@@ -133,7 +131,7 @@ impl Zones {
         if !is_name(name) {
             return Some(ZoneError::BadName);
         }
-        if len == 0 || len > LONGEST {
+        if len == 0 || len > LARGEST_REGION {
             return Some(ZoneError::BadLength);
         }
         if align != 0 && !align.is_power_of_two() {
@@ -142,7 +140,7 @@ impl Zones {
         if self.has(name) {
             return Some(ZoneError::Exists);
         }
-        if self.entries.len() == MOST {
+        if self.entries.len() == MOST_ZONES {
             return Some(ZoneError::Full);
         }
         None
@@ -158,7 +156,7 @@ impl Zones {
         }
     }
 
-    /// A new zone of that name: `len` bytes, rounded up to 64, aligned to `align` (0 counts as 64). It begins with the
+    /// A new zone of that name: `len` bytes, rounded up to cache lines, aligned to `align` (0 counts as one). It begins with the
     /// bytes that were there. An error is the first that applies, and then nothing has changed.
     pub fn reserve(
         &mut self,
