@@ -1,2 +1,3 @@
+-- The lemma files.
 pub mod Objects
 pub mod Packets

@@ -166,7 +166,7 @@ new_room p v new size = ap (λ ps. room_at ps 0) new.pools_are ∙ ap (λ n. n -
 pub new_none : (p : PoolView) (v v' : MbufsView) → IsNew (one_of p) v → v'.store.slots ≡ v.store.slots → HasNone v'.store
 new_none p v v' new e h = ap (λ l. slice_index_or l h None) (e ∙ new.empty) ∙ no_slot (65536 * length v.store.pools) h
 
--- the only pool that comes back stands in the first place
+-- the only pool that comes back stands in the first slot
 
 all_none : (xs : List (Option PoolView)) → AllByRecursion (λ o. o ≡ None) xs → xs ≡ replicate (length xs) None
 all_none [] all = refl

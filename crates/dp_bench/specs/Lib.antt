@@ -1,1 +1,2 @@
+-- What the contracts of the rounds name.
 pub mod Mbufs

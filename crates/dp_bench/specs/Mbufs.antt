@@ -26,17 +26,17 @@ pub record IsReadyPool (region : Home) (p : PoolView) : Type 0 where
   pub all_in : p.out ≡ replicate 400 false
   pub home : p.zones.home ≡ region
 
--- where the place has a pool, it stands in zones of the region
+-- where the slot has a pool, it stands in zones of the region
 abbrev pub IsIn : Home → Option PoolView → Type 0
 IsIn region None = Unit {0}
 IsIn region (Some p) = p.zones.home ≡ region
 
--- in how many zones the place's pool stands
+-- in how many zones the slot's pool stands
 abbrev pub zones_in : Option PoolView → ℕ
 zones_in None = 0
 zones_in (Some p) = 2
 
--- one pool in the first place, in zones of the region
+-- one pool in the first slot, in zones of the region
 abbrev pub IsOnePool : Home → List (Option PoolView) → Type 0
 IsOnePool region pools =
     (p : PoolView) × (p.zones.home ≡ region) × (pools ≡ Some p ∷ None ∷ None ∷ None ∷ None ∷ None ∷ None ∷ None ∷ [])

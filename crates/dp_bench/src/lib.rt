@@ -1,13 +1,13 @@
 //! What the benches in C call. Each call makes a thing in memory of its own, does so many rounds of one operation on it,
-//! gives all back, and says how many rounds did what they should: 0 where there is no memory. The cost of a round is
+//! gives all back, and answers how many rounds did what they should: 0 where there is no memory. The cost of a round is
 //! the difference of two calls, of which only the number of rounds differs.
 #![tactic(auto)]
 
 mod blocks;
 mod heaps;
 mod mbufs;
-mod numbers;
 mod pools;
+mod random;
 mod rings;
 mod routes;
 

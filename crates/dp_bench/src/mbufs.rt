@@ -35,7 +35,7 @@ pub enum Deed {
     Receive,
 }
 
-// Takes a packet and gives it up, and says whether there was one.
+// Takes a packet and gives it up, and answers whether there was one.
 #[inline(never)]
 fn taken(m: &mut Mbufs) -> bool
     requires { 0 < length m.old.store.pools }
@@ -50,7 +50,7 @@ fn taken(m: &mut Mbufs) -> bool
     }
 }
 
-// Takes a clone and gives it up, and says whether there was one.
+// Takes a clone and gives it up, and answers whether there was one.
 #[inline(never)]
 fn cloned(m: &mut Mbufs, packet: &Packet) -> bool
     requires pools { 0 < length m.old.store.pools }
@@ -66,7 +66,7 @@ fn cloned(m: &mut Mbufs, packet: &Packet) -> bool
     }
 }
 
-// Receives bytes into a packet and gives it up, and says whether there was one.
+// Receives bytes into a packet and gives it up, and answers whether there was one.
 #[inline(never)]
 fn received(m: &mut Mbufs, bytes: &[u8; 60]) -> bool
     requires pools { 0 < length m.old.store.pools }
@@ -217,7 +217,7 @@ fn make(heap: &mut Heap, zones: &mut Zones) -> Option<Pool>
     Some(pool)
 }
 
-// Gives the zones of a place's pool back.
+// Gives the zones of a slot's pool back.
 fn unmake_in(slot: Option<Pool>, heap: &mut Heap, zones: &mut Zones)
     requires { IsIn heap.old.home slot }
     ensures home { heap.new.home ≡ heap.old.home }

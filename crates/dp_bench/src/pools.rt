@@ -14,7 +14,7 @@ const OBJECTS: u32 = 8191;
 
 const SIZE: u32 = 64;
 
-// Takes an object and puts it back, and says whether there was one.
+// Takes an object and puts it back, and answers whether there was one.
 #[inline(never)]
 #[tactic(auto, using(crate::proofs::Objects::taken_is_out, crate::proofs::Objects::back_taken))]
 fn pair(pool: &mut Pool) -> bool
@@ -46,7 +46,7 @@ fn pairs(pool: &mut Pool, rounds: u32) -> u32
     served
 }
 
-// Takes 32 objects in one call and puts them back in another, and says whether there were so many.
+// Takes 32 objects in one call and puts them back in another, and answers whether there were so many.
 #[inline(never)]
 fn bulk(pool: &mut Pool, indexes: &mut [u32; 32]) -> bool
     ensures { pool.new.zones ≡ pool.old.zones }

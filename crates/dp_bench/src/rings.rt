@@ -21,7 +21,7 @@ pub enum Way {
     Bulk,
 }
 
-// Puts a number in and takes it out, and says whether it was the same.
+// Puts a number in and takes it out, and answers whether it was the same.
 #[inline(never)]
 fn one(ring: &mut Ring, number: u32) -> bool
     requires empty { ring.old.entries ≡ [] }
@@ -48,7 +48,7 @@ fn one_by_one(ring: &mut Ring, rounds: u32) -> u32
     moved
 }
 
-// Puts 32 numbers in and takes them out, and says whether that was done.
+// Puts 32 numbers in and takes them out, and answers whether that was done.
 #[inline(never)]
 fn bulk(ring: &mut Ring, numbers: &mut [u32; 32]) -> bool
     requires empty { ring.old.entries ≡ [] }

@@ -2,14 +2,9 @@
 ghost use Rattle.std.specs.Prelude.{◌≡◌, ◌+◌, ◌≤◌, is_some};
 ghost use Rattle.dp_model.specs.Prefixes.{hop_for};
 
-use crate::numbers::Numbers;
-use dp_lpm::Lpm;
+use crate::random::Numbers;
+use dp_lpm::{Lpm, MAX_GROUPS, MAX_RULES};
 use std::alloc::Global;
-
-// How many rules a table can hold, and how many groups it has.
-const RULES: u32 = 65_536;
-
-const GROUPS: u32 = 256;
 
 // The first of the numbers of which rules and addresses are made.
 const OF_RULES: u64 = 1;
@@ -98,7 +93,7 @@ fn delete_all(table: &mut Lpm, rules: u32) -> u32
 pub fn found(alloc: Global, rules: u32, addresses: u32, deletes: u32) -> u64
     ensures { result ≤ rules + addresses + deletes }
 {
-    let Ok(mut table) = Lpm::new(alloc, RULES, GROUPS) else {
+    let Ok(mut table) = Lpm::new(alloc, MAX_RULES, MAX_GROUPS) else {
         return 0;
     };
     let added = add_all(&mut table, rules) as u64;
