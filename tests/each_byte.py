@@ -17,7 +17,7 @@ import tempfile
 from collections import Counter
 from collections.abc import Iterable, Iterator
 
-from fuzz import start
+from fuzz import Place
 from model import answers, captures, rules
 from model.programs import assemble
 from program import STRIP, built
@@ -68,16 +68,14 @@ def certs(text: bytes, values: Iterable[int], try_each: bool) -> Iterator[tuple[
             is_none_tried |= is_none
 
 
-def run_on(program: str, cert: bytes, data: bytes) -> Ending:
+def run_on(place: Place, cert: bytes, data: bytes) -> Ending:
     """Runs strip in this folder."""
-    output = pathlib.Path("out.pcap")
-    output.unlink(missing_ok=True)
-    pathlib.Path("cert").write_bytes(cert)
-    pathlib.Path("in.pcap").write_bytes(data)
-    ended = start(program, WORDS)
+    place.put("cert", cert)
+    place.put("in.pcap", data)
+    ended = place.run(WORDS)
     # Behind the line that tells of a fault there may be others that explain it.
     told = ended.told.partition("\n")[0] + "\n" if ended.told else ""
-    return ended.status, ended.printed, told, output.read_bytes() if output.exists() else None
+    return ended.status, ended.printed, told, ended.written.get("out.pcap")
 
 
 def cases(values: Iterable[int], try_each: bool) -> Iterator[tuple[str, bytes, bytes, Ending]]:
@@ -102,12 +100,13 @@ def main() -> int:
     wrong = 0
     with tempfile.TemporaryDirectory() as folder:
         os.chdir(folder)
-        pathlib.Path("strip.dpv").write_bytes((STRIP / "strip.dpv").read_bytes())
+        place = Place(program)
+        place.put("strip.dpv", (STRIP / "strip.dpv").read_bytes())
         assert len((STRIP / "strip.cert").read_bytes()) == 1853 and struct.unpack_from("<I", INPUT, 32) == (60,)
         values = range(256) if asked.all else b"0123456789abcdef\n" if asked.digits else b"18f\n"
         for name, cert, data, ending in cases(values, asked.all):
             counts[ways[ending[0]]] += 1
-            ended = run_on(program, cert, data)
+            ended = run_on(place, cert, data)
             if ended != ending:
                 wrong += 1
                 print(f"{name}: expected {ending}, came {ended}", flush=True)

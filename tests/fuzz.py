@@ -86,34 +86,83 @@ def give_up(_signal: int, _frame: object) -> None:
     raise TooLong
 
 
-def start(program: str, words: list[str], env: dict[str, str] | None = None) -> Ended:
-    """Runs the program in this folder, without what it wrote."""
-    write = os.O_WRONLY | os.O_CREAT | os.O_TRUNC
-    actions = [(os.POSIX_SPAWN_OPEN, fd, name, write, 0o600) for fd, name in ((1, ".printed"), (2, ".told"))]
-    child = os.posix_spawn(program, ["dpv", *words], {**os.environ, **(env or {})}, file_actions=actions)
-    signal.setitimer(signal.ITIMER_REAL, MOST_SECONDS)
-    try:
-        _, status, used = os.wait4(child, 0)
-    except TooLong:
-        os.kill(child, signal.SIGKILL)
-        _, status, used = os.wait4(child, 0)
-    signal.setitimer(signal.ITIMER_REAL, 0)
-    printed, told = (pathlib.Path(name).read_bytes().decode(errors="replace") for name in (".printed", ".told"))
-    return Ended(os.waitstatus_to_exitcode(status), printed, told, {}, used.ru_utime + used.ru_stime, used.ru_maxrss)
+def bytes_of(name: str) -> bytes:
+    """The bytes of a file of this folder."""
+    file = os.open(name, os.O_RDONLY)
+    data = os.read(file, os.fstat(file).st_size)
+    os.close(file)
+    return data
 
 
-def written(case: Case) -> dict[str, pathlib.Path]:
-    """The files of this folder that are none of the case's own."""
-    names = {entry.name for entry in os.scandir() if entry.is_file()} - {".printed", ".told", *case.files}
-    return {name: pathlib.Path(name) for name in names}
+class Place:
+    """This folder, in which the program runs. What it prints and tells goes to files in memory."""
+
+    def __init__(self, program: str) -> None:
+        # Tables are large, and made sooner in large pages.
+        self.program, self.env = program, {**os.environb, b"GLIBC_TUNABLES": b"glibc.malloc.hugetlb=1"}
+        self.streams = [os.memfd_create(name) for name in ("printed", "told")]
+        self.files: dict[str, tuple[bytes, tuple[int, int]]] = {}
+        self.folders: list[str] = []
+
+    def put(self, name: str, data: bytes) -> None:
+        """Makes the folder hold a file."""
+        if name not in self.files or self.files[name][0] != data:
+            file = os.open(name, os.O_WRONLY | os.O_CREAT | os.O_TRUNC, 0o600)
+            os.write(file, data)
+            self.files[name] = data, as_it_is(os.fstat(file))
+            os.close(file)
+
+    def put_case(self, case: Case) -> None:
+        """Makes the folder hold the files of a case, and no others."""
+        for name in self.files.keys() - case.files.keys():
+            os.unlink(name)
+            del self.files[name]
+        for name, data in case.files.items():
+            self.put(name, data)
+        if self.folders != case.folders:
+            for name in self.folders:
+                os.rmdir(name)
+            for name in case.folders:
+                os.mkdir(name)
+            self.folders = case.folders
+
+    def start(self, words: list[str], more: dict[bytes, bytes] | None = None) -> Ended:
+        """Runs the program, without what it wrote to files."""
+        for stream in self.streams:
+            os.ftruncate(stream, 0)
+            os.lseek(stream, 0, os.SEEK_SET)
+        actions = [(os.POSIX_SPAWN_DUP2, stream, fd) for fd, stream in enumerate(self.streams, 1)]
+        env = {**self.env, **more} if more else self.env
+        child = os.posix_spawn(self.program, ["dpv", *words], env, file_actions=actions)
+        signal.setitimer(signal.ITIMER_REAL, MOST_SECONDS)
+        try:
+            _, status, used = os.wait4(child, 0)
+        except TooLong:
+            os.kill(child, signal.SIGKILL)
+            _, status, used = os.wait4(child, 0)
+        signal.setitimer(signal.ITIMER_REAL, 0)
+        printed, told = (os.pread(stream, os.fstat(stream).st_size, 0).decode(errors="replace") for stream in self.streams)
+        return Ended(os.waitstatus_to_exitcode(status), printed, told, {}, used.ru_utime + used.ru_stime, used.ru_maxrss)
+
+    def taken(self) -> dict[str, bytes]:
+        """What stands in files that are none of those that were put here, or are no longer as they were put; they are taken away."""
+        with os.scandir() as entries:
+            names = [it.name for it in entries if it.is_file() and self.files.get(it.name, (b"", ()))[1] != as_it_is(it.stat())]
+        written = {name: bytes_of(name) for name in names}
+        for name in names:
+            os.unlink(name)
+            self.files.pop(name, None)
+        return written
+
+    def run(self, words: list[str], more: dict[bytes, bytes] | None = None) -> Ended:
+        """Runs the program, with what it wrote to files."""
+        ended = self.start(words, more)
+        return ended._replace(written=self.taken())
 
 
-def try_case(program: str, case: Case, env: dict[str, str] | None = None) -> Ended:
-    """Runs the program in this folder, with what it wrote to files."""
-    for old in written(case).values():
-        old.unlink()
-    ended = start(program, case.words, env)
-    return ended._replace(written={name: path.read_bytes() for name, path in written(case).items()})
+def as_it_is(state: os.stat_result) -> tuple[int, int]:
+    """By what it is seen that a file was written."""
+    return state.st_size, state.st_mtime_ns
 
 
 def complaint(expected: answers.Answer | None, ended: Ended) -> str | None:
@@ -140,22 +189,23 @@ def without_cache(case: Case) -> bytes | None:
     return b"\n".join(plain) if plain != lines else None
 
 
-def wrong_by(said: str, case: Case, program: str, ended: Ended | None) -> tuple[Ended, answers.Answer | None, str | None]:
+def wrong_by(said: str, case: Case, place: Place, ended: Ended | None) -> tuple[Ended, answers.Answer | None, str | None]:
     """How a case ended, what it had to come to, given what was printed where that is open, and what is wrong with it."""
     try:
-        expected = answers.answer(case.words, pathlib.Path(), said)
+        expected = answers.answer(case.words, answers.Disk(pathlib.Path(), case.files), said)
     except machine.Stuck as stuck:
-        return ended or try_case(program, case), None, f"an accepted program is stuck: {stuck}"
-    ended = ended or try_case(program, case)
+        return ended or place.run(case.words), None, f"an accepted program is stuck: {stuck}"
+    ended = ended or place.run(case.words)
     return ended, expected, complaint(expected, ended)
 
 
-def fault_of(program: str, case: Case, tally: Tally) -> tuple[Ended, str | None]:
+def fault_of(place: Place, case: Case, tally: Tally) -> tuple[Ended, str | None]:
     """How a case ended, and what is wrong with it. What the documents leave open is told from what was printed: whether rows are found
     for a program with loops is open too, so that one which is stuck may be one that is not accepted."""
-    ended, expected, wrong = wrong_by("", case, program, None)
+    place.put_case(case)
+    ended, expected, wrong = wrong_by("", case, place, None)
     if wrong and not ended.written and (case.kind in ("mem", "infer") or ended.status == 1):
-        ended, expected, wrong = wrong_by(ended.printed, case, program, ended)
+        ended, expected, wrong = wrong_by(ended.printed, case, place, ended)
     tally.cases[case.kind] += 1
     tally.statuses[f"{case.kind} {ended.status}"] += 1
     tally.records += expected.records if expected else 0
@@ -163,48 +213,50 @@ def fault_of(program: str, case: Case, tally: Tally) -> tuple[Ended, str | None]
     return ended, wrong
 
 
-def runs_as(program: str, case: Case, ended: Ended, how: str, env: dict[str, str] | None = None) -> str | None:
+def runs_as(place: Place, case: Case, ended: Ended, how: str, more: dict[bytes, bytes] | None = None) -> str | None:
     """What is wrong where a case, run once more, does not the same."""
-    again = try_case(program, case, env)
+    again = place.run(case.words, more)
     return None if again[:4] == ended[:4] else f"another answer {how}: {ended[:3]}, then {again[:3]}"
 
 
-def runs_without_cache(program: str, case: Case, ended: Ended) -> str | None:
+def runs_without_cache(place: Place, case: Case, ended: Ended) -> str | None:
     """What is wrong where a run that went well is another one without caches."""
     plain = without_cache(case) if case.kind == "run" and ended.status == 0 else None
     if plain is None:
-        return runs_as(program, case, ended, "the second time")
-    pathlib.Path("it.toml").write_bytes(plain)
-    return runs_as(program, case, ended, "without a cache")
+        return runs_as(place, case, ended, "the second time")
+    place.put("it.toml", plain)
+    return runs_as(place, case, ended, "without a cache")
 
 
-def runs_refused(program: str, case: Case, ended: Ended, env: dict[str, str]) -> str | None:
+def runs_refused(place: Place, case: Case, ended: Ended, more: dict[bytes, bytes]) -> str | None:
     """What is wrong where an allocation is refused, and the case neither does the same nor tells of it and wrote nothing or all."""
-    refused = try_case(program, case, env)
+    refused = place.run(case.words, more)
     tells = (refused.status, refused.told) == (4, "fault: memory\n") and ended.printed.startswith(refused.printed)
     if tells and all(data in (b"", ended.written.get(name)) for name, data in refused.written.items()):
         return None
-    return None if refused[:4] == ended[:4] else f"allocation {env['REFUSE']} refused: {ended[:3]}, then {refused[:3]}"
+    return None if refused[:4] == ended[:4] else f"allocation {more[b'REFUSE'].decode()} refused: {ended[:3]}, then {refused[:3]}"
 
 
-def runs_once_more(program: str, case: Case, ended: Ended, how: str, number: int, shims: pathlib.Path | None) -> str | None:
+def runs_once_more(place: Place, case: Case, ended: Ended, how: str, number: int, shims: pathlib.Path | None) -> str | None:
     """What is wrong with a case, run once more: as it is or without caches, with so many bytes a call, or with this allocation refused."""
+    place.put_case(case)
+    value = str(number).encode()
     if how == "short" and shims is not None:
-        return runs_as(program, case, ended, f"with {number} bytes a call", {"LD_PRELOAD": str(shims / "short.so"), "MOST": str(number)})
+        return runs_as(place, case, ended, f"with {number} bytes a call", {b"LD_PRELOAD": bytes(shims / "short.so"), b"MOST": value})
     if how == "refused" and shims is not None:
-        return runs_refused(program, case, ended, {"LD_PRELOAD": str(shims / "refused.so"), "REFUSE": str(number)})
-    return runs_without_cache(program, case, ended)
+        return runs_refused(place, case, ended, {b"LD_PRELOAD": bytes(shims / "refused.so"), b"REFUSE": value})
+    return runs_without_cache(place, case, ended)
 
 
-def judge(program: str, case: Case, rng: Random, tally: Tally, shims: pathlib.Path | None) -> str | None:
+def judge(place: Place, case: Case, rng: Random, tally: Tally, shims: pathlib.Path | None) -> str | None:
     """Runs a case, some of them once more in another way, and tells what is wrong with it."""
-    ended, wrong = fault_of(program, case, tally)
+    ended, wrong = fault_of(place, case, tally)
     if wrong or rng.random() < 0.75:
         return wrong
     how = rng.choice(("cache", "cache", "short", "refused"))
     tally.again[how] += 1
     number = rng.choice((1, 1, 2, 7, 1000)) if how == "short" else int(2 ** (rng.random() * 9))
-    return runs_once_more(program, case, ended, how, number, shims)
+    return runs_once_more(place, case, ended, how, number, shims)
 
 
 def put_shims(folder: pathlib.Path) -> pathlib.Path | None:
@@ -219,22 +271,15 @@ def put_shims(folder: pathlib.Path) -> pathlib.Path | None:
     return folder
 
 
-def put_files(case: Case, folder: pathlib.Path) -> None:
-    """Makes this folder hold the files of a case, and no others."""
-    for old in folder.iterdir():
-        old.rmdir() if old.is_dir() else old.unlink()
-    for name in case.folders:
-        (folder / name).mkdir()
-    for name, data in case.files.items():
-        (folder / name).write_bytes(data)
-
-
 def keep(case: Case, wrong: str, number: int, seed: str, into: pathlib.Path) -> None:
     """Writes a finding down."""
     folder = into / f"{case.kind}-{seed}-{number}"
     shutil.rmtree(folder, ignore_errors=True)
     folder.mkdir(parents=True)
-    put_files(case, folder)
+    for name in case.folders:
+        (folder / name).mkdir()
+    for name, data in case.files.items():
+        (folder / name).write_bytes(data)
     (folder / "case.json").write_text(json.dumps({"kind": case.kind, "words": case.words, "folders": case.folders}))
     (folder / "finding.txt").write_text(wrong + "\n")
     print(f"{folder}: dpv {' '.join(case.words)}: {wrong[:300]}", flush=True)
@@ -274,12 +319,12 @@ def work(asked: argparse.Namespace, shims: pathlib.Path | None, first: int, unti
     shared = "/dev/shm" if os.access("/dev/shm", os.W_OK) else None
     with tempfile.TemporaryDirectory(dir=shared) as name:
         os.chdir(name)
+        place = Place(asked.program)
         for number in numbers(asked.jobs, first):
             if number >= asked.cases or time.monotonic() >= until:
                 break
             case, rng = maker.case(number)
-            put_files(case, pathlib.Path(name))
-            wrong = judge(asked.program, case, rng, tally, shims)
+            wrong = judge(place, case, rng, tally, shims)
             if wrong:
                 tally.findings += 1
                 keep(case, wrong, number, asked.seed, asked.keep)
@@ -295,11 +340,11 @@ def again(program: str, folder: pathlib.Path, shims: pathlib.Path | None) -> int
     signal.signal(signal.SIGALRM, give_up)
     with tempfile.TemporaryDirectory() as name:
         os.chdir(name)
-        put_files(case, pathlib.Path(name))
-        ended, wrong = fault_of(program, case, Tally())
+        place = Place(program)
+        ended, wrong = fault_of(place, case, Tally())
         ways = [("short", 1), *(("refused", number) for number in range(1, 100)), ("cache", 0)]
         for how, number in ways:
-            wrong = wrong or runs_once_more(program, case, ended, how, number, shims)
+            wrong = wrong or runs_once_more(place, case, ended, how, number, shims)
         os.chdir("/")
     print(f"dpv {' '.join(case.words)}: {wrong or 'as it has to be'}")
     return 1 if wrong else 0

@@ -79,14 +79,14 @@ class Case(unittest.TestCase):
     def one(self, data: bytes) -> answers.Answer:
         """Runs strip on a capture."""
         (self.folder / "in").write_bytes(data)
-        return answers.answer(["one", "strip", "strip.cert", "in", "out"], self.folder, "")
+        return answers.answer(["one", "strip", "strip.cert", "in", "out"], answers.Disk(self.folder), "")
 
     def run_on(self, text: str, *inputs: bytes, refuse: str | None = None) -> answers.Answer:
         """Runs a pipeline on captures."""
         (self.folder / "it.toml").write_text(text)
         for k, data in enumerate(inputs):
             (self.folder / f"in{k}").write_bytes(data)
-        return answers.answer(["run", "it.toml", *([] if refuse is None else ["--refuse", refuse])], self.folder, "")
+        return answers.answer(["run", "it.toml", *([] if refuse is None else ["--refuse", refuse])], answers.Disk(self.folder), "")
 
 
 class Runs(Case):

@@ -31,8 +31,8 @@ def routes_of(rng: Random, number: int) -> list[str]:
 
 
 def tables_of(rng: Random) -> list[dict[str, Any]]:
-    """The tables of a pipeline. They are large, so most have none."""
-    number = rng.choice((0,) * 24 + (1, 1, 2))
+    """The tables of a pipeline. Each takes 64 MiB, so most have none."""
+    number = rng.choice((0,) * 96 + (1, 1, 2))
     limits = [(rng.choice((4, 16, 16)), rng.choice((0, 4, 8))) for _ in range(number)]
     return [{"rules": rules, "groups": groups, "routes": routes_of(rng, rng.randrange(6))} for rules, groups in limits]
 

@@ -25,13 +25,15 @@ OPEN = Answer(-1, "", "")
 
 
 class Disk:
-    """The files of a folder, as they are before the run."""
+    """The files of a folder, as they are before the run; some of them may be known."""
 
-    def __init__(self, folder: pathlib.Path) -> None:
-        self.folder = folder
+    def __init__(self, folder: pathlib.Path, known: dict[str, bytes] | None = None) -> None:
+        self.folder, self.known = folder, known or {}
 
     def read(self, name: str) -> bytes | None:
         """The bytes of a file that can be read."""
+        if name in self.known:
+            return self.known[name]
         try:
             return (self.folder / name).read_bytes() if name else None
         except (OSError, ValueError):
@@ -45,7 +47,7 @@ class Disk:
     def may_open(self, name: str) -> bool:
         """Whether a capture is opened, be it a folder."""
         try:
-            return name != "" and (self.folder / name).exists()
+            return name in self.known or name != "" and (self.folder / name).exists()
         except (OSError, ValueError):
             return False
 
@@ -191,9 +193,8 @@ def run_file(disk: Disk, file: str, refuse: str | None, said: str) -> Answer | N
     return pipeline if isinstance(pipeline, Answer) else forward(pipeline, disk, pattern)
 
 
-def answer(words: list[str], folder: pathlib.Path, said: str) -> Answer | None:
+def answer(words: list[str], disk: Disk, said: str) -> Answer | None:
     """How `dpv` ends with these words in this folder, given what it printed where that is open."""
-    disk = Disk(folder)
     command, *operands = words
     if command == "one":
         return one(disk, *operands)
