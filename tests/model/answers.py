@@ -1,7 +1,6 @@
 """What a command of `dpv` prints, tells, writes and ends with, given its words and files."""
 import pathlib
-from collections.abc import Callable
-from typing import Any, NamedTuple
+from typing import NamedTuple
 
 from . import captures, heap, pipelines, rules
 from .machine import BIGGEST, Env, Input, Pool, Port, World, report, run
@@ -60,27 +59,6 @@ class Disk:
             return False
 
 
-class Memory:
-    """Answers a call that reads files; where it was asked the same the last time, and the files that it read are as they were, without
-    asking it again."""
-
-    def __init__(self) -> None:
-        self.asked: tuple[Any, ...] | None = None
-        self.read: dict[str, bytes | None] = {}
-        self.said: Any = None
-
-    def answer(self, call: Callable[..., Any], files: pipelines.Files, *asked: Any) -> Any:
-        """What the call answers, given the files and these arguments."""
-        if self.asked != (call, *asked) or any(files(name) != data for name, data in self.read.items()):
-            self.read = {}
-            self.said = call(lambda name: self.read.setdefault(name, files(name)), *asked)
-            self.asked = (call, *asked)
-        return self.said
-
-
-LAST = Memory()
-
-
 def mem(disk: Disk, file: str, said: str) -> Answer:
     """`dpv mem FILE`."""
     script = disk.text(file)
@@ -92,7 +70,7 @@ def loaded(disk: Disk, file: str, inferred: bool, said: str) -> pipelines.Pipeli
     text = disk.text(file)
     if text is None:
         return Answer(3, "", f"fault: file {file}\n")
-    pipeline = LAST.answer(pipelines.load, disk.text, text, inferred, said)
+    pipeline = pipelines.load(disk.text, text, inferred, said)
     return Answer(*pipeline) if isinstance(pipeline, pipelines.Fault) else pipeline
 
 
@@ -155,23 +133,14 @@ def forward(pipeline: pipelines.Pipeline, disk: Disk, pattern: frozenset[int]) -
     return Answer(3 if told else 0, done.report, told, written, sum(map(len, done.sent)))
 
 
-def one_of(files: pipelines.Files, node: str, cert: str, reads: str, writes: str) -> pipelines.Pipeline | pipelines.Fault:
-    """The pipeline of one port."""
-    port = pipelines.Node("port 0", node, cert, reads, writes)
-    text = files(node)
-    if text is None:
-        return pipelines.fault("5 File port 0")
-    program = pipelines.programs.assemble(text)
-    if isinstance(program, pipelines.programs.Fault):
-        return pipelines.fault(f"6 Asm port 0 line {program.line} cause {program.cause}")
-    rows = pipelines.rows_for(port, program, ONE, 0, files, "")
-    return rows if isinstance(rows, pipelines.Fault) else pipelines.Pipeline(262_144, ONE, [port], [program], [rows])
-
-
-def one(disk: Disk, *names: str) -> Answer:
+def one(disk: Disk, node: str, cert: str, reads: str, writes: str) -> Answer:
     """`dpv one NODE CERT IN OUT`: a pipeline of one port."""
-    pipeline = LAST.answer(one_of, disk.text, *names)
-    return Answer(*pipeline) if isinstance(pipeline, pipelines.Fault) else forward(pipeline, disk, frozenset())
+    port = pipelines.Node("port 0", node, cert, reads, writes)
+    loaded = pipelines.node_of(port, ONE, 0, disk.text, "")
+    if isinstance(loaded, pipelines.Fault):
+        return Answer(*loaded)
+    program, rows = loaded
+    return forward(pipelines.Pipeline(262_144, ONE, [port], [program], [rows]), disk, frozenset())
 
 
 def pattern_of(text: str) -> frozenset[int] | None:

@@ -2,6 +2,7 @@
 import re
 import tomllib
 from collections.abc import Callable
+from functools import lru_cache
 from typing import Any, NamedTuple
 
 from . import programs, rules
@@ -147,28 +148,61 @@ def nodes_of(top: dict[str, Any]) -> list[Node]:
 Files = Callable[[str], bytes | None]
 
 
-def rows_for(node: Node, program: list[Instr], env: Env, place: int, files: Files, said: str) -> rules.Rows | Fault:
-    """The certificate of a node, judged. `said` is what was printed: of a program with loops any refusal of what was inferred is open."""
-    entry = rules.entry_row(env, place)
-    if node.cert is not None:
-        text = files(node.cert)
-        if text is None:
-            return fault(f"5 File {node.name}")
-        rows = rules.decode(text, len(program))
-        if isinstance(rows, tuple):
-            return fault(f"7 BadCert {node.name} line {rows[0]} cause {rows[1]}")
-        refused = rules.check(env, program, rows, entry)
-        return Fault(1, f"{node.name} refused at {refused[0]} by J{refused[1]}\n", "") if refused else rows
-    forward, rows = rules.is_forward(program), rules.infer(env, program, entry)
-    told = re.fullmatch(rf"{node.name} (not inferred|refused) at \d+ by J\d+\n", said)
+Loaded = tuple[list[Instr], rules.Rows]
+
+
+class Judged:
+    """What was worked out of nodes in the environment that was asked for last: files are read each time, but judged once."""
+
+    env: Env | None = None
+    nodes: dict[tuple[Any, ...], Loaded | Fault] = {}
+
+
+def node_of(node: Node, env: Env, place: int, files: Files, said: str) -> Loaded | Fault:
+    """The program and the certificate of a node, judged. `said` is what was printed."""
+    asked = place, files(node.node), node.cert is not None, files(node.cert or ""), said
+    if Judged.env is not env or len(Judged.nodes) > 1000:
+        Judged.env, Judged.nodes = env, {}
+    if asked not in Judged.nodes:
+        Judged.nodes[asked] = judged(node.name, env, *asked)
+    return Judged.nodes[asked]
+
+
+def judged(name: str, env: Env, place: int, text: bytes | None, has_cert: bool, cert: bytes | None, said: str) -> Loaded | Fault:
+    """The program and the certificate of these texts; or why they are not loaded."""
+    if text is None:
+        return fault(f"5 File {name}")
+    program = programs.assemble(text)
+    if isinstance(program, programs.Fault):
+        return fault(f"6 Asm {name} line {program.line} cause {program.cause}")
+    if has_cert and cert is None:
+        return fault(f"5 File {name}")
+    rows = inferred_for(name, program, env, place, said) if cert is None else named_for(name, program, env, place, cert)
+    return rows if isinstance(rows, Fault) else (program, rows)
+
+
+def named_for(name: str, program: list[Instr], env: Env, place: int, cert: bytes) -> rules.Rows | Fault:
+    """The certificate that is named for a node, judged."""
+    rows = rules.decode(cert, len(program))
+    if isinstance(rows, tuple):
+        return fault(f"7 BadCert {name} line {rows[0]} cause {rows[1]}")
+    refused = rules.check(env, program, rows, rules.entry_row(env, place))
+    return Fault(1, f"{name} refused at {refused[0]} by J{refused[1]}\n", "") if refused else rows
+
+
+def inferred_for(name: str, program: list[Instr], env: Env, place: int, said: str) -> rules.Rows | Fault:
+    """The certificate that is inferred for a node. Of a program with loops any refusal of it that was printed is open."""
+    forward, rows = rules.is_forward(program), rules.infer(env, program, rules.entry_row(env, place))
+    told = re.fullmatch(rf"{name} (not inferred|refused) at \d+ by J\d+\n", said)
     is_open = told and (told[1] == "not inferred" or not forward)
     if is_open and (rows is None or not forward):
         return Fault(1, said, "")
-    return rows or ([] if not forward else Fault(1, f"{node.name} not inferred at some label by some rule\n", ""))
+    return rows or ([] if not forward else Fault(1, f"{name} not inferred at some label by some rule\n", ""))
 
 
-def load(files: Files, text: bytes, inferred: bool, said: str) -> Pipeline | Fault:
-    """The pipeline of a text, with the certificates that are named or with all of them inferred; or why it is not loaded."""
+@lru_cache(16)
+def settings(text: bytes) -> tuple[int, Env, list[Node]] | Fault:
+    """The region, the environment and the nodes of a text; or why it is no pipeline."""
     try:
         top = tomllib.loads(text.decode())
     except (ValueError, RecursionError):
@@ -182,20 +216,21 @@ def load(files: Files, text: bytes, inferred: bool, said: str) -> Pipeline | Fau
     if bad:
         return fault(f"3 BadEnv {bad}")
     env = environment(top)
-    if isinstance(env, Fault):
-        return env
-    pipeline = Pipeline(top["region"], env, nodes_of(top), [], [])
+    return env if isinstance(env, Fault) else (top["region"], env, nodes_of(top))
+
+
+def load(files: Files, text: bytes, inferred: bool, said: str) -> Pipeline | Fault:
+    """The pipeline of a text, with the certificates that are named or with all of them inferred; or why it is not loaded."""
+    known = settings(text)
+    if isinstance(known, Fault):
+        return known
+    pipeline = Pipeline(*known, [], [])
     for place, node in enumerate(pipeline.nodes):
-        text = files(node.node)
-        program = programs.Fault(0, 0) if text is None else programs.assemble(text)
-        if isinstance(program, programs.Fault):
-            told = f"6 Asm {node.name} line {program.line} cause {program.cause}"
-            return fault(f"5 File {node.name}" if text is None else told)
-        rows = rows_for(node._replace(cert=None) if inferred else node, program, env, place, files, said)
-        if isinstance(rows, Fault):
-            return rows
-        pipeline.programs.append(program)
-        pipeline.rows.append(rows)
+        loaded = node_of(node._replace(cert=None) if inferred else node, pipeline.env, place, files, said)
+        if isinstance(loaded, Fault):
+            return loaded
+        pipeline.programs.append(loaded[0])
+        pipeline.rows.append(loaded[1])
     return pipeline
 
 

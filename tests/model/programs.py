@@ -40,6 +40,9 @@ RANGES = {
     "w": (1, 2, 4, 8),
 }
 BLANKS = " \t\r"
+BLANK = re.compile(f"[{BLANKS}]")
+ALLOWED = bytes([*b"\t\r", *range(32, 127)])
+REGISTERS = {kind: {f"{kind}{k}": Number(k) for k in range(8)} for kind in "pr"}
 NAME = re.compile(r"[A-Za-z_][A-Za-z0-9_]{0,30}")
 NUMBER = re.compile(r"[0-9]+|0x[0-9A-Fa-f]+")
 MOST = 1024
@@ -67,7 +70,7 @@ def cut(text: str) -> Line:
     rest = rest.lstrip(BLANKS)
     if not rest:
         return Line(labels, None, [])
-    word = re.split(f"[{BLANKS}]", rest, maxsplit=1)[0]
+    word = BLANK.split(rest, maxsplit=1)[0]
     behind = rest[len(word) :].strip(BLANKS)
     return Line(labels, word, [part.strip(BLANKS) for part in behind.split(",")] if behind else [])
 
@@ -82,12 +85,12 @@ def number(text: str) -> int | None:
 
 def operand(kind: str, text: str) -> int | str | Fault:
     """An operand, where a label is its name; or the cause of its fault, with line 0."""
-    if kind in ("p", "r"):
-        return Number(text[1]) if re.fullmatch(kind + "[0-7]", text) else Fault(0, 4)
+    if kind in REGISTERS:
+        return REGISTERS[kind].get(text, Fault(0, 4))
     if kind == "L":
         return text if NAME.fullmatch(text) else Fault(0, 6)
-    if kind == "x" and re.fullmatch("r[0-7]", text):
-        return Number(text[1])
+    if kind == "x" and text in REGISTERS["r"]:
+        return REGISTERS["r"][text]
     value = number(text)
     return Fault(0, 5) if value is None or value not in RANGES["c" if kind == "x" else kind] else value
 
@@ -101,7 +104,7 @@ class Reader:
 
     def read_line(self, at: int, data: bytes) -> int | None:
         """Takes a line, or answers the least cause of its faults."""
-        if any(byte not in b"\t\r" and not 32 <= byte <= 126 for byte in data):
+        if data.translate(None, ALLOWED):
             return 1
         labels, word, operands = cut(data.decode().split("#")[0])
         causes = []

@@ -303,8 +303,9 @@ def local_fault(env: Env, row: Row, label: int, instr: Instr, size: int) -> int:
     is_there = word not in PLACES or args[operand] < len(getattr(env, parts))
     if not is_there or label + 1 >= size and word not in ("jmp", "exit"):
         return 3
-    if any(row.facts[args[at]] is None for at in USES.get(word, ())):
-        return 4
+    for at in USES.get(word, ()):
+        if row.facts[args[at]] is None:
+            return 4
     if word in TARGETS and row.facts[args[0]] is not None or word == "chain" and args[0] == args[1]:
         return 5
     if not has_enough(row, instr):
@@ -386,7 +387,9 @@ def spelled_row(row: Row | None) -> bytes:
     """The line of a row."""
     if row is None:
         return b"0" * 306 + b"\n"
-    facts = (part for fact in row.facts for part in ((0,) * 7 if fact is None else (1, *fact)))
+    facts: list[int] = []
+    for fact in row.facts:
+        facts += (0,) * 7 if fact is None else (1, *fact)
     return ROW.pack(1, *facts, *row.bounds).hex().encode() + b"\n"
 
 
