@@ -22,25 +22,30 @@ CALLS = TOP / "bench" / "calls"
 CRATE = TOP / "crates" / "dp_bench"
 RULES = 60_000
 
-# Per operation: its name in the two C programs (DPDK's where that differs), how many rounds more the second run has,
-# how many operations a round is, and what the first run is, if not the same with 1,000 rounds.
-OPERATIONS = {
-    "heap: malloc and free, 100 blocks out": ("block", "block", 10_000, 1, None),
-    "heap: the same, 10,000 blocks out": ("blocks", "blocks", 10_000, 1, None),
-    "ring: one in and out": ("ring", "ring", 10_000, 1, None),
-    "ring: 32 in and out, for each": ("bulk", "bulk", 10_000, 32, None),
-    "pool: get and put, cache for 256": ("cached", "cached", 10_000, 1, None),
-    "pool: 32 got and put in bulk, for each": ("pools", "pools", 10_000, 32, None),
-    "pool: get and put, no cache": ("uncached", "uncached", 10_000, 1, None),
-    "the same beside a pool for one lcore": ("uncached", "single", 10_000, 1, None),
-    "mbuf: alloc and free, cache for 256": ("alloc", "alloc", 10_000, 1, None),
-    "mbuf: clone and free": ("clone", "clone", 10_000, 1, None),
-    "mbuf: prepend and adj of 16 bytes": ("front", "front", 10_000, 1, None),
-    "mbuf: receive of 60 bytes and free": ("receive", "receive", 10_000, 1, None),
-    "lpm: look-up among 60,000 rules": ("lookup", "lookup", 100_000, 1, ("add", RULES)),
-    "lpm: add, of 60,000 rules": ("add", "add", RULES, 1, ("add", 0)),
-    "lpm: delete, of 60,000 rules": ("delete", "delete", RULES, 1, ("add", RULES)),
-}
+# Per operation its name in the two C programs.
+NAMES = """
+block heap: malloc and free, 100 blocks out
+blocks heap: the same, 10,000 blocks out
+ring ring: one in and out
+bulk ring: 32 in and out, for each
+cached pool: get and put, cache for 256
+pools pool: 32 got and put in bulk, for each
+uncached pool: get and put, no cache
+single the same beside a pool for one lcore
+alloc mbuf: alloc and free, cache for 256
+clone mbuf: clone and free
+front mbuf: prepend and adj of 16 bytes
+receive mbuf: receive of 60 bytes and free
+lookup lpm: look-up among 60,000 rules
+add lpm: add, of 60,000 rules
+delete lpm: delete, of 60,000 rules
+"""
+# The name in our program where it is another, how many rounds more the second run has than the first, how many operations a round is, and
+# what the first run is, where it is not the same with 1,000 rounds.
+OURS = {"single": "uncached"}
+ROUNDS = {"lookup": 100_000, "add": RULES, "delete": RULES}
+SHARES = {"bulk": 32, "pools": 32}
+FIRST = {"lookup": ("add", RULES), "add": ("add", 0), "delete": ("add", RULES)}
 
 # DPDK's figures of another machine.
 TAKEN = {"ring": 36, "bulk": 7, "cached": 41, "uncached": 109, "alloc": 106, "clone": 260, "front": 27, "lookup": 19, "add": 63_000, "delete": 99_000}
@@ -68,12 +73,12 @@ def counted(program: str, name: str, rounds: int) -> int | None:
     return instructions([program, name, str(rounds)])
 
 
-def between(program: str, name: str, rounds: int, share: int, first: tuple[str, int] | None) -> float | None:
-    """The instructions of an operation."""
-    start = first or (name, 1000)
-    low = counted(program, *start)
-    high = counted(program, name, rounds + (0 if first else start[1]))
-    return None if low is None or high is None else (high - low) / (rounds * share)
+def between(program: str, name: str, like: str) -> float | None:
+    """The instructions of an operation, which is measured as this one of DPDK."""
+    rounds, first = ROUNDS.get(like, 10_000), FIRST.get(like)
+    low = counted(program, *(first or (name, 1000)))
+    high = counted(program, name, rounds if first else rounds + 1000)
+    return None if low is None or high is None else (high - low) / (rounds * SHARES.get(like, 1))
 
 
 def shown(number: float | None, star: str = "") -> str:
@@ -82,17 +87,17 @@ def shown(number: float | None, star: str = "") -> str:
 
 
 def main() -> None:
-    with tempfile.TemporaryDirectory() as name:
-        folder = pathlib.Path(name)
+    with tempfile.TemporaryDirectory() as made:
+        folder = pathlib.Path(made)
         ours = compiled("dpv", folder, library())
         flags = dpdk()
         theirs = None if flags is None else compiled("dpdk", folder, flags)
         print(f"{'operation':<40} {'dpv':>9} {'DPDK':>9} {'ratio':>6}")
-        for title, (word, other, rounds, share, first) in OPERATIONS.items():
-            own = between(ours, word, rounds, share, first)
-            its = None if theirs is None else between(theirs, other, rounds, share, first)
+        for name, title in (line.split(" ", 1) for line in NAMES.strip().split("\n")):
+            own = between(ours, OURS.get(name, name), name)
+            its = None if theirs is None else between(theirs, name, name)
             star = "" if its is not None else "*"
-            its = TAKEN.get(other) if its is None else its
+            its = TAKEN.get(name) if its is None else its
             ratio = "-" if own is None or its is None else f"{own / its:.2f}"
             print(f"{title:<40} {shown(own):>9} {shown(its, star):>9} {ratio:>6}", flush=True)
 

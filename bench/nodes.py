@@ -21,7 +21,7 @@ from timing import dpdk, instructions
 
 TOP = pathlib.Path(__file__).resolve().parent.parent
 sys.path.insert(0, str(TOP / "tests"))
-from program import built  # noqa: E402
+from command import asked  # noqa: E402
 
 HERE = TOP / "bench" / "nodes"
 RECORDS = 2_000
@@ -119,7 +119,7 @@ def row(name: str, program: str, nodes: str, folder: pathlib.Path) -> dict[str, 
 
 
 def main() -> int:
-    program = str(pathlib.Path(sys.argv[1]).resolve() if len(sys.argv) > 1 else built())
+    program = asked()
     ways, same, rows = ["dpv", "C", "eBPF", "its JIT"], True, {}
     with tempfile.TemporaryDirectory() as name:
         folder = pathlib.Path(name)

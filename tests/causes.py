@@ -11,15 +11,14 @@ import pathlib
 import re
 import subprocess
 import sys
-import tempfile
 from collections import Counter
 from collections.abc import Iterator
 from typing import Any, NamedTuple
 
+from command import STRIP, asked, new_folder
 from model import rules
 from model.machine import Env, Pool, Port, Ring
 from model.programs import assemble
-from program import STRIP, built
 
 LONGEST = 1_048_576
 FACT = {"share": 2, "head": 128, "tail": 0, "first": 0, "last": 0, "segs": 64}
@@ -163,13 +162,26 @@ def bad_tables() -> Iterator[Case]:
 # Programs at fault, with the line and the cause.
 TEXTS = {
     b"exit # \x80\n": (1, 1),
+    b"exit\nx: exit # \x80": (2, 1),
     b"exit\n\nexits\n": (3, 2),
+    b"jmp a:b": (1, 2),
     b"exit\nfree\n": (2, 3),
+    b"free p0,": (1, 3),
     b"exit\nfree p8\n": (2, 4),
+    b"mov r0,p0": (1, 4),
     b"exit\nadj p0,65536\n": (2, 5),
+    b"add r0,p0": (1, 5),
+    b"set r0,": (1, 5),
+    b"set r0,0X1": (1, 5),
+    b"shl r0,64": (1, 5),
+    b"jlt r0,0,a": (1, 5),
     b"exit\n7: exit\n": (2, 6),
+    b"a :exit": (1, 6),
     b"a: exit\n\n\na: exit\n": (4, 7),
+    b"a:a:exit": (1, 7),
     b"exit\njmp x\n": (2, 8),
+    b"exit\njmp x\nx:": (2, 8),
+    b"": (0, 9),
     b"# nothing\n": (0, 9),
     b"exit\n" * 1025: (1025, 9),
 }
@@ -203,24 +215,38 @@ def bad_files() -> Iterator[Case]:
 
 
 END = "d: free p0\nexit\n"
-# Programs, each with another one that is accepted, whose certificate it gets, and the label and rule by which it is refused.
-REFUSED = [
-    ("free p0\nadd r1,1\n", "free p0\nexit\n", (1, 3)),
-    ("free p1\nexit\n", "free p0\nexit\n", (0, 4)),
-    (f"alloc p1,0,d\nalloc p1,0,e\nfree p2\ne: free p1\n{END}", f"alloc p1,0,d\nalloc p2,0,e\nfree p2\ne: free p1\n{END}", (1, 5)),
-    (f"clone p0,p0,0,d\nadd r1,1\n{END}", f"add r2,1\nadd r1,1\n{END}", (0, 5)),
-    (f"chain p0,p0\n{END}", f"add r1,0\n{END}", (0, 5)),
-    (f"iflen p0,14,d\nadj p0,15\n{END}", f"iflen p0,14,d\nadj p0,14\n{END}", (1, 6)),
-    (f"iflen p0,14,d\nload r1,p0,7,8\n{END}", f"iflen p0,14,d\nload r1,p0,6,8\n{END}", (1, 6)),
-    (f"iflen p0,14,d\nsub r1,1\nloadx r2,p0,r1,1,8\n{END}", f"iflen p0,14,d\nsub r1,1\nloadx r2,p0,r2,1,8\n{END}", (2, 6)),
-    (f"iflen p0,14,d\nsub r1,1\nstorex p0,r1,7,8,r2\n{END}", f"iflen p0,14,d\nsub r1,1\nstorex p0,r2,6,8,r2\n{END}", (2, 6)),
-    (f"clone p1,p0,0,d\nprepend p0,1\nfree p1\n{END}", f"clone p1,p0,0,d\nadj p0,0\nfree p1\n{END}", (1, 7)),
-    (f"alloc p1,0,d\nchain p0,p1\n{END}", f"alloc p1,0,d\nfree p1\n{END}", (1, 8)),
-    (f"set r1,8\ntx p0,r1,d\nexit\n{END}", f"set r1,8\ntx p0,r0,d\nexit\n{END}", (1, 9)),
-    (f"iflen p0,1,d\nadj p0,1\nprepend p0,2\nenq p0,7,d\nexit\n{END}", f"iflen p0,1,d\nadj p0,1\nprepend p0,2\ntx p0,r0,d\nexit\n{END}", (3, 9)),
-    (f"alloc p1,0,d\nexit\n{END}", f"alloc p1,0,d\nfree p1\n{END}", (1, 10)),
-    (f"set r1,8\nadd r1,1\njmp d\n{END}", f"set r1,7\nadd r1,1\njmp d\n{END}", (0, 11)),
-]
+# Programs, each with another one that is accepted, whose certificate it gets, and the label and rule by which it is refused. Where there is
+# a label d, the packet is freed there.
+REFUSED = """
+free p0; add r1,1 | free p0; exit | 1 J3
+free p1; exit | free p0; exit | 0 J4
+alloc p1,0,d; alloc p1,0,e; free p2; e: free p1 | alloc p1,0,d; alloc p2,0,e; free p2; e: free p1 | 1 J5
+clone p0,p0,0,d; add r1,1; jmp d | add r2,1; add r1,1; jmp d | 0 J5
+chain p0,p0; jmp d | add r1,0; jmp d | 0 J5
+iflen p0,14,d; adj p0,15 | iflen p0,14,d; adj p0,14 | 1 J6
+iflen p0,14,d; load r1,p0,7,8 | iflen p0,14,d; load r1,p0,6,8 | 1 J6
+iflen p0,14,d; sub r1,1; loadx r2,p0,r1,1,8 | iflen p0,14,d; sub r1,1; loadx r2,p0,r2,1,8 | 2 J6
+iflen p0,14,d; sub r1,1; storex p0,r1,7,8,r2 | iflen p0,14,d; sub r1,1; storex p0,r2,6,8,r2 | 2 J6
+clone p1,p0,0,d; prepend p0,1; free p1 | clone p1,p0,0,d; adj p0,0; free p1 | 1 J7
+alloc p1,0,d; chain p0,p1 | alloc p1,0,d; free p1 | 1 J8
+set r1,8; tx p0,r1,d; exit | set r1,8; tx p0,r0,d; exit | 1 J9
+iflen p0,1,d; adj p0,1; prepend p0,2; enq p0,7,d; exit | iflen p0,1,d; adj p0,1; prepend p0,2; tx p0,r0,d; exit | 3 J9
+alloc p1,0,d; exit | alloc p1,0,d; free p1 | 1 J10
+set r1,8; add r1,1; jmp d | set r1,7; add r1,1; jmp d | 0 J11
+"""
+
+
+def text_of(line: str) -> str:
+    """The program that stands in a line."""
+    return line.replace("; ", "\n") + "\n" + (END if re.search(r"[ ,]d\b", line) else "")
+
+
+def refused_programs() -> Iterator[tuple[str, str, int, int]]:
+    """The texts, labels and rules of the programs that are refused."""
+    for line in REFUSED.strip().split("\n"):
+        text, other, place = line.split(" | ")
+        label, rule = place.split(" J")
+        yield text_of(text), text_of(other), int(label), int(rule)
 
 
 def cert_of(text: str, place: int) -> bytes:
@@ -263,7 +289,7 @@ def spoiled_strip(place: int) -> Iterator[tuple[bytes, int, int]]:
 def refusals() -> Iterator[Case]:
     """Programs that are refused, or for which there is no certificate, at each node."""
     for place, node in enumerate(NODES):
-        for text, other, (label, rule) in REFUSED:
+        for text, other, label, rule in refused_programs():
             yield refused(node, label, rule, with_files(place, "bad", "cert"), bad=text.encode(), cert=cert_of(other, place))
         for cert, label, rule in spoiled_strip(place):
             yield refused(node, label, rule, with_files(place, "strip.dpv", "cert"), cert=cert)
@@ -303,11 +329,10 @@ CASES = (sound, no_toml, bad_keys, bad_envs, bad_tables, bad_files, refusals)
 
 def main() -> int:
     """All of it."""
-    program = str(pathlib.Path(sys.argv[1]).resolve() if len(sys.argv) > 1 else built())
+    program = asked()
     tried: Counter[str] = Counter()
     wrong = 0
-    with tempfile.TemporaryDirectory() as name:
-        folder = pathlib.Path(name)
+    with new_folder() as folder:
         (folder / "folder").mkdir()
         (folder / "strip.dpv").write_bytes((STRIP / "strip.dpv").read_bytes())
         for place in range(16):

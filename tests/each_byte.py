@@ -10,17 +10,16 @@ Prints a line for each case that went another way, and a count; exits with 1 whe
 """
 import argparse
 import os
-import pathlib
 import struct
 import sys
 import tempfile
 from collections import Counter
 from collections.abc import Iterable, Iterator
 
+from command import STRIP, program_of
 from fuzz import Place
 from model import answers, captures, rules
 from model.programs import assemble
-from program import STRIP, built
 
 RECORD = bytes(range(1, 61))
 INPUT = captures.written(False, [(1, 2000, RECORD)])
@@ -94,7 +93,7 @@ def main() -> int:
     parser.add_argument("--digits", action="store_true", help="each byte of the certificate to each digit")
     parser.add_argument("--all", action="store_true", help="each byte of the certificate to each value")
     asked = parser.parse_args()
-    program = str(pathlib.Path(asked.program).resolve() if asked.program else built())
+    program = program_of(asked.program)
     ways = {0: "ran", 1: "refused by a rule", 3: "no certificate or no capture"}
     counts: Counter[str] = Counter()
     wrong = 0

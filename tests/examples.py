@@ -9,10 +9,9 @@ import pathlib
 import shutil
 import subprocess
 import sys
-import tempfile
 import tomllib
 
-from program import TOP, built
+from command import TOP, asked, new_folder
 
 
 def is_as_expected(program: str, pipeline: pathlib.Path) -> bool:
@@ -31,10 +30,9 @@ def is_as_expected(program: str, pipeline: pathlib.Path) -> bool:
 
 def main() -> int:
     """All of them."""
-    program = str(pathlib.Path(sys.argv[1]).resolve() if len(sys.argv) > 1 else built())
-    with tempfile.TemporaryDirectory() as name:
-        folder = pathlib.Path(name) / "examples"
-        shutil.copytree(TOP / "examples", folder)
+    program = asked()
+    with new_folder() as folder:
+        shutil.copytree(TOP / "examples", folder, dirs_exist_ok=True)
         passed = [is_as_expected(program, pipeline) for pipeline in sorted(it for it in folder.glob("*/*.toml") if it.parent.name != "refused")]
     return 0 if passed and all(passed) else 1
 

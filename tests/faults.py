@@ -13,10 +13,9 @@ import pathlib
 import struct
 import subprocess
 import sys
-import tempfile
 from typing import NamedTuple
 
-from program import STRIP, built, fixed
+from command import STRIP, asked, fixed, new_folder
 
 LONGEST = 1_048_576
 OPEN = "port 0 received 0 nobuf 0 oversize 0 sent 0 input open\npool 0 free 64 of 64\ncalls 0 refused 0\n"
@@ -407,13 +406,12 @@ def shows_usage(program: str, words: list[str], status: int, folder: pathlib.Pat
 
 def main() -> int:
     """All of it."""
-    program = str(pathlib.Path(sys.argv[1]).resolve() if len(sys.argv) > 1 else built())
+    program = asked()
     strip = ["none", "none", "none", "none"]
-    with tempfile.TemporaryDirectory() as name:
-        folder = pathlib.Path(name)
+    with new_folder() as folder:
         make_files(folder)
-        asked = (["help"], ["--help"], ["one", "--help"], ["check", "--help"], ["infer", "--help"], ["run", "--help"], ["--version"])
-        passed = [shows_usage(program, list(words), 0, folder) for words in asked]
+        right = (["help"], ["--help"], ["one", "--help"], ["check", "--help"], ["infer", "--help"], ["run", "--help"], ["--version"])
+        passed = [shows_usage(program, list(words), 0, folder) for words in right]
         wrong = ([], ["two"], ["one"], ["one", *strip[1:]], ["one", *strip, "more"], ["one", "--fast", *strip], ["mem"])
         passed += [shows_usage(program, list(words), 2, folder) for words in wrong]
         wrong = (["check"], ["check", "none", "more"], ["infer", "none"], ["infer", "none", "port0", "more"])

@@ -3,19 +3,19 @@
 
 Usage: tests/growths.py [PROGRAM]   (the built program; by default the one that ./dpv builds and runs; some seconds)
 The pipeline has a part of each kind, so that each call that takes memory grows: texts of programs and certificates are read, certificates
-are inferred and written, tables are made and filled, an engine is opened, captures are read and written. Some commands end with a program
-that is refused or a fault of a file; then want of memory comes in its place, and in no other way.
+are inferred and written, programs are printed, tables are made and filled, an engine is opened, captures are read and written. Some commands
+end with a program that is refused or a fault of a file; then want of memory comes in its place, and in no other way.
 tests/program.py does the same to the examples. Prints a line for each command, and exits with 1 where one went another way.
 """
 import pathlib
 import sys
-import tempfile
 
+from command import asked, new_folder
 from faults import capture
 from model import rules
 from model.machine import Env, Pool, Port, Ring
 from model.programs import assemble
-from program import Ended, built, shim_in
+from program import Ended, shim_in
 
 COUNTING = "set r1,0\na: add r1,1\njlt r1,200,a\ntx p0,r0,e\nexit\ne: free p0\nexit\n"
 LOOKING = "lookup r2,0,r1,d\nd: free p0\nexit\n"
@@ -69,6 +69,11 @@ COMMANDS = [
     (["explain", "sound.toml"], 0),
     (["explain", "refused.toml"], 1),
     (["explain-one", "lost"], 1),
+    (["infer-one", "counting"], 0),
+    (["show", "sound.toml", "port1"], 0),
+    (["show", "sound.toml", "ring0", "--dot"], 0),
+    (["show-one", "lost", "copying.cert"], 3),
+    (["trace", "sound.toml", "--port", "1", "--refuse", "2"], 0),
     (["run", "sound.toml"], 0),
     (["run", "table.toml", "--refuse", "2,3"], 0),
     (["run", "refused.toml"], 1),
@@ -100,9 +105,8 @@ def refuse_each(program: str, words: list[str], status: int, shim: pathlib.Path)
 
 def main() -> int:
     """All of it."""
-    program = str(pathlib.Path(sys.argv[1]).resolve() if len(sys.argv) > 1 else built())
-    with tempfile.TemporaryDirectory() as name:
-        folder = pathlib.Path(name)
+    program = asked()
+    with new_folder() as folder:
         make_files(folder)
         shim = shim_in(folder)
         passed = [refuse_each(program, words, status, shim) for words, status in COMMANDS] if shim else []

@@ -16,8 +16,8 @@ import tempfile
 from dataclasses import dataclass, field
 from typing import NamedTuple
 
+from command import program_of
 from model.machine import Env, Pool, Port, Ring
-from program import built
 
 FORWARD = ["tx p0,r0,d", "exit", "d: free p0", "exit"]
 MOST = 1024
@@ -304,7 +304,7 @@ def main() -> int:
     parser.add_argument("program", nargs="?", metavar="PROGRAM")
     parser.add_argument("--only", default="", help="those whose name has this text")
     asked = parser.parse_args()
-    program = str(pathlib.Path(asked.program).resolve() if asked.program else built())
+    program = program_of(asked.program)
     print("| what | without records | a record more | memory |\n|---|---|---|---|")
     home = os.getcwd()
     with tempfile.TemporaryDirectory() as folder:

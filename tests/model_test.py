@@ -1,13 +1,19 @@
 #!/usr/bin/env python3
-"""Tries tests/model itself on runs whose outcome was worked out by hand.
+"""Tries tests/model itself on runs whose outcome was worked out by hand, and what tests/fuzz.py does with a run.
 
 Usage: tests/model_test.py   (needs no program; some seconds)
 """
+import json
+import os
 import pathlib
+import signal
 import struct
 import tempfile
 import unittest
+from unittest import mock
 
+import fuzz
+from causes import TEXTS
 from model import answers, captures, heap, pipelines, programs, rules
 from model.machine import Env, Pool, Port, Ring, World, hop_for
 
@@ -167,6 +173,33 @@ class Runs(Case):
         self.assertEqual((done.status, done.told), (3, "fault: region\n"))
         self.assertIn("sent 0 input open\npool 0 free 4 of 4\npool 1 free 4 of 4\ncalls 0 refused 0\n", done.printed)
 
+    def test_names_of_outputs(self) -> None:
+        (self.folder / "folder").mkdir()
+        text = pipeline([Pool(4, 0, 2176)], [port(0, "forward")])
+        made = ("x" * 255, "\u00e9", "a\nb", "./out", "folder/out", "folder/../out")
+        for name in (*made, "", "\0", "a\0b", "x" * 256, "none/out", "out/", "folder", "folder/", ".", "..", "in0/out"):
+            done = self.run_on(text.replace("'out0'", json.dumps(name)), capture((1, 2, SIXTY)))
+            self.assertEqual((done.status, done.told), (0, "") if name in made else (3, f"fault: file {name}\n"))
+            self.assertEqual([*done.written], [name] if name in made else [])
+
+    def test_output_that_is_there(self) -> None:
+        text = pipeline([Pool(4, 0, 2176)], [port(0, "forward"), port(1, "forward")])
+        one, two = capture((1, 2, SIXTY)), capture((1, 2, b""), (1, 2, b""))
+        for name in ("in0", "./in1"):
+            done = self.run_on(text.replace("out1", name), one, two)
+            self.assertEqual((done.status, done.told, done.written), (3, f"fault: file {name}\n", {}))
+        self.assertEqual([*self.run_on(text.replace("out1", "forward"), one, two).written], ["out0", "forward"])
+
+    def test_output_that_is_named_twice(self) -> None:
+        text = pipeline([Pool(4, 0, 2176)], [port(0, "forward"), port(1, "forward")]).replace("out1", "out0")
+        small, large = capture((1, 2, b"")), capture((1, 2, SIXTY))
+        longest = capture(*[(1, 2, SIXTY)] * 1000)
+        for first, second in ((small, large), (large, small)):
+            alone = [self.run_on(text, data, capture()).written["out0"] for data in (first, second)]
+            twice = self.run_on(text, first, second)
+            self.assertEqual(twice.written, {"out0": alone[1] + alone[0][len(alone[1]) :]})
+        self.assertIsNone(self.run_on(text, longest, small).written)
+
     def test_backward_jumps(self) -> None:
         env = answers.ONE
         for text, counts in {b"a: jmp a\n": (0, 257, 1), count(257): (1, 517, 0), count(258): (0, 515, 1)}.items():
@@ -252,27 +285,8 @@ class Texts(unittest.TestCase):
     """Causes of what is no text."""
 
     def test_programs(self) -> None:
-        causes = {
-            b"": (0, 9),
-            b"adj p0,65536": (1, 5),
-            b"jmp x": (1, 8),
-            b"exit\nx: exit # \x80": (2, 1),
-            b"adj p0": (1, 3),
-            b"jmp a:b": (1, 2),
-            b"a :exit": (1, 6),
-            b"a:a:exit": (1, 7),
-            b"add r0,p0": (1, 5),
-            b"mov r0,p0": (1, 4),
-            b"exit\njmp x\nx:": (2, 8),
-            b"exit\n" * 1025: (1025, 9),
-            b"set r0,": (1, 5),
-            b"free p0,": (1, 3),
-            b"set r0,0X1": (1, 5),
-            b"shl r0,64": (1, 5),
-            b"jlt r0,0,a": (1, 5),
-        }
-        for text, cause in causes.items():
-            self.assertEqual(programs.assemble(text), cause, text)
+        for text, (line, cause) in TEXTS.items():
+            self.assertEqual(programs.assemble(text), (line, cause), text)
 
     def test_heap(self) -> None:
         script = b"region 4096\nmalloc 100 0\nmalloc 64 1024\nlist\nfree 1\nfree 2\nlist\nmalloc 0 96\nmalloc 64 96\nmalloc 4033 0\n"
@@ -308,6 +322,39 @@ class Texts(unittest.TestCase):
         self.assertEqual(captures.read(capture(magic=0xA1B2C3D3)).ending, "1")
         self.assertEqual(captures.read(capture((1, 1_000_000, b""))).ending, "4")
         self.assertEqual(captures.read(capture((1, 999_999, b""))).records, [(1, 999_999_000, b"")])
+
+
+class Limits(unittest.TestCase):
+    """What ends a run that does not end."""
+
+    def setUp(self) -> None:
+        for name, value in {"MOST_SECONDS": 1, "MOST_WAIT": 3}.items():
+            changed = mock.patch.object(fuzz, name, value)
+            changed.start()
+            self.addCleanup(changed.stop)
+        signal.signal(signal.SIGALRM, fuzz.give_up)
+
+    def status(self, text: str) -> int:
+        """How a script of the shell ends."""
+        return fuzz.Place("/bin/sh").start(["-c", text]).status
+
+    def test_time_of_the_processor(self) -> None:
+        self.assertIn(self.status("while :; do :; done"), (-signal.SIGXCPU, -signal.SIGKILL))
+        self.assertEqual(self.status("sleep 1.5"), 0)
+
+    def test_time_by_the_clock(self) -> None:
+        self.assertEqual(self.status("exec sleep 60"), -signal.SIGKILL)
+
+    def test_files(self) -> None:
+        with tempfile.TemporaryDirectory() as folder:
+            self.addCleanup(os.chdir, os.getcwd())
+            os.chdir(folder)
+            place = fuzz.Place("/bin/sh")
+            place.put_case(fuzz.Case("", [], {"in": b"a", "other": b"b"}, ["folder"]))
+            ended = place.run(["-c", "cat in; echo c > in; echo d > out; cat none"])
+            self.assertEqual((ended.status, ended.printed, ended.written), (1, "a", {"in": b"c\n", "out": b"d\n"}))
+            place.put_case(fuzz.Case("", [], {"in": b"a"}, []))
+            self.assertEqual((place.run(["-c", "cat in"]).printed, os.listdir()), ("a", ["in"]))
 
 
 def answers_hop(known: dict[tuple[int, int], int], address: tuple[int, ...]) -> int | None:

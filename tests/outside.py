@@ -13,12 +13,11 @@ import signal
 import struct
 import subprocess
 import sys
-import tempfile
 import time
 from collections.abc import Callable
 
+from command import STRIP, asked, fixed, new_folder
 from model import captures
-from program import STRIP, built, fixed
 
 REPORT = "port 0 received {0} nobuf 0 oversize 0 sent {0} input whole\npool 0 free 64 of 64\ncalls {0} refused 0\n"
 COUNT = 4000
@@ -214,14 +213,15 @@ CASES: dict[str, Callable[[Tried], bool]] = {
 
 def main() -> int:
     """All of it."""
-    program = pathlib.Path(sys.argv[1]).resolve() if len(sys.argv) > 1 else built()
+    program = asked()
     passed = []
     signal.alarm(600)
+    if shutil.which("tcpdump") is None:
+        print("captures that end in the middle: NOT READ by tcpdump, for want of it")
     for name, case in CASES.items():
-        with tempfile.TemporaryDirectory() as made:
-            folder = pathlib.Path(made)
+        with new_folder() as folder:
             folder.chmod(0o755)
-            passed.append(case(Tried(str(program), folder)))
+            passed.append(case(Tried(program, folder)))
         print(f"{name}: {'as it has to be' if passed[-1] else 'ANOTHER WAY'}")
     return 0 if all(passed) else 1
 

@@ -19,11 +19,9 @@ import signal
 import struct
 import subprocess
 import sys
-import tempfile
 
-TOP = pathlib.Path(__file__).resolve().parent.parent
-STRIP = TOP / "examples/strip"
-MULTICAST = TOP / "examples/multicast"
+from command import MULTICAST, STRIP, asked, fixed, new_folder, put_library
+
 OUTPUTS = ("out.pcap", "port0.pcap", "port1.pcap")
 MEBIBYTE = 1_048_576
 HEAP = "region 65536\n" + "malloc 100 0\n" * 40 + "zmalloc 64 1024\nlist\nfree 1\nfree 41\nstats\n"
@@ -119,20 +117,11 @@ def gives_back(program: str, shim: pathlib.Path) -> bool:
 
 
 def shim_in(folder: pathlib.Path) -> pathlib.Path | None:
-    """The library that refuses an allocation, built with the C compiler; or nothing where there is none."""
-    compiler = shutil.which("cc") or shutil.which("gcc") or shutil.which("clang")
-    if compiler is None:
+    """The library that refuses an allocation; or nothing where there is no C compiler."""
+    shim = put_library("refused", folder)
+    if shim is None:
         print("refused memory: NOT TRIED, for want of a C compiler")
-        return None
-    shim = folder / "refused.so"
-    source = pathlib.Path(__file__).with_name("refused.c")
-    subprocess.run([compiler, "-O2", "-Wall", "-shared", "-fPIC", "-o", str(shim), str(source)], check=True)
     return shim
-
-
-def fixed(told: str) -> str:
-    """What is told, without the lines behind that of a fault: the file's name and the reason."""
-    return re.sub(r"(?ms)^  (?:file|because): .*", "", told)
 
 
 def is_full(name: str, command: list[str], told: bytes, printed: str | None = None) -> bool:
@@ -164,17 +153,10 @@ def sends_what_fits(program: str, folder: pathlib.Path, size: int) -> bool:
     return passed
 
 
-def built() -> pathlib.Path:
-    """The program that ./dpv runs, which builds it where it has to."""
-    subprocess.run([str(TOP / "dpv"), "--version"], check=True, stdout=subprocess.DEVNULL)
-    return TOP / "crates/dp_cli/out/dp_cli"
-
-
 def main() -> int:
     """All of it."""
-    program = str(pathlib.Path(sys.argv[1]).resolve() if len(sys.argv) > 1 else built())
-    with tempfile.TemporaryDirectory() as name:
-        folder = pathlib.Path(name)
+    program = asked()
+    with new_folder() as folder:
         heap, shim = folder / "heap.txt", shim_in(folder)
         heap.write_text(HEAP)
         passed = [

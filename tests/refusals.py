@@ -12,7 +12,7 @@ import pathlib
 import subprocess
 import sys
 
-from program import TOP, built
+from command import TOP, asked
 
 FOLDER = TOP / "examples" / "refused"
 RULES = range(1, 12)
@@ -63,7 +63,7 @@ def is_in_docs(rule: int, docs: str) -> bool:
 
 def main() -> int:
     """All rules."""
-    program = str(pathlib.Path(sys.argv[1]).resolve() if len(sys.argv) > 1 else built())
+    program = asked()
     docs = (TOP / "docs" / "refusals.md").read_text()
     passed = [is_explained(program, rule) and is_cured(program, rule) and is_in_docs(rule, docs) for rule in RULES]
     print(f"refusals: {sum(passed)} rules are as they should be, {len(passed) - sum(passed)} are not")

@@ -15,12 +15,11 @@ import shutil
 import struct
 import subprocess
 import sys
-import tempfile
 from collections.abc import Iterator
 from typing import NamedTuple
 
+from command import asked, new_folder
 from faults import HEADER, ONE, POOL, capture, make_files, pipeline, run_of
-from program import built
 
 PCAPNG = "it is a pcapng file, of which editcap -F pcap IN OUT makes a capture"
 NOBODY = 65_534
@@ -272,9 +271,9 @@ def goes_on(program: str, folder: pathlib.Path) -> bool:
 
 def main() -> int:
     """All of it."""
-    program = str(pathlib.Path(sys.argv[1]).resolve() if len(sys.argv) > 1 else built())
-    with tempfile.TemporaryDirectory() as name:
-        folder = pathlib.Path(name) / "files"
+    program = asked()
+    with new_folder() as outer:
+        folder = outer / "files"
         folder.mkdir()
         make_files(folder)
         make_more(folder)

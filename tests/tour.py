@@ -7,14 +7,12 @@ it has to print, on both streams. All are run in turn by one shell in a copy of 
 that printed something else, and exits with 1 where there is one; with --write it puts the page right.
 """
 import os
-import pathlib
 import re
 import shutil
 import subprocess
 import sys
-import tempfile
 
-from program import TOP, built
+from command import TOP, new_folder, program_of
 
 PAGE = TOP / "docs" / "tour.md"
 BLOCK = re.compile(r"(?<=^```console\n).*?(?=^```$)", re.M | re.S)
@@ -28,8 +26,7 @@ def script_of(command: str) -> str:
 
 def outputs(program: str, commands: list[str]) -> list[str]:
     """What each command prints."""
-    with tempfile.TemporaryDirectory() as name:
-        folder = pathlib.Path(name)
+    with new_folder() as folder:
         shutil.copytree(TOP / "examples", folder / "examples")
         (folder / "bin").mkdir()
         (folder / "bin" / "dpv").symlink_to(program)
@@ -41,8 +38,7 @@ def outputs(program: str, commands: list[str]) -> list[str]:
 
 def main() -> int:
     """The whole page."""
-    words = [word for word in sys.argv[1:] if word != "--write"]
-    program = str(pathlib.Path(words[0]).resolve() if words else built())
+    program = program_of(next((word for word in sys.argv[1:] if word != "--write"), None))
     page = PAGE.read_text()
     shown = "".join(BLOCK.findall(page))
     commands = COMMAND.findall(shown)

@@ -1,4 +1,5 @@
 """What a command of `dpv` prints, tells, writes and ends with, given its words and files."""
+import os.path
 import pathlib
 from typing import NamedTuple
 
@@ -6,35 +7,37 @@ from . import captures, heap, pipelines, rules
 from .machine import BIGGEST, Env, Input, Pool, Port, World, report, run
 
 LONGEST = pipelines.LONGEST
+LONGEST_NAME = 255
+BUFFER = 65_536
 ONE = Env([Pool(64, 0, 2176)], [], [], [Port(0, 1, 32)])
 
 
 class Answer(NamedTuple):
-    """How a command ends. `written` has the captures by name; nothing of them is said where they were not made."""
+    """How a command ends. `written` has the captures by name; nothing is said of those that it lacks, nor of any where it is None."""
 
     status: int
     printed: str
     told: str
-    written: dict[str, bytes] = {}
+    written: dict[str, bytes] | None = {}
     records: int = 0
-
-
-# Nothing is said of a run that reads a file which it writes, or writes one twice.
-OPEN = Answer(-1, "", "")
 
 
 class Disk:
     """The files of a folder, as they are before the run; some of them may be known."""
 
     def __init__(self, folder: pathlib.Path, known: dict[str, bytes] | None = None) -> None:
-        self.folder, self.known = folder, known or {}
+        self.folder, self.known = str(folder), known or {}
+
+    def path(self, name: str) -> str:
+        """Where a file is."""
+        return os.path.join(self.folder, name)
 
     def read(self, name: str) -> bytes | None:
         """The bytes of a file that can be read."""
         if name in self.known:
             return self.known[name]
         try:
-            return (self.folder / name).read_bytes() if name else None
+            return pathlib.Path(self.path(name)).read_bytes() if name and os.path.exists(self.path(name)) else None
         except (OSError, ValueError):
             return None
 
@@ -45,18 +48,20 @@ class Disk:
 
     def may_open(self, name: str) -> bool:
         """Whether a capture is opened, be it a folder."""
+        return name in self.known or name != "" and os.path.exists(self.path(name))
+
+    def are_same(self, name: str, other: str) -> bool:
+        """Whether two names are of one plain file."""
         try:
-            return name in self.known or name != "" and (self.folder / name).exists()
+            return os.path.isfile(self.path(name)) and os.path.samefile(self.path(name), self.path(other))
         except (OSError, ValueError):
             return False
 
     def may_make(self, name: str) -> bool:
         """Whether a capture can be made."""
-        try:
-            path = self.folder / name
-            return name != "" and path.parent.is_dir() and not path.is_dir() and not name.endswith("/")
-        except (OSError, ValueError):
-            return False
+        folder, last = os.path.split(self.path(name))
+        is_name = 1 <= len(last.encode()) <= LONGEST_NAME and "\0" not in name
+        return name != "" and is_name and os.path.isdir(folder) and not os.path.isdir(self.path(name))
 
 
 def mem(disk: Disk, file: str, said: str) -> Answer:
@@ -101,20 +106,35 @@ def infer(disk: Disk, file: str, which: str, said: str) -> Answer:
     return Answer(0, said if spelled else "an accepted certificate, spelled as it has to be\n", "")
 
 
+def made(ports: list[pipelines.Node], disk: Disk) -> tuple[str | None, dict[str, bytes]]:
+    """The first capture that cannot be opened or made, and those that were made. Inputs are opened in port order, then no output may be
+    a file that is an input, then outputs are made."""
+    reads, written = [node.reads for node in ports], {}
+    bad = next((name for name in reads if not disk.may_open(name)), None)
+    if bad is None:
+        bad = next((node.writes for node in ports if any(disk.are_same(node.writes, name) for name in reads)), None)
+    for node in ports if bad is None else ():
+        if not disk.may_make(node.writes):
+            return node.writes, written
+        written[node.writes] = b""
+    return bad, written
+
+
+def laid(names: list[str], data: list[bytes]) -> dict[str, bytes] | None:
+    """What stands in files. Where one is named twice, the last port's capture lies over the others'; longer ones are written by turns,
+    and nothing is said of them."""
+    written: dict[str, bytes] = {}
+    for name, capture in zip(names, data):
+        written[name] = capture + written.get(name, b"")[len(capture) :]
+    return written if len(written) == len(names) or max(map(len, data)) <= BUFFER else None
+
+
 def forward(pipeline: pipelines.Pipeline, disk: Disk, pattern: frozenset[int]) -> Answer:
-    """The run of a pipeline: inputs are opened in port order, then outputs are made, then headers are read."""
+    """The run of a pipeline: once captures are opened and made, the region is taken, and then headers are read."""
     ports = pipeline.nodes[: len(pipeline.env.ports)]
-    targets = [node.writes for node in ports]
-    if len({*targets}) < len(targets) or any(disk.read(name) is not None for name in targets):
-        return OPEN
-    lacking = next((node.reads for node in ports if not disk.may_open(node.reads)), None)
-    if lacking is not None:
-        return Answer(3, "", f"fault: file {lacking}\n")
-    written = {}
-    for name in targets:
-        if not disk.may_make(name):
-            return Answer(3, "", f"fault: file {name}\n", written)
-        written[name] = b""
+    bad, written = made(ports, disk)
+    if bad is not None:
+        return Answer(3, "", f"fault: file {bad}\n", written)
     world = World(pipeline.env, pipeline.programs, pattern)
     if pipeline.region < pipeline.env.need():
         return Answer(3, report(world, ["open"] * len(ports)), "fault: region\n", written)
@@ -128,9 +148,9 @@ def forward(pipeline: pipelines.Pipeline, disk: Disk, pattern: frozenset[int]) -
         sources.append(source)
     nano = any(source.units == 1_000_000_000 for source in sources)
     done = run(world, [Input(source.records, source.ending) for source in sources])
-    written = {node.writes: captures.written(nano, sent) for node, sent in zip(ports, done.sent)}
+    sent = laid([node.writes for node in ports], [captures.written(nano, records) for records in done.sent])
     told = "" if done.fault is None else done.fault + "\n"
-    return Answer(3 if told else 0, done.report, told, written, sum(map(len, done.sent)))
+    return Answer(3 if told else 0, done.report, told, sent, sum(map(len, done.sent)))
 
 
 def one(disk: Disk, node: str, cert: str, reads: str, writes: str) -> Answer:
