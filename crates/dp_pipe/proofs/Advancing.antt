@@ -1,38 +1,26 @@
 -- A run goes on by one input: what it answers, the turn on it, and the drains of all ports.
-use Rattle.std.proofs.Common.{◌≡◌, ◌≢◌, ℕ, zero, suc, ◌+◌, ◌<◌, ◌≤◌, Bool, true, false, List, [], ◌∷◌, ◌++◌, length, map, take, Option, Some, None, Result}
-use Rattle.std.proofs.Common.{Ok, Err, refl, sym, ◌∙◌, ap, subst, arith, append-nil, ◌⊎◌, inl, inr}
+use Rattle.std.proofs.Common.{◌≡◌, ◌≢◌, ℕ, zero, suc, ◌+◌, ◌<◌, ◌≤◌, Bool, true, false, List, [], ◌∷◌, ◌++◌, length, map, Option, Some}
+use Rattle.std.proofs.Common.{refl, sym, ◌∙◌, ap, subst, arith, ◌⊎◌, inl, inr}
 use Rattle.std.specs.Prelude.{slice_get, slice_set, nat_lt, flat_map, option_map, if◌then◌else◌}
-use Rattle.std.specs.Option.{option_map_or}
 use Rattle.std.specs.Io.KnownBytes.{Appends}
 use Rattle.std.proofs.lemmas.Bool.{lt-ltb, le-ltb, ltb-true, ltb-false}
-use Rattle.std.proofs.lemmas.List.{length-append, length-map, map-append, append_assoc}
+use Rattle.std.proofs.lemmas.List.{length-map, map-append, append_assoc}
 use Rattle.std.proofs.lemmas.Option.{slice_get-map, same_Some, slice_get_within}
 use Rattle.dp_pcap.specs.declared.time.Time.{Time}
 use Rattle.dp_pcap.specs.declared.time.Unit.{Unit as TimeUnit}
-use Rattle.dp_pcap.specs.declared.error.PcapError.{PcapError}
-use Rattle.dp_pcap.specs.declared.source.Next.{Next}
-use Rattle.dp_pcap.specs.declared.source.Next.TheVariants.{Record, End}
-use Rattle.dp_pcap.specs.declared.source.Next.TheVariants as next
-use Rattle.dp_pcap.specs.Standing.{Standing}
-use Rattle.dp_pcap.specs.Capture.{PacketRecord, IsCapture}
-use Rattle.dp_pcap.specs.Source.{WhereKnown, HasRead, Continues, ReadsOn, IsInRange, Moves, advanced}
+use Rattle.dp_pcap.specs.Capture.{PacketRecord}
 use Rattle.dp_pcap.specs.Text.{record_text}
 use Rattle.dp_model.specs.Machine.{World}
-use Rattle.dp_model.specs.Runs.{records_at, joined, interleaved, Arrival}
-use Rattle.dp_model.specs.Laws.Lists.{get_set_other, get_set_same}
+use Rattle.dp_model.specs.Runs.{records_at, joined, interleaved}
+use Rattle.dp_model.specs.Laws.Lists.{get_set_other}
 use Rattle.dp_engine.specs.declared.report.InputState.{InputState}
 use Rattle.dp_engine.specs.declared.report.InputState.TheVariants.{Open, Whole, Cut}
-use Rattle.dp_pipe.specs.declared.forwarding.Progress.{Progress}
-use Rattle.dp_pipe.specs.declared.forwarding.RunCause.{RunCause}
-use Rattle.dp_pipe.specs.declared.forwarding.RunCause.TheVariants.{In, Out}
 use Rattle.dp_engine.specs.Drains.{captured}
-use Rattle.dp_engine.specs.Engines.{EngineState}
 use Rattle.dp_pipe.specs.Forwarding.{Input, records_in, timed, arrivals_of, asked, AnswersSo, AskedUntil, capture_of, capture_at, records_text, AreWritten}
-use Rattle.dp_pipe.specs.Forwarding.{drained_at, DrainedFirst, DrainedAll, DrainsStopped, TakesTurn, TurnsOn, ReadsTurn, HasReadSo, IsGoingOn, Stands}
-use Rattle.dp_pipe.specs.Forwarding.{AllStand, Along, Follows, Advances, Stops, HasRun}
+use Rattle.dp_pipe.specs.Forwarding.{drained_at}
 use Rattle.dp_pipe.proofs.Forwarded.{split}
-use Rattle.dp_pipe.proofs.Interleaving.{AreFew, interleaved_more, arriving}
-use Rattle.dp_pipe.proofs.RunOn.{run_on, joined_at, arrival}
+use Rattle.dp_pipe.proofs.Interleaving.{AreFew, interleaved_more}
+use Rattle.dp_pipe.proofs.RunOn.{arrival}
 use Rattle.dp_pipe.proofs.Indices.{element_at, set_itself}
 use Rattle.std.proofs.KnownBytes.{Appends-trans}
 

@@ -1,6 +1,6 @@
 -- What follows an answer of an input.
-use Rattle.std.proofs.Common.{◌≡◌, ℕ, List, Option, Result, Ok, Err, refl, subst, sym}
-use Rattle.std.specs.Prelude.{OnOk, IfErr, ⊤}
+use Rattle.std.proofs.Common.{◌≡◌, ℕ, List, Option, Result, Ok, Err, refl}
+use Rattle.std.specs.Prelude.{OnOk, IfErr}
 use Rattle.dp_pcap.specs.declared.time.Time.{Time}
 use Rattle.dp_pcap.specs.declared.time.Unit.{Unit as TimeUnit}
 use Rattle.dp_pcap.specs.declared.error.PcapError.{PcapError}

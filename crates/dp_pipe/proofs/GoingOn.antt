@@ -1,11 +1,10 @@
 -- A run goes on by what one input answers.
-use Rattle.std.proofs.Common.{◌*◌, ◌≡◌, ◌≢◌, ℕ, zero, suc, ◌+◌, ◌<◌, ◌≤◌, Bool, true, false, List, [], ◌∷◌, ◌++◌, length, map, take, Option, Some, None}
+use Rattle.std.proofs.Common.{◌*◌, ◌≡◌, ℕ, zero, suc, ◌+◌, ◌<◌, ◌≤◌, List, [], ◌∷◌, length, take, Option, Some, None}
 use Rattle.std.proofs.Common.{Result, Ok, Err, refl, sym, ◌∙◌, ap, subst, arith}
-use Rattle.std.specs.Prelude.{slice_get, slice_set, nat_lt, if◌then◌else◌, ⊤}
-use Rattle.std.specs.Io.KnownBytes.{Appends}
+use Rattle.std.specs.Prelude.{slice_get, slice_set, if◌then◌else◌}
 use Rattle.std.proofs.lemmas.Bool.{le-ltb}
 use Rattle.std.proofs.lemmas.List.{length-append, length-map}
-use Rattle.std.proofs.lemmas.Option.{same_Some, slice_get_within}
+use Rattle.std.proofs.lemmas.Option.{same_Some}
 use Rattle.dp_pcap.specs.declared.time.Time.{Time}
 use Rattle.dp_pcap.specs.declared.time.Unit.{Unit as TimeUnit}
 use Rattle.dp_pcap.specs.declared.error.PcapError.{PcapError}
@@ -15,20 +14,20 @@ use Rattle.dp_pcap.specs.declared.source.Next.TheVariants as next
 use Rattle.dp_pcap.specs.Standing.{Standing}
 use Rattle.dp_pcap.specs.Capture.{PacketRecord, IsCapture}
 use Rattle.dp_pcap.specs.Capture as capture
-use Rattle.dp_pcap.specs.Source.{WhereKnown, HasRead, Continues, ReadsOn, IsInRange, Moves, advanced, over}
-use Rattle.dp_model.specs.Machine.{Setting, World}
+use Rattle.dp_pcap.specs.Source.{WhereKnown, HasRead, Continues, IsInRange, Moves, advanced, over}
+use Rattle.dp_model.specs.Machine.{Setting}
 use Rattle.dp_model.specs.Runs.{records_at, joined}
 use Rattle.dp_engine.specs.declared.report.InputState.{InputState}
 use Rattle.dp_engine.specs.declared.report.InputState.TheVariants.{Open, Whole, Cut}
 use Rattle.dp_engine.specs.Engines.{EngineState}
 use Rattle.dp_pipe.specs.declared.forwarding.Progress.{Progress}
-use Rattle.dp_pipe.specs.Forwarding.{Input, HasReadSo, IsGoingOn, Stands, AllStand, TurnsOn, ReadsTurn, TakesTurn, DrainedAll, DrainedFirst, Follows}
-use Rattle.dp_pipe.specs.Forwarding.{Advances, Along, AnswersSo, asked, arrivals_of, capture_at, AreWritten, HasRun, records_many, unit_for, units_of}
+use Rattle.dp_pipe.specs.Forwarding.{Input, HasReadSo, Stands, ReadsTurn, TakesTurn, DrainedAll, DrainedFirst, Follows}
+use Rattle.dp_pipe.specs.Forwarding.{Advances, Along, AnswersSo, asked, arrivals_of, HasRun, records_many, unit_for}
 use Rattle.dp_pipe.proofs.Indices.{length_set}
 use Rattle.dp_pipe.proofs.RunOn.{run_on, arrival}
 use Rattle.dp_pipe.proofs.Advancing.{with_record, ended, arrivals_more, arrivals_ended, order_next, wrote_more, joined_many}
 use Rattle.dp_pipe.proofs.Units.{units_set}
-use Rattle.dp_pipe.proofs.Stepping.{input_at, all_stand, known_then, open_read, open_going, stands_more, stands_ended}
+use Rattle.dp_pipe.proofs.Stepping.{input_at, all_stand, known_then, open_read, stands_more, stands_ended}
 
 -- what all steps of a round share: as many inputs, readers and writers as ports
 pub record AreMany (e : EngineState) (olds news held mids : List (Option (List ℕ))) : Type 0 where

@@ -1,8 +1,8 @@
 -- One record more behind the interleaving of inputs.
-use Rattle.std.proofs.Common.{◌≡◌, ℕ, zero, suc, ◌+◌, ◌<◌, ◌≤◌, List, [], ◌∷◌, ◌++◌, length, Option, Some, None, refl, sym, ◌∙◌, ap, arith, append-nil}
-use Rattle.std.specs.Prelude.{slice_get, slice_set, max, option_map, option_to_list}
+use Rattle.std.proofs.Common.{◌≡◌, ℕ, zero, suc, ◌+◌, ◌<◌, ◌≤◌, List, [], ◌∷◌, ◌++◌, length, Some, None, refl, sym, ◌∙◌, ap, arith, append-nil}
+use Rattle.std.specs.Prelude.{slice_get, slice_set, option_map, option_to_list}
 use Rattle.std.proofs.lemmas.List.{length-append, append_assoc}
-use Rattle.std.proofs.lemmas.Option.{slice_get_past, slice_get_within, same_Some}
+use Rattle.std.proofs.lemmas.Option.{slice_get_past, same_Some}
 use Rattle.dp_model.specs.Runs.{Arrival, round_of, rounds, longest, interleaved}
 
 -- a record of an input, as it comes to a port

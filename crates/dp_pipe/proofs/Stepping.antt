@@ -1,24 +1,18 @@
 -- An input that is asked answers, and the run goes on.
-use Rattle.std.proofs.Common.{◌≡◌, ◌≢◌, ℕ, zero, suc, ◌+◌, ◌<◌, ◌≤◌, Bool, true, false, List, [], ◌∷◌, ◌++◌, length, map, take, Option, Some, None, Result}
-use Rattle.std.proofs.Common.{Ok, Err, refl, sym, ◌∙◌, ap, subst, arith, ◌⊎◌, inl, inr}
-use Rattle.std.specs.Prelude.{slice_get, slice_set, ⊤}
-use Rattle.std.proofs.lemmas.List.{length-append, length-map}
-use Rattle.std.proofs.lemmas.Option.{slice_get-map, same_Some, slice_get_within}
+use Rattle.std.proofs.Common.{◌≡◌, ◌≢◌, ℕ, ◌<◌, true, List, [], ◌∷◌, length, take, Option, Some, None}
+use Rattle.std.proofs.Common.{refl, sym, ◌∙◌, ap, arith, ◌⊎◌, inl, inr}
+use Rattle.std.specs.Prelude.{slice_get, slice_set}
+use Rattle.std.proofs.lemmas.List.{length-append}
+use Rattle.std.proofs.lemmas.Option.{slice_get_within}
 use Rattle.dp_pcap.specs.declared.time.Time.{Time}
-use Rattle.dp_pcap.specs.declared.time.Unit.{Unit as TimeUnit}
-use Rattle.dp_pcap.specs.declared.error.PcapError.{PcapError}
-use Rattle.dp_pcap.specs.declared.source.Next.{Next}
-use Rattle.dp_pcap.specs.declared.source.Next.TheVariants.{Record, End}
-use Rattle.dp_pcap.specs.declared.source.Next.TheVariants as next
 use Rattle.dp_pcap.specs.Standing.{Standing}
-use Rattle.dp_pcap.specs.Capture.{PacketRecord, IsCapture}
-use Rattle.dp_pcap.specs.Source.{WhereKnown, HasRead, Continues, ReadsOn, IsInRange, Moves, advanced, over}
-use Rattle.dp_model.specs.Laws.Lists.{get_set_other, get_set_same}
+use Rattle.dp_pcap.specs.Capture.{PacketRecord}
+use Rattle.dp_pcap.specs.Source.{WhereKnown, HasRead, advanced, over}
+use Rattle.dp_model.specs.Laws.Lists.{get_set_other}
 use Rattle.dp_engine.specs.declared.report.InputState.{InputState}
 use Rattle.dp_engine.specs.declared.report.InputState.TheVariants.{Open, Whole, Cut}
-use Rattle.dp_engine.specs.Engines.{EngineState}
 use Rattle.dp_pipe.specs.declared.forwarding.Progress.{Progress}
-use Rattle.dp_pipe.specs.Forwarding.{Input, HasReadSo, IsGoingOn, Stands, AllStand, TurnsOn, ReadsTurn, TakesTurn}
+use Rattle.dp_pipe.specs.Forwarding.{Input, HasReadSo, IsGoingOn, Stands, AllStand}
 use Rattle.dp_pipe.proofs.Forwarded.{split}
 use Rattle.dp_pipe.proofs.Indices.{element_at, length_set, set_here}
 use Rattle.dp_pipe.proofs.Advancing.{with_record, ended}

@@ -1,5 +1,5 @@
 -- A run stops at what one input answers, or at what a writer does behind it.
-use Rattle.std.proofs.Common.{◌≡◌, ◌≢◌, ℕ, zero, suc, ◌+◌, ◌<◌, ◌≤◌, Bool, true, false, List, [], ◌∷◌, ◌++◌, length, map, take, Option, Some, None, Result}
+use Rattle.std.proofs.Common.{◌≡◌, ◌≢◌, ℕ, zero, suc, ◌+◌, ◌<◌, List, [], ◌∷◌, length, map, take, Option, Some, Result}
 use Rattle.std.proofs.Common.{Ok, Err, refl, sym, ◌∙◌, ap, subst, arith, ◌⊎◌, inl, inr}
 use Rattle.std.specs.Prelude.{slice_get, slice_set, ⊤}
 use Rattle.std.proofs.lemmas.List.{length-append}
@@ -12,8 +12,8 @@ use Rattle.dp_pcap.specs.declared.source.Next.{Next}
 use Rattle.dp_pcap.specs.declared.source.Next.TheVariants.{Record, End}
 use Rattle.dp_pcap.specs.declared.source.Next.TheVariants as next
 use Rattle.dp_pcap.specs.Standing.{Standing}
-use Rattle.dp_pcap.specs.Capture.{PacketRecord, IsCapture}
-use Rattle.dp_pcap.specs.Source.{WhereKnown, HasRead, Continues, ReadsOn, IsInRange, Moves, advanced, over}
+use Rattle.dp_pcap.specs.Capture.{PacketRecord}
+use Rattle.dp_pcap.specs.Source.{WhereKnown, HasRead, Continues, ReadsOn, IsInRange, Moves, advanced}
 use Rattle.dp_model.specs.Laws.Lists.{get_set_other}
 use Rattle.dp_engine.specs.declared.report.InputState.{InputState}
 use Rattle.dp_engine.specs.declared.report.InputState.TheVariants.{Open, Whole, Cut}
@@ -23,14 +23,14 @@ use Rattle.dp_pipe.specs.declared.forwarding.RunCause.{RunCause}
 use Rattle.dp_pipe.specs.declared.forwarding.RunCause.TheVariants.{In, Out}
 use Rattle.dp_pipe.specs.Forwarding.{Input, HasReadSo, Gives, AreRead, Refuses, Stands, AllStand, ReadsTurn, Follows, Advances, Along, Stops, arrivals_of}
 use Rattle.dp_pipe.specs.Forwarding.{TakesTurn, DrainsStopped}
-use Rattle.dp_pipe.specs.Forwarding.{unit_for, units_of}
+use Rattle.dp_pipe.specs.Forwarding.{unit_for}
 use Rattle.dp_pipe.proofs.Forwarded.{split}
 use Rattle.dp_pipe.proofs.Indices.{element_at, length_set, set_here, set_itself}
 use Rattle.dp_pipe.proofs.RunOn.{arrival}
 use Rattle.dp_pipe.proofs.Advancing.{with_record, arrivals_more, order_next}
 use Rattle.dp_pipe.proofs.GoingOn.{known_map, wanted}
 use Rattle.dp_pipe.proofs.Units.{units_set}
-use Rattle.dp_pipe.proofs.Stepping.{input_at, all_stand, known_then, open_read, open_going, stands_more}
+use Rattle.dp_pipe.proofs.Stepping.{input_at, all_stand, known_then, open_read, stands_more}
 
 -- ---- states
 

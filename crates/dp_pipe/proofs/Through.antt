@@ -1,17 +1,14 @@
 -- Where all rounds of a run begin, and what stays of an engine behind them.
-use Rattle.std.proofs.Common.{◌≡◌, ◌⊎◌, inl, inr, ℕ, zero, suc, ◌+◌, ◌<◌, ◌≤◌, List, [], ◌∷◌, ◌++◌, Option, Some, None, Result, Ok, Err, length, map, take}
+use Rattle.std.proofs.Common.{◌≡◌, ◌⊎◌, inl, inr, ℕ, zero, suc, ◌+◌, List, [], ◌∷◌, ◌++◌, Option, Some, None, Result, Ok, Err, length, map, take}
 use Rattle.std.proofs.Common.{replicate, refl, ap, sym, ◌∙◌, subst, arith, zero-add}
-use Rattle.std.specs.Prelude.{slice_get, flat_map, max, ⊤, IfErr}
-use Rattle.std.specs.Option.{option_map_or}
+use Rattle.std.specs.Prelude.{slice_get, ⊤, IfErr}
 use Rattle.std.specs.List.{AllByRecursion}
 use Rattle.std.specs.Io.KnownBytes.{Appends, Keeps}
 use Rattle.std.proofs.lemmas.Option.{same_Some}
 use Rattle.std.proofs.lemmas.List.{length-replicate, length-map, append-nil}
 use Rattle.dp_pcap.specs.declared.time.Time.{Time}
 use Rattle.dp_pcap.specs.declared.time.Unit.{Unit as TimeUnit}
-use Rattle.dp_pcap.specs.Capture.{PacketRecord}
 use Rattle.dp_model.specs.Runs.{Arrival, longest}
-use Rattle.dp_model.specs.Machine.{Setting}
 use Rattle.dp_engine.specs.Engines.{EngineState, tallies_at}
 use Rattle.dp_engine.specs.declared.report.Tallies.{Tallies}
 use Rattle.std.proofs.lemmas.Bool.{le-ltb}
@@ -20,8 +17,8 @@ use Rattle.dp_pipe.specs.declared.running.RunFault.{RunFault}
 use Rattle.dp_pipe.specs.declared.forwarding.Progress.{Progress}
 use Rattle.dp_pipe.specs.declared.forwarding.RunCause.{RunCause}
 use Rattle.dp_pipe.specs.declared.forwarding.RunCause.TheVariants.{Memory, NoRoom, In, Out}
-use Rattle.dp_pipe.specs.Forwarding.{Input, AllStand, AskedUntil, AnswersSo, asked, Along, HasRun, AreWritten, AreRounds, FailedAt, Stops, arrivals_of}
-use Rattle.dp_pipe.specs.Forwarding.{records_in, records_many, capture_at, capture_of, tally_of, AreRead, unit_for, units_of}
+use Rattle.dp_pipe.specs.Forwarding.{Input, AllStand, asked, Along, HasRun, AreRounds, FailedAt, arrivals_of}
+use Rattle.dp_pipe.specs.Forwarding.{records_in, records_many, capture_at, tally_of, AreRead, unit_for, units_of}
 use Rattle.dp_pipe.specs.Running.{all_begun, begun, IsBegun, GoesForward, answer_of, HeadersFail, IsHeaderCause, IsWriteCause}
 use Rattle.dp_pipe.proofs.Heading.{told_at, all_at, keeps_it}
 use Rattle.dp_pipe.proofs.Indices.{length_set}

@@ -1,6 +1,6 @@
 -- Runs from captures to captures: what inputs give, what ports write, and where a run stops.
 use Rattle.std.specs.Prelude.{◌≡◌, ◌≢◌, ℕ, zero, suc, ◌+◌, ◌<◌, ◌≤◌, ◌==◌, Bool, true, false, nat_lt, if◌then◌else◌, List, [], ◌∷◌, ◌++◌, length, map}
-use Rattle.std.specs.Prelude.{flat_map, take, Option, None, Some, slice_get, Result, Ok, Err, IsTrue, ⊤}
+use Rattle.std.specs.Prelude.{flat_map, take, Option, Some, slice_get, Result, Ok, Err, ⊤}
 use Rattle.std.specs.List.{list_any, AllByRecursion}
 use Rattle.std.specs.Option.{option_map_or}
 use Rattle.std.specs.Io.KnownBytes.{Appends}
@@ -20,7 +20,7 @@ use Rattle.dp_pcap.specs.declared.source.Next.TheVariants as next
 use Rattle.dp_pcap.specs.Text.{record_text}
 use Rattle.dp_model.specs.Packets.{Packet}
 use Rattle.dp_model.specs.Machine.{World}
-use Rattle.dp_model.specs.Runs.{Arrival, Outcome, Turn, Run, records_at, joined, interleaved}
+use Rattle.dp_model.specs.Runs.{Arrival, Outcome, Turn, Run, records_at, interleaved}
 use Rattle.dp_engine.specs.declared.report.InputState.{InputState}
 use Rattle.dp_engine.specs.declared.report.InputState.TheVariants.{Open, Whole, Cut}
 use Rattle.dp_engine.specs.declared.report.Tallies.{Tallies}

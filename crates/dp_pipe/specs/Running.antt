@@ -1,21 +1,16 @@
 -- What the run of a pipeline answers: what it read, the run of packets that it made, what it wrote, and what it reports.
-use Rattle.std.specs.Prelude.{◌≡◌, ℕ, ◌+◌, ◌<◌, ◌≤◌, ◌⊎◌, ◌==◌, nat_lt, if◌then◌else◌, Bool, List, [], ◌∷◌, ◌++◌, length, map, take, replicate, Option, None}
-use Rattle.std.specs.Prelude.{Some, slice_get, slice_index_or, Result, Ok, Err, IsTrue, true, ⊤}
-use Rattle.std.specs.List.{list_all, AllByRecursion}
-use Rattle.std.specs.Option.{option_map_or}
+use Rattle.std.specs.Prelude.{◌≡◌, ℕ, ◌<◌, ◌≤◌, ◌⊎◌, List, [], ◌∷◌, length, map, take, replicate, Option}
+use Rattle.std.specs.Prelude.{Some, slice_get, Result, Ok, Err, ⊤}
+use Rattle.std.specs.List.{AllByRecursion}
 use Rattle.std.specs.Io.KnownBytes.{Appends, Keeps}
-use Rattle.dp_pcap.specs.declared.time.Time.{Time}
 use Rattle.dp_pcap.specs.declared.time.Unit.{Unit as TimeUnit}
 use Rattle.dp_pcap.specs.declared.error.PcapError.{PcapError}
-use Rattle.dp_pcap.specs.Capture.{PacketRecord}
 use Rattle.dp_pcap.specs.Source.{WhereKnown, HeaderAnswers, IsStart}
-use Rattle.dp_pcap.specs.Text.{text, header_text, record_text, AppendsPart}
+use Rattle.dp_pcap.specs.Text.{header_text, AppendsPart}
 use Rattle.dp_model.specs.Environments.{Environment}
-use Rattle.dp_model.specs.Machine.{Setting, World}
-use Rattle.dp_model.specs.Runs.{Nodes, Arrival, Outcome, Run, NeverStuck, joined, left_in_rings}
-use Rattle.dp_model.specs.Safety.{Beginning, IsOfRun}
+use Rattle.dp_model.specs.Machine.{Setting}
+use Rattle.dp_model.specs.Runs.{Nodes}
 use Rattle.dp_model.specs.Starts as starts
-use Rattle.dp_model.specs.CopyMachine.{Captures}
 use Rattle.dp_engine.specs.declared.report.InputState.{InputState}
 use Rattle.dp_engine.specs.declared.report.InputState.TheVariants.{Open}
 use Rattle.dp_engine.specs.declared.report.PortReport.{PortReport}
@@ -30,7 +25,7 @@ use Rattle.dp_pipe.specs.declared.forwarding.RunCause.{RunCause}
 use Rattle.dp_pipe.specs.declared.forwarding.RunCause.TheVariants.{Memory, NoRoom, In, Out}
 use Rattle.dp_pipe.specs.declared.forwarding.Progress.{Progress}
 use Rattle.dp_pipe.specs.declared.running.RunFault.{RunFault}
-use Rattle.dp_pipe.specs.Forwarding.{Input, AreRead, HasFault, is_nano, is_over, unit_for, units_of, AreRounds}
+use Rattle.dp_pipe.specs.Forwarding.{Input, AreRead, unit_for, units_of, AreRounds}
 use Rattle.dp_pipe.specs.Pipelines.{Plan}
 
 -- ---- the run of packets

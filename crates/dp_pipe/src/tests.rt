@@ -1,3 +1,4 @@
+//! Pipeline files: the causes for which they are refused, and what is read of the others.
 use crate::config::{Config, configure};
 use crate::error::{Part, PipeError, RouteError};
 use crate::routes::route_in;

@@ -1,9 +1,6 @@
 -- `advance`: an input at a record, at its end, or at a fault.
-use Rattle.std.proofs.Common.{◌≡◌, refl, ap, ◌∙◌, Ok, Err, List, length, map, sym}
-use Rattle.std.specs.Prelude.{OnOk, IfErr}
-use Rattle.dp_pipe.proofs.GoingOn.{goes_on}
-use Rattle.dp_pipe.proofs.Stopping.{stops_at}
-use Rattle.dp_pipe.proofs.Following.{follows_drained, follows_stopped, follows_end, follows_cut, follows_error, drained_ok, stopped_err}
+use Rattle.std.proofs.Common.{ap, ◌∙◌, Ok}
+use Rattle.dp_pipe.proofs.Following.{follows_drained, follows_stopped, follows_end, follows_cut, drained_ok, stopped_err}
 use Rattle.dp_pipe.proofs.forwarding.advance.Goals as goal
 
 pub returns-in-Ok-clause-step : goal.returns-in-Ok-clause-step

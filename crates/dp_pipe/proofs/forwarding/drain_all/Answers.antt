@@ -1,16 +1,16 @@
 -- `drain_all`: one port more, and the first that is not written.
-use Rattle.std.proofs.Common.{ℕ, suc, ◌≡◌, ◌+◌, ◌<◌, false, List, [], ◌∷◌, length, map, refl, sym, ap, ◌∙◌, subst, arith}
-use Rattle.std.specs.Prelude.{slice_get, slice_set, Some, IsTrue}
+use Rattle.std.proofs.Common.{ℕ, suc, ◌≡◌, ◌+◌, false, List, [], ◌∷◌, length, map, refl, sym, ap, ◌∙◌, subst, arith}
+use Rattle.std.specs.Prelude.{slice_set, IsTrue}
 use Rattle.std.proofs.lemmas.Option.{slice_get_read, same_Some}
 use Rattle.dp_model.specs.Laws.Lists.{get_set_same}
-use Rattle.dp_engine.specs.Engines.{EngineState, drained}
+use Rattle.dp_engine.specs.Engines.{drained}
 use Rattle.std.specs.Prelude.{flat_map}
 use Rattle.std.specs.Io.KnownBytes.{Appends}
 use Rattle.dp_pcap.specs.Text.{record_text}
 use Rattle.dp_engine.specs.Drains.{WrotePart, captured}
 use Rattle.dp_engine.specs.Outcomes.{sent_of}
 use Rattle.dp_pipe.specs.Forwarding.{DrainedFirst}
-use Rattle.dp_pipe.proofs.Forwarded.{drained_none, drained_next, drain_on, stopped, map_here, map_at, ok_some, err_some}
+use Rattle.dp_pipe.proofs.Forwarded.{drained_next, drain_on, stopped, ok_some, err_some}
 use Rattle.std.specs.Prelude.{slice_index_or, Err, ⊤}
 use Rattle.std.proofs.lemmas.Bool.{ne_eqb}
 use Rattle.dp_pipe.specs.Devices.{failed_drain}

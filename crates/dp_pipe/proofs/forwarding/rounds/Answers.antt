@@ -1,7 +1,6 @@
 -- `rounds`: one round more, the end of all inputs, and a stop.
-use Rattle.std.proofs.Common.{rules, ◌≡◌, ℕ, ◌≤◌, List, Err, Ok, length, refl, sym, ap, ◌∙◌, arith}
+use Rattle.std.proofs.Common.{rules, ◌≡◌, Err, length, refl, sym, ap, ◌∙◌, arith}
 use Rattle.dp_engine.specs.Engines.{EngineState}
-use Rattle.dp_pipe.specs.Forwarding.{Input}
 use Rattle.dp_pipe.proofs.Rounding.{went_all, none_left, round_ok, round_err}
 use Rattle.std.proofs.Common.{false, subst}
 use Rattle.dp_pipe.specs.Devices.{AllFared, failed_reader, failed_writer}

@@ -1,9 +1,8 @@
 -- `forward`: headers in, headers out, and all rounds.
-use Rattle.std.proofs.Common.{rules, ◌≡◌, ◌∙◌, ◌≤◌, ◌++◌, inl, inr, Err, sym, ap, subst, arith, length, map, take, drop}
+use Rattle.std.proofs.Common.{rules, ◌≡◌, ◌∙◌, inl, inr, Err, sym, subst, arith, length, map, drop}
 use Rattle.std.proofs.lemmas.List.{length-map}
-use Rattle.dp_engine.specs.Engines.{EngineState}
-use Rattle.dp_pipe.specs.Forwarding.{Along, AllStand, AreRounds}
-use Rattle.dp_pipe.specs.Running.{all_begun, GoesForward, RoundsMade}
+use Rattle.dp_pipe.specs.Forwarding.{AreRounds}
+use Rattle.dp_pipe.specs.Running.{all_begun}
 use Rattle.dp_pipe.proofs.Stopping.{are_read}
 use Rattle.dp_pipe.proofs.Through.{along_none, back, fail_read, fail_write, stays_rounds}
 use Rattle.std.proofs.Common.{refl}

@@ -1,5 +1,5 @@
 -- `put_headers`: one header more, and the first that is not written.
-use Rattle.std.proofs.Common.{rules, ◌≡◌, ◌≢◌, ◌∙◌, ◌<◌, ℕ, Some, refl, sym, ap, arith, length, slice_index_or, slice_set}
+use Rattle.std.proofs.Common.{rules, ◌<◌, arith, length, slice_index_or}
 use Rattle.std.specs.Prelude.{Err, ⊤}
 use Rattle.std.proofs.lemmas.Bool.{ne_eqb}
 use Rattle.dp_pipe.specs.declared.forwarding.RunCause.TheVariants.{Out}

@@ -1,5 +1,5 @@
 -- `read_headers`: one header more, and the first at fault.
-use Rattle.std.proofs.Common.{rules, ◌≡◌, ◌∙◌, ◌<◌, ◌+◌, ◌++◌, ◌∷◌, [], ℕ, Some, sym, arith, length, slice_index_or, subst}
+use Rattle.std.proofs.Common.{rules, ◌<◌, ◌+◌, sym, arith, length, slice_index_or, subst}
 use Rattle.std.specs.Prelude.{Err, ⊤}
 use Rattle.dp_pipe.specs.declared.forwarding.RunCause.TheVariants.{In}
 use Rattle.dp_pipe.specs.Devices.{failed_reader}

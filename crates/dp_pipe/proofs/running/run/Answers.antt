@@ -1,5 +1,5 @@
 -- `run`: what the engine that was opened came to, as the pipeline's run.
-use Rattle.std.proofs.Common.{rules, ◌≡◌, ◌∙◌, ◌≤◌, inl, sym, ap, subst, arith, length, map}
+use Rattle.std.proofs.Common.{◌∙◌, ◌≤◌, inl, sym, ap, subst, arith, length, map}
 use Rattle.dp_model.specs.Machine.{Setting}
 use Rattle.dp_model.specs.Starts.{IsStart}
 use Rattle.dp_engine.specs.Engines.{EngineState}

@@ -1,6 +1,5 @@
 -- `unit_for`: nanoseconds where any input has them.
-use Rattle.std.proofs.Common.{◌≡◌, refl, if◌then◌else◌}
-use Rattle.dp_pcap.specs.declared.time.Unit.TheVariants.{Micro, Nano}
+use Rattle.std.proofs.Common.{refl}
 use Rattle.dp_pipe.proofs.Heading.{any_nano}
 use Rattle.dp_pipe.proofs.running.unit_for.Goals as goal
 
