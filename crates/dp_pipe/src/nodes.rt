@@ -16,7 +16,7 @@ use crate::files::Files;
 use crate::names::{NodeNames, PortNames};
 use dp_cert::{Cert, CertError, decode};
 use dp_check::{Checked, check};
-use dp_infer::{InferError, infer};
+use dp_infer::{InferError, infer_checked};
 use dp_lang::{AsmError, Program, assemble};
 use dp_model::{Entry, Env};
 use std::alloc::Global;
@@ -128,7 +128,7 @@ fn given<F: Files>(
     }
 }
 
-// The program, checked with a certificate that is inferred. What is inferred is never refused.
+// The program, checked with a certificate that is inferred.
 fn inferred(alloc: Global, env: &Env, node: Entry, program: Program) -> Result<Checked, PipeError>
     ensures env { IfOk result (λ q. q.env ≡ env.now) }
     ensures entry { IfOk result (λ q. q.entry ≡ node) }
@@ -138,16 +138,12 @@ fn inferred(alloc: Global, env: &Env, node: Entry, program: Program) -> Result<C
     ensures most { IfOk result (λ q. SaysMost program env.now node q.rows) }
     ensures fails { IfErr result (λ e. (e ≡ PipeError.Memory) ⊎ IsWithoutCert env.now node program e) }
 {
-    let cert = match infer(alloc, &program, env, node) {
-        Ok(cert) => cert,
-        Err(InferError::Memory) => return Err(PipeError::Memory),
-        Err(InferError::NoCert { label, rule }) => {
-            return Err(PipeError::NotInferred { node, label, rule });
-        }
-    };
-    match check(program, cert, env, node) {
+    match infer_checked(alloc, program, env, node) {
         Ok(checked) => Ok(checked),
-        Err(_) => unreachable!(),
+        Err(InferError::Memory) => Err(PipeError::Memory),
+        Err(InferError::NoCert { label, rule }) => {
+            Err(PipeError::NotInferred { node, label, rule })
+        }
     }
 }
 
