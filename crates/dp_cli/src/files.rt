@@ -5,13 +5,11 @@ ghost use Rattle.dp_cli.specs.Told.{finding_of, read_finding, read_text, text_of
 
 use crate::fault::Fault;
 use crate::why::Reason;
+use dp_pipe::LONGEST_FILE;
 use std::alloc::{AllocError, Global};
 use std::io::{ErrorKind, Read};
 use std::rt::Files;
 use std::{fs, io};
-
-/// The most bytes of a pipeline, program, certificate or script file.
-pub const LONGEST: u64 = 1_048_576;
 
 /// Why a file was not read.
 #[derive(Clone, Copy, Debug)]
@@ -51,12 +49,12 @@ impl From<io::Error> for ReadFault {
     }
 }
 
-/// The bytes of a file of at most 1,048,576.
+/// The bytes of a file of at most [`LONGEST_FILE`].
 pub fn read<R: Files>(rt: &R, alloc: Global, name: &str) -> Result<Vec<u8>, ReadFault> {
     let file = fs::open(rt, name)?;
     let mut bytes = Vec::new(alloc);
-    file.take(LONGEST + 1).read_to_end(&mut bytes)?;
-    if bytes.len() as u64 > LONGEST {
+    file.take(LONGEST_FILE as u64 + 1).read_to_end(&mut bytes)?;
+    if bytes.len() > LONGEST_FILE {
         return Err(ReadFault::File(Reason::TooLong));
     }
     Ok(bytes)

@@ -9,11 +9,8 @@ use dp_cert::{Cert, CertError, decode};
 use dp_infer::attempt;
 use dp_lang::{AsmError, Program, assemble};
 use dp_model::{Entry, Env};
-use dp_pipe::{FetchFault, Files, PipeError, Survey};
+use dp_pipe::{FetchFault, Files, LONGEST_FILE, PipeError, Survey};
 use std::alloc::Global;
-
-/// The most bytes of a program or certificate file.
-const LONGEST: usize = 1_048_576;
 
 /// A node of which something is asked.
 #[derive(Clone, Copy, Debug)]
@@ -63,7 +60,7 @@ fn bytes_of<F: Files>(
 {
     match files.fetch(alloc, name) {
         Ok(bytes) => {
-            if bytes.len() <= LONGEST {
+            if bytes.len() <= LONGEST_FILE {
                 Ok(bytes)
             } else {
                 Err(PipeError::File(node))

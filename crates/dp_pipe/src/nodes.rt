@@ -12,7 +12,7 @@ ghost use Rattle.dp_check.specs.Faults.{question, IsWith, IsChecked};
 ghost use Rattle.dp_infer.specs.Inference.{SaysMost};
 
 use crate::error::{FetchFault, PipeError};
-use crate::files::Files;
+use crate::files::{Files, LONGEST_FILE};
 use crate::names::{NodeNames, PortNames};
 use dp_cert::{Cert, CertError, decode};
 use dp_check::{Checked, check};
@@ -30,9 +30,6 @@ pub enum How {
     Inferred,
 }
 
-/// The most bytes of a program or certificate file.
-const LONGEST: usize = 1_048_576;
-
 // The bytes of a file of a node.
 fn bytes_of<F: Files>(
     alloc: Global,
@@ -46,7 +43,7 @@ fn bytes_of<F: Files>(
 {
     match files.fetch(alloc, name) {
         Ok(bytes) => {
-            if bytes.len() <= LONGEST {
+            if bytes.len() <= LONGEST_FILE {
                 Ok(bytes)
             } else {
                 Err(PipeError::File(node))
