@@ -1,11 +1,11 @@
 -- What tables answer.
-use Rattle.std.proofs.Common.{◌≡◌, ℕ, zero, suc, ◌+◌, ◌%◌, ◌^◌, ◌<◌, List, [], ◌∷◌, length, Option, Some, None, refl, sym, ◌∙◌, ap, arith}
-use Rattle.std.specs.Prelude.{slice_get, slice_set, slice_index, slice_index_or, option_map}
-use Rattle.std.proofs.lemmas.Option.{same_Some}
+use Rattle.std.proofs.Common.{◌≡◌, ℕ, zero, suc, ◌%◌, ◌^◌, ◌<◌, List, [], ◌∷◌, length, Option, Some, refl, sym, ◌∙◌, ap, subst, arith}
+use Rattle.std.specs.Prelude.{slice_get, slice_index, slice_index_or, option_map}
+use Rattle.std.proofs.lemmas.Option.{none-some}
 use Rattle.dp_model.specs.declared.instr.Instr.{Instr}
 use Rattle.dp_model.specs.declared.instr.Instr.TheVariants.{Lookup}
-use Rattle.dp_model.specs.Prefixes.{Route, hop_for}
-use Rattle.dp_model.specs.Machine.{calculated, finds}
+use Rattle.dp_model.specs.Prefixes.{hop_for}
+use Rattle.dp_model.specs.Machine.{Setting, State, Move, Acts, finds}
 use Rattle.dp_lpm.specs.Routes.{RouteTable}
 use Rattle.dp_engine.specs.Steps.{routes_of}
 
@@ -20,29 +20,17 @@ pub hop_at : (tables : List RouteTable) (k : ℕ) (d : RouteTable) (ip : ℕ) (h
     → hop ≡ hop_for (slice_index_or tables k d).routes ip → option_map (λ routes. hop_for routes ip) (slice_get (routes_of tables) k) ≡ Some hop
 hop_at tables k d ip hop lt is = ap (option_map (λ routes. hop_for routes ip)) (routes_at tables k d lt) ∙ ap Some (sym is)
 
--- a table that has a hop, and one that has none
-finds_some : (o : Option (List Route)) (ip label r l hop : ℕ) (xs : List ℕ) → option_map (λ routes. hop_for routes ip) o ≡ Some (Some hop)
-    → finds o ip label r l xs ≡ Some (label + 1, slice_set xs r hop)
-finds_some None ip label r l hop xs e = cc
-finds_some (Some routes) ip label r l hop xs e =
-    let is : hop_for routes ip ≡ Some hop = same_Some (hop_for routes ip) (Some hop) e in
-    rw is refl
+-- an instruction that looks up in a table has one
+finds_in : (tables : List RouteTable) (k ip label r l : ℕ) (xs : List ℕ) (after : ℕ × List ℕ) → finds (slice_get (routes_of tables) k) ip label r l xs
+    ≡ Some after → k < length tables
+finds_in [] zero ip label r l xs after e = absurd (none-some after e)
+finds_in [] (suc k) ip label r l xs after e = absurd (none-some after e)
+finds_in (t ∷ tables) zero ip label r l xs after e = omega arith
+finds_in (t ∷ tables) (suc k) ip label r l xs after e = let rest = finds_in tables k ip label r l xs after e in omega (arith, rest)
 
-finds_none : (o : Option (List Route)) (ip label r l : ℕ) (xs : List ℕ) → option_map (λ routes. hop_for routes ip) o ≡ Some None
-    → finds o ip label r l xs ≡ Some (l, xs)
-finds_none None ip label r l xs e = cc
-finds_none (Some routes) ip label r l xs e =
-    let is : hop_for routes ip ≡ None = same_Some (hop_for routes ip) None e in
-    rw is refl
-
-pub looks_up : (tables : List RouteTable) (label : ℕ) (xs : List ℕ) (i : Instr) (r table s l n hop : ℕ) → i ≡ Lookup r table s l → n ≡ slice_index xs s
-    → option_map (λ routes. hop_for routes (n % 2 ^ 32)) (slice_get (routes_of tables) table) ≡ Some (Some hop) → calculated (routes_of tables) label xs
-    i ≡ Some (label + 1, slice_set xs r hop)
-looks_up tables label xs i r table s l n hop is read e =
-    rw is (finds_some (slice_get (routes_of tables) table) (slice_index xs s % 2 ^ 32) label r l hop xs (rw (sym read) e))
-
-pub misses : (tables : List RouteTable) (label : ℕ) (xs : List ℕ) (i : Instr) (r table s l n : ℕ) → i ≡ Lookup r table s l → n ≡ slice_index xs s
-    → option_map (λ routes. hop_for routes (n % 2 ^ 32)) (slice_get (routes_of tables) table) ≡ Some None → calculated (routes_of tables) label xs i ≡ Some
-    (l, xs)
-misses tables label xs i r table s l n is read e =
-    rw is (finds_none (slice_get (routes_of tables) table) (slice_index xs s % 2 ^ 32) label r l xs (rw (sym read) e))
+pub table_there : (c : Setting) (tables : List RouteTable) (label : ℕ) (s : State) (i : Instr) (r table x l : ℕ) → c.tables ≡ routes_of tables
+    → i ≡ Lookup r table x l → (m : Move) × Acts c label s i m → table < length tables
+table_there c tables label s i r table x l are is (m, acts) =
+    let (after, found, state) = subst (λ i. Acts c label s i m) is acts in
+    finds_in tables table (slice_index s.numbers x % 2 ^ 32) label r l s.numbers after
+    (subst (λ ts. finds (slice_get ts table) (slice_index s.numbers x % 2 ^ 32) label r l s.numbers ≡ Some after) are found)

@@ -27,6 +27,7 @@ use Rattle.dp_engine.specs.Spaces.{SpaceView, AreFilled, IsNewRing}
 use Rattle.dp_engine.specs.Layouts.{IsLaidOut}
 use Rattle.dp_engine.specs.Tallies.{listed_count}
 use Rattle.dp_engine.specs.Engines.{IsEngine, engine_of, IsOpened, StandIn, no_tallies}
+use Rattle.dp_engine.specs.Laws.{known}
 use Rattle.dp_engine.proofs.Parts.{rings_first, counts_in, stand_in}
 
 -- a machine over mbufs, rings and transmit lists at its start
@@ -82,13 +83,14 @@ module _ (home : Home) (size : ℕ) (env : Environment) (space : SpaceView) (par
   stands = subst (λ (zones : List PoolZones). StandIn space (frames_of zones (rings_in parts.rings) (rings_in parts.lists))) (sym new.zones)
       (stand_in space parts laid.ready.first (rings_first home _ parts.rings laid.rings) (rings_first home _ parts.lists laid.lists) laid.stand laid.out)
 
-  pub rests_first : (s : Scheme) → s.setting.env ≡ env → TablesFit s.setting → Rests s core
-  rests_first s same tables = record {
+  pub rests_first : (s : Scheme) → s.setting.env ≡ env → fault_of s.setting.env ≡ None → TablesFit s.setting → Rests s core
+  rests_first s same within tables = record {
     idle = (refl, (refl, (refl, (refl, (refl, (refl, (refl, (refl, tt))))))));
     pools = pools_are ∙ ap (λ (e : Environment). e.pools) (sym same);
     fits = record {
       rings = counts_in home _ parts.rings laid.rings ∙ ap (λ (e : Environment). map (λ (r : RingSpec). r.count) e.rings) (sym same);
       outboxes = counts_in home _ parts.lists laid.lists ∙ ap (λ (e : Environment). map (λ (p : PortSpec). p.queue) e.ports) (sym same);
+      few = (known s.setting.env within).ports.1;
     };
     rest = start_rest s.setting core.state.world tables (subst (λ (e : Environment). IsStart e core.state.world) (sym same) starts);
   }
@@ -100,7 +102,7 @@ module _ (home : Home) (size : ℕ) (env : Environment) (space : SpaceView) (par
       let sent : listed_count core.state.world.outboxes ≡ 0 = ap listed_count starts.outboxes ∙ none_listed env.ports in
       record {
         within = within;
-        rests = rests_first s same tables;
+        rests = rests_first s same within tables;
         stand = stands;
         limit = omega arith;
         ports = refl;

@@ -1,5 +1,5 @@
 //! Where control goes behind an instruction.
-ghost use Rattle.std.specs.Prelude.{◌≡◌, ◌+◌, if◌then◌else◌};
+ghost use Rattle.std.specs.Prelude.{◌≡◌, ◌+◌, Some, option_map, if◌then◌else◌};
 ghost use Rattle.dp_engine.specs.Steps.{label_after};
 
 /// Where control goes behind an instruction that does not end its node run. What it is stands fast in each form of instruction that
@@ -14,8 +14,8 @@ pub(crate) enum Control {
 
 // A jump to that label where the test passes, and else on.
 #[inline(always)]
-pub(crate) fn branch(test: bool, to: u16, label: usize) -> Control
-    ensures { label_after label result ≡ (if test then to else label + 1) }
+pub(crate) fn branch(test: bool, to: u16, label: usize) -> Option<Control>
+    ensures { option_map (label_after label) result ≡ Some (if test then to else label + 1) }
 {
-    if test { Control::To(to) } else { Control::On }
+    Some(if test { Control::To(to) } else { Control::On })
 }

@@ -4,11 +4,10 @@
 
 mod control;
 mod engine;
+mod hops;
 mod machine;
 mod names;
 mod needs;
-mod numbers;
-mod packets;
 mod plan;
 mod put;
 mod queues;

@@ -1,7 +1,8 @@
 //! Registers, rings and transmit lists, over mbufs.
 ghost use Rattle.std.specs.Prelude.{◌≡◌, ℕ, ◌+◌, ◌^◌, ◌<◌, ◌≤◌, length, slice_index, List, [], ◌∷◌, ◌++◌, nat_lt, IsSome, MatchOption};
 ghost use Rattle.dp_model.specs.Packets.{Packet, first_len, at_front, less_before};
-ghost use Rattle.dp_model.specs.Machine.{calculated, Holds, with_packet, without_packet, with_number, with_step, with_outbox, with_ring};
+ghost use Rattle.dp_model.specs.Arithmetic.{value};
+ghost use Rattle.dp_model.specs.Machine.{Holds, with_packet, without_packet, with_number, with_step, with_outbox, with_ring};
 ghost use Rattle.std.specs.Prelude.{not, None, Some, nat_eq, IsTrue, IsFalse};
 ghost use Rattle.std.specs.List.{list_any, AllByRecursion};
 ghost use Rattle.dp_model.specs.Environments.{room_at};
@@ -9,7 +10,7 @@ ghost use Rattle.dp_model.specs.Packets.{needed};
 ghost use Rattle.dp_model.specs.Machine.{is_denied};
 ghost use Rattle.dp_model.specs.Runs.{between, first_state, first_waiting, Waiting};
 ghost use Rattle.dp_engine.specs.Handles.{moved};
-ghost use Rattle.dp_engine.specs.Steps.{setting_of, routes_of, with_numbers, ShiftsWithin, label_after};
+ghost use Rattle.dp_engine.specs.Steps.{setting_of};
 ghost use Rattle.std.specs.Prelude.{◌↔◌, false};
 ghost use Rattle.dp_engine.specs.Turns.{IsReceived, with_one_call};
 ghost use Rattle.std.specs.Prelude.{slice_get, replicate};
@@ -30,14 +31,11 @@ mod calls;
 mod looks;
 mod register;
 
-use crate::control::Control;
-use crate::numbers::calculate;
 use crate::put::put_packet;
 use crate::queues::Queues;
 use calls::{handle_in, is_held_in};
-use dp_lpm::Lpm;
 use dp_mbuf::Mbufs;
-use dp_model::{Env, Instr, NumberRegister, Packet as Handle, PacketRegister};
+use dp_model::{Env, NumberRegister, Operand, Packet as Handle, PacketRegister};
 use dp_pcap::{Calls, PcapError, Sink, Time, Unit};
 use register::{Register, no_packets, one_packet};
 use std::marker::Model;
@@ -225,15 +223,26 @@ impl Machine {
         self.numbers[r.number() as usize] = n;
     }
 
-    // An instruction that handles no packet.
+    // The value of an operand.
     #[inline(always)]
-    pub(crate) fn calculate(&mut self, tables: &[Lpm], instr: Instr, label: usize) -> Control
-        requires some { (after : ℕ × List ℕ) × (calculated (routes_of tables.now) label self.old.state.numbers instr ≡ Some after) }
-        requires shifts { ShiftsWithin instr }
-        ensures after { calculated (routes_of tables.now) label self.old.state.numbers instr ≡ Some (label_after label result, self.new.state.numbers) }
-        ensures rest { self.new ≡ moved (with_numbers self.new.state.numbers self.old.state) self.old }
+    pub(crate) fn value(&self, operand: Operand) -> u64
+        ensures { result ≡ value self.now.state.numbers operand }
     {
-        calculate(&mut self.numbers, tables, instr, label)
+        match operand {
+            Operand::Register(register) => self.number(register),
+            Operand::Constant(constant) => constant,
+        }
+    }
+
+    // The offset in a packet's first segment that a register's number and a constant make.
+    #[inline(always)]
+    pub(crate) fn offset_in(&self, p: PacketRegister, index: NumberRegister, offset: u16) -> u64
+        requires { (k : Packet) × Holds self.now.state p k × (slice_index self.now.state.numbers index + offset ≤ first_len k) }
+        ensures { result ≡ slice_index self.now.state.numbers index + offset }
+    {
+        // It is no greater than the segment's length, which fits.
+        let _len = self.first_len(p);
+        self.number(index) + offset as u64
     }
 
     pub(crate) fn count_step(&mut self)

@@ -2,7 +2,7 @@ use Rattle.std.proofs.Common.{◌%◌, ◌^◌, ◌∙◌, ap}
 use Rattle.dp_lpm.specs.Routes.{RouteTable}
 use Rattle.dp_model.specs.Prefixes.{hop_for}
 use Rattle.dp_engine.proofs.Lookups.{hop_at}
-use Rattle.dp_engine.proofs.numbers.hop_in.Goals as goal
+use Rattle.dp_engine.proofs.hops.hop_in.Goals as goal
 
 pub returns : goal.returns
 returns c =
