@@ -4,6 +4,7 @@ use Rattle.std.specs.List.{AllByRecursion}
 use Rattle.dp_region.specs.Ownership.{Home}
 use Rattle.dp_pool.specs.Pools.{PoolZones}
 use Rattle.dp_ring.specs.Rings.{RingView}
+use Rattle.dp_pcap.specs.declared.format.TheConstants.{MOST_RECORDS}
 use Rattle.dp_lpm.specs.Routes.{RouteTable}
 use Rattle.dp_model.specs.Environments.{Environment, fault_of}
 use Rattle.dp_model.specs.Packets.{Packet}
@@ -67,13 +68,17 @@ pub record StandIn (space : SpaceView) (frames : Frames) : Type 0 where
   pub outboxes : AllByRecursion (λ (r : RingView). r.home ≡ space.home) frames.outboxes
   pub out : 2 * length frames.zones + length frames.rings + length frames.outboxes ≡ space.out
 
+-- the most turns of an engine: as many as the captures of eight ports have records at most
+abbrev pub most_turns : ℕ
+most_turns = 8 * MOST_RECORDS
+
 -- its environment is within the limits; a turn has 33 node runs at most, each of 257 times 1,024 steps at most; each step and
 -- each record make at most one allocation call, and each packet that was sent or left comes from one
 pub record IsEngine (s : Scheme) (core : Core) (space : SpaceView) (turns : ℕ) (tallies : List Tallies) (left : List ℕ) : Type 0 where
   pub within : fault_of s.setting.env ≡ None
   pub rests : Rests s core
   pub stand : StandIn space core.frames
-  pub limit : turns ≤ 134217728
+  pub limit : turns ≤ most_turns
   pub ports : length tallies ≡ 8
   pub rings : length left ≡ 8
   pub records : over_ports records_of tallies ≤ turns

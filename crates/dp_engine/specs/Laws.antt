@@ -12,6 +12,7 @@ use Rattle.dp_model.specs.declared.env.EnvError.TheVariants.{BadNumber, BadPool,
 use Rattle.dp_model.specs.declared.env.Entry.{Entry}
 use Rattle.dp_model.specs.declared.env.Entry.TheVariants.{Port, Ring}
 use Rattle.dp_model.specs.declared.instr.Instr.{Instr}
+use Rattle.dp_model.specs.Limits.{most_buffers, most_segments, largest_ring, largest_hop, least_port_room}
 use Rattle.dp_model.specs.Facts.{is_empty, is_well_formed_fact}
 use Rattle.dp_model.specs.Environments.{Environment, room_at, is_ring_count, pool_fits, ring_fits, port_fits, numbers_fit, fault_of}
 use Rattle.dp_ring.specs.Rings.{IsCount}
@@ -55,9 +56,9 @@ each_map P Q f step (x ∷ xs) all = (step x all.0, each_map P Q f step xs all.1
 -- the size of a ring in an environment is one of a ring
 count_fits : (n : ℕ) → is_ring_count n ≡ true → IsCount n
 count_fits n h =
-    let (both, power) = and_parts (nat_le 2 n && nat_le n 65536) (is_power_of_two n) h in
-    let (low, high) = and_parts (nat_le 2 n) (nat_le n 65536) both in
-    (leb-true 2 n low, leb-true n 65536 high)
+    let (both, power) = and_parts (nat_le 2 n && nat_le n largest_ring) (is_power_of_two n) h in
+    let (low, high) = and_parts (nat_le 2 n) (nat_le n largest_ring) both in
+    (leb-true 2 n low, leb-true n largest_ring high)
 
 -- the numbers of an environment, and that each pool, ring and list is within the limits
 pub record IsKnown (e : Environment) : Type 0 where
@@ -67,7 +68,7 @@ pub record IsKnown (e : Environment) : Type 0 where
   pub pools_fit : AllByRecursion (λ s. pool_fits s ≡ true) e.pools
   pub rings_fit : AllByRecursion IsCount (ring_counts e)
   pub lists_fit : AllByRecursion IsCount (list_counts e)
-  pub mbufs : sum_by (λ p. p.count) e.pools ≤ 65535
+  pub mbufs : sum_by (λ p. p.count) e.pools ≤ most_buffers
   pub facts : AllByRecursion (λ r. is_well_formed_fact r.fact ≡ true) e.rings
 
 -- what follows of each element follows of all
@@ -76,11 +77,11 @@ each_is P Q step [] all = tt
 each_is P Q step (x ∷ xs) all = (step x all.0, each_is P Q step xs all.1)
 
 -- there are not too many buffers where nothing else is wrong
-nothing_else : (n : ℕ) → (if nat_le n 65535 then None else Some TooMany) ≡ None → n ≤ 65535
-nothing_else n h = go (nat_le n 65535) refl h
+nothing_else : (n : ℕ) → (if nat_le n most_buffers then None else Some TooMany) ≡ None → n ≤ most_buffers
+nothing_else n h = go (nat_le n most_buffers) refl h
   where
-    go : (b : Bool) → nat_le n 65535 ≡ b → (if b then None else Some TooMany) ≡ None → n ≤ 65535
-    go true is none = leb-true n 65535 is
+    go : (b : Bool) → nat_le n most_buffers ≡ b → (if b then None else Some TooMany) ≡ None → n ≤ most_buffers
+    go true is none = leb-true n most_buffers is
     go false is none = cc
 
 -- all this is known of an environment without a fault
@@ -110,7 +111,8 @@ known e h =
           (all_pass ring_fits e.rings (map_none BadRing _ two.0));
       lists_fit = each_map (λ p. port_fits e.pools p ≡ true) IsCount (λ p. p.queue)
           (λ p fits. count_fits p.queue
-          (and_parts (nat_le 129 (room_at e.pools p.pool) && nat_le 1 p.segs && nat_le p.segs 64) (is_ring_count p.queue) fits).1) e.ports
+          (and_parts (nat_le least_port_room (room_at e.pools p.pool) && nat_le 1 p.segs && nat_le p.segs most_segments) (is_ring_count p.queue)
+          fits).1) e.ports
           (all_pass (port_fits e.pools) e.ports (map_none BadPort _ three.0));
       facts = each_is (λ r. ring_fits r ≡ true) (λ r. is_well_formed_fact r.fact ≡ true)
           (λ r fits. (and_parts (is_ring_count r.count && not (is_empty r.fact)) (is_well_formed_fact r.fact) fits).1) e.rings
@@ -178,7 +180,7 @@ are_checked env tables questions pattern limits nodes checked = record {
 -- programs that are checked for the entries of an environment, and tables that keep their hops, are a plan
 pub plan_of : (env : Environment) (tables : List RouteTable) (questions : List Question) (pattern : List ℕ) → fault_of env ≡ None → AreNodes env questions
     → length tables ≡ env.tables → ((k : ℕ) (q : Question) → slice_get questions k ≡ Some q → IsChecked q)
-    → ((k : ℕ) (t : RouteTable) → slice_get tables k ≡ Some t → AllByRecursion (λ (route : Route). route.hop ≤ 16777215) t.routes)
+    → ((k : ℕ) (t : RouteTable) → slice_get tables k ≡ Some t → AllByRecursion (λ (route : Route). route.hop ≤ largest_hop) t.routes)
     → IsPlan env tables questions pattern
 plan_of env tables questions pattern limits nodes many checked hops =
     let all : length (programs_of questions) ≡ length env.ports + length env.rings = length-map questions (λ (q : Question). q.program) ∙ nodes.many in
@@ -193,8 +195,8 @@ plan_of env tables questions pattern limits nodes many checked hops =
       };
       tables_fit = record {
         count = length-map tables (λ (t : RouteTable). t.routes) ∙ many;
-        hops = each_place (AllByRecursion (λ (route : Route). route.hop ≤ 16777215)) (routes_of tables) (λ k routes h.
+        hops = each_place (AllByRecursion (λ (route : Route). route.hop ≤ largest_hop)) (routes_of tables) (λ k routes h.
             let (t, is_t, is_routes) = get_map (λ (t : RouteTable). t.routes) tables k routes h in
-            subst (AllByRecursion (λ (route : Route). route.hop ≤ 16777215)) is_routes (hops k t is_t));
+            subst (AllByRecursion (λ (route : Route). route.hop ≤ largest_hop)) is_routes (hops k t is_t));
       };
     }

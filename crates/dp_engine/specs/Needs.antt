@@ -4,6 +4,7 @@ use Rattle.dp_model.specs.declared.env.PoolSpec.{PoolSpec}
 use Rattle.dp_model.specs.Environments.{Environment}
 use Rattle.dp_heap.specs.Elements.{rounded}
 use Rattle.dp_pool.specs.Making.{object_len}
+use Rattle.dp_mbuf.specs.declared.limits.TheConstants.{HEADER_SIZE}
 
 -- p, doubled until it is above n, at most so many times
 abbrev pub doubled_past : ℕ → ℕ → ℕ → ℕ
@@ -18,9 +19,9 @@ power_above n = doubled_past n 1 n
 abbrev pub zone_bytes : ℕ → ℕ
 zone_bytes len = 64 + rounded len
 
--- how long the zones of a pool are: that of its objects, each a header of 128 bytes and a data room, and that of its queue
+-- how long the zones of a pool are: that of its objects, each a header and a data room, and that of its queue
 abbrev pub objects_len : PoolSpec → ℕ
-objects_len s = object_len s.count (s.room + 128)
+objects_len s = object_len s.count (s.room + HEADER_SIZE)
 
 abbrev pub queue_len : PoolSpec → ℕ
 queue_len s = 4 * power_above s.count

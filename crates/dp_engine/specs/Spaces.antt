@@ -4,7 +4,9 @@ use Rattle.std.specs.List.{AllByRecursion}
 use Rattle.dp_region.specs.Ownership.{Home}
 use Rattle.dp_ring.specs.Rings.{RingView}
 use Rattle.dp_pool.specs.Pools.{PoolView}
+use Rattle.dp_mbuf.specs.declared.limits.TheConstants.{HEADER_SIZE}
 use Rattle.dp_model.specs.declared.env.PoolSpec.{PoolSpec}
+use Rattle.dp_model.specs.Limits.{largest_room}
 
 -- what a contract sees of a space: its region, how many bytes that has, and how many zones are out
 pub record SpaceView : Type 0 where
@@ -36,8 +38,8 @@ pub record IsNewRing (home : Home) (count : ℕ) (r : RingView) : Type 0 where
 
 -- a pool for mbufs as it is wanted, all of them in, in zones of the region
 pub record IsNewPool (home : Home) (s : PoolSpec) (p : PoolView) : Type 0 where
-  pub size : p.size ≡ s.room + 128
-  pub room : s.room ≤ 4096
+  pub size : p.size ≡ s.room + HEADER_SIZE
+  pub room : s.room ≤ largest_room
   pub count_is : length p.objects ≡ s.count
   pub cache_is : p.cache ≡ s.cache
   pub all_in : p.out ≡ replicate s.count false

@@ -5,6 +5,7 @@ ghost use Rattle.dp_model.specs.Arithmetic.{value};
 ghost use Rattle.dp_model.specs.Machine.{Holds, with_packet, without_packet, with_number, with_step, with_outbox, with_ring};
 ghost use Rattle.std.specs.Prelude.{not, None, Some, nat_eq, IsTrue, IsFalse};
 ghost use Rattle.std.specs.List.{list_any, AllByRecursion};
+ghost use Rattle.dp_model.specs.Limits.{least_port_room};
 ghost use Rattle.dp_model.specs.Environments.{room_at};
 ghost use Rattle.dp_model.specs.Packets.{needed};
 ghost use Rattle.dp_model.specs.Machine.{is_denied};
@@ -120,7 +121,7 @@ impl Machine {
     ) -> bool
         requires idle { AllByRecursion (λ o. o ≡ None) self.old.state.packets }
         requires pools { self.old.pools ≡ env.now.pools }
-        requires has_room { 129 ≤ room_at env.now.pools pool }
+        requires has_room { least_port_room ≤ room_at env.now.pools pool }
         requires fits { needed env.now.pools pool (length bytes.now) ≤ 64 }
         requires few { self.old.state.world.calls + 1 < 2 ^ 64 }
         ensures denied { not result ≡ is_denied (setting_of env.now [] pattern.now) (between self.old.state.world) pool

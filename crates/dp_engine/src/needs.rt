@@ -2,16 +2,19 @@
 
 ghost use Rattle.std.specs.Prelude.{◌≡◌, ◌+◌, ◌*◌, ◌<◌, ◌≤◌, true, length, map};
 ghost use Rattle.std.specs.List.{AllByRecursion};
-ghost use Rattle.dp_ring.specs.Rings.{IsCount};
+ghost use Rattle.dp_region.specs.Region.{largest_region};
+ghost use Rattle.dp_ring.specs.Rings.{IsCount, most_slots};
+ghost use Rattle.dp_model.specs.Limits.{most_buffers, largest_room};
 ghost use Rattle.dp_model.specs.Environments.{pool_fits};
 ghost use Rattle.dp_engine.specs.Needs.{power_above, zone_bytes, objects_len, queue_len, pool_bytes, ring_bytes, total, ring_counts, list_counts, bytes_needed};
 
 use arrayvec::ArrayVec;
+use dp_mbuf::HEADER_SIZE;
 use dp_model::{Env, PoolSpec, PortSpec, RingSpec};
 
 // What a zone of so many bytes takes.
 fn zone_bytes(len: u32) -> u64
-    requires { len ≤ 1073741824 }
+    requires { len ≤ largest_region }
     ensures { result ≡ zone_bytes len }
 {
     64 + (len as u64 + 63) / 64 * 64
@@ -20,25 +23,25 @@ fn zone_bytes(len: u32) -> u64
 /// The least power of two above a number of buffers.
 #[tactic(auto, using(crate::proofs::Powers::power_is))]
 pub(crate) fn power_above(count: u32) -> u32
-    requires { count ≤ 65535 }
+    requires { count ≤ most_buffers }
     ensures value { result ≡ power_above count }
-    ensures bound { result ≤ 65536 }
+    ensures bound { result ≤ most_slots }
 {
     (count + 1).next_power_of_two()
 }
 
 /// How many bytes the objects of a pool take in their zone.
 pub(crate) fn objects_len(spec: PoolSpec) -> u32
-    requires { (spec.count ≤ 65535) × (spec.room ≤ 4096) }
+    requires { (spec.count ≤ most_buffers) × (spec.room ≤ largest_room) }
     ensures value { result ≡ objects_len spec }
     ensures bound { result ≤ 276819840 }
 {
-    spec.count * ((spec.room + 128 + 63) / 64 * 64)
+    spec.count * ((spec.room + HEADER_SIZE + 63) / 64 * 64)
 }
 
 // What a pool takes.
 fn pool_bytes(spec: PoolSpec) -> u64
-    requires { (spec.count ≤ 65535) × (spec.room ≤ 4096) }
+    requires { (spec.count ≤ most_buffers) × (spec.room ≤ largest_room) }
     ensures value { result ≡ pool_bytes spec }
     ensures bound { result ≤ 277082112 }
 {

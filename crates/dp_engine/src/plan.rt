@@ -2,6 +2,7 @@
 ghost use Rattle.std.specs.Prelude.{◌≡◌, ◌<◌, ◌≤◌, [], length, slice_get, Some, ℕ};
 ghost use Rattle.dp_model.specs.Rules.{Question};
 ghost use Rattle.std.specs.List.{AllByRecursion};
+ghost use Rattle.dp_model.specs.Limits.{largest_hop};
 ghost use Rattle.dp_model.specs.Prefixes.{Route};
 ghost use Rattle.dp_lpm.specs.Routes.{RouteTable};
 ghost use Rattle.dp_check.specs.Faults.{IsChecked};
@@ -37,9 +38,9 @@ impl Model for Plan {
     ghost invariant = { λ p. IsPlan p.env p.tables.items p.nodes.items (pattern_of (option_map (λ v. v.items) p.pattern)) };
 }
 
-// What every table is known to keep: no hop is above 16,777,215.
+// What every table is known to keep: no hop is above the largest.
 fn tell_hops(tables: &[Lpm])
-    ensures { (k : ℕ) (t : RouteTable) → slice_get tables.now k ≡ Some t → AllByRecursion (λ (route : Route). route.hop ≤ 16777215) t.routes }
+    ensures { (k : ℕ) (t : RouteTable) → slice_get tables.now k ≡ Some t → AllByRecursion (λ (route : Route). route.hop ≤ largest_hop) t.routes }
 {
     for table in tables {
         let _rules = table.len();

@@ -1,5 +1,7 @@
 //! What a turn does: a record comes to a port, and then packets that wait in rings are served.
 ghost use Rattle.std.specs.Prelude.{◌≡◌, ℕ, ◌+◌, ◌*◌, ◌^◌, ◌<◌, ◌≤◌, Bool, List, length, IfSome};
+ghost use Rattle.dp_pcap.specs.declared.format.TheConstants.{LARGEST_RECORD};
+ghost use Rattle.dp_model.specs.Limits.{least_port_room};
 ghost use Rattle.dp_model.specs.Environments.{room_at};
 ghost use Rattle.dp_model.specs.Packets.{needed as segments_needed};
 ghost use Rattle.dp_model.specs.Runs.{Serves, Took, runs_of};
@@ -13,15 +15,15 @@ use crate::plan::Plan;
 use crate::run::{NodeRun, run};
 use crate::view::View;
 use crate::watch::Watch;
-use dp_model::{Entry, PoolSpec};
+use dp_model::{DEFAULT_HEADROOM, Entry, PoolSpec};
 
-// How many segments bytes need in a pool: parts of its data room behind 128 bytes of headroom, and one where there are no bytes.
+// How many segments bytes need in a pool: parts of its data room behind the headroom, and one where there are no bytes.
 fn needed(pools: &[PoolSpec], pool: u32, len: usize) -> usize
-    requires room { 129 ≤ room_at pools.now pool }
-    requires len { len ≤ 262144 }
+    requires room { least_port_room ≤ room_at pools.now pool }
+    requires len { len ≤ LARGEST_RECORD }
     ensures { result ≡ segments_needed pools.now pool len }
 {
-    let full = pools[pool as usize].room as usize - 128;
+    let full = pools[pool as usize].room as usize - DEFAULT_HEADROOM as usize;
     // It divides only where there is more than one part.
     if len <= full {
         return 1;
@@ -40,7 +42,7 @@ pub(crate) fn arrive<W: Watch>(
     watch: &mut W,
 ) -> (Outcome, NodeRun)
     requires exists { port < length plan.now.setting.env.ports }
-    requires size { length bytes.now ≤ 262144 }
+    requires size { length bytes.now ≤ LARGEST_RECORD }
     requires rests { Rests plan.now m.old }
     requires few { m.old.state.world.calls + 263169 < 2 ^ 64 }
     requires few_cuts { m.old.state.world.cuts + 1 < 2 ^ 64 }

@@ -2,8 +2,9 @@
 
 ghost use Rattle.std.specs.Prelude.{◌≡◌, ℕ, ◌+◌, ◌*◌, ◌<◌, ◌≤◌, true, None, Some, List, [], ◌∷◌, ◌++◌, length};
 ghost use Rattle.std.specs.List.{AllByRecursion};
+ghost use Rattle.dp_region.specs.Region.{largest_region};
 ghost use Rattle.dp_heap.specs.declared.elements.Element.{Element};
-ghost use Rattle.dp_heap.specs.Elements.{rounded, NothingFits, Taken, count_of, is_busy};
+ghost use Rattle.dp_heap.specs.Elements.{rounded, slack, NothingFits, Taken, count_of, is_busy};
 ghost use Rattle.dp_ring.specs.Rings.{IsCount};
 ghost use Rattle.dp_pool.specs.Making.{object_name, queue_name};
 ghost use Rattle.dp_model.specs.Environments.{pool_fits};
@@ -15,6 +16,7 @@ ghost use Rattle.dp_engine.specs.Stacks.{names_of, size_of, TakesTwo};
 use crate::names::{Kind, pool_name, ring_name};
 use core::mem::replace;
 use dp_heap::Heap;
+use dp_mbuf::HEADER_SIZE;
 use dp_model::PoolSpec;
 use dp_pool::Pool;
 use dp_region::Region;
@@ -74,7 +76,7 @@ fn put_ring(slot: &mut Option<Ring>, ring: Ring)
 // A zone that is not refused.
 fn reserve(heap: &mut Heap, zones: &mut Zones, name: &str, len: u32) -> Zone
     requires name { IsNext name.now (names_of zones.old) }
-    requires len { (0 < len) × (len ≤ 1073741824) }
+    requires len { (0 < len) × (len ≤ largest_region) }
     requires room { ¬ NothingFits (rounded len) 64 heap.old.elements }
     ensures zone { (result.home ≡ heap.old.home) × (length result.bytes ≡ rounded len) }
     ensures taken { Taken heap.old.elements (rounded len) 64 result.offset heap.new.elements }
@@ -105,7 +107,7 @@ fn make(heap: &mut Heap, zones: &mut Zones, k: usize, spec: PoolSpec) -> Pool
     ensures size { size_of heap.new.elements ≡ size_of heap.old.elements }
     ensures counted { count_of is_busy heap.new.elements ≡ count_of is_busy heap.old.elements + 2 }
 {
-    let size = spec.room + 128;
+    let size = spec.room + HEADER_SIZE;
     match Pool::make(heap, zones, pool_name(k), spec.count, size, spec.cache) {
         Ok(pool) => pool,
         Err(_) => unreachable!(),
@@ -116,8 +118,8 @@ impl Stack {
     /// One over a region of which nothing is lent, with a spare zone of so many bytes.
     pub fn over(region: Region, len: u32) -> Stack
         requires lent { region.lent ≡ [] }
-        requires len { (0 < len) × (len ≤ 1073741824) }
-        requires room { zone_bytes len + 128 < length region.bytes }
+        requires len { (0 < len) × (len ≤ largest_region) }
+        requires room { zone_bytes len + slack < length region.bytes }
         ensures same { (result.home ≡ region.home) × (result.size ≡ length region.bytes) × (result.spare ≡ rounded len) }
         ensures left { result.left + zone_bytes len ≡ length region.bytes }
         ensures names { AllBefore (first_of Kind.Port) result.names × (length result.names ≡ 1) }
@@ -132,8 +134,8 @@ impl Stack {
     // The next zone below.
     fn take(&mut self, name: &str, len: u32) -> Zone
         requires name { IsNext name.now self.old.names }
-        requires len { (0 < len) × (len ≤ 1073741824) }
-        requires room { zone_bytes len + 128 < self.old.left }
+        requires len { (0 < len) × (len ≤ largest_region) }
+        requires room { zone_bytes len + slack < self.old.left }
         ensures zone { (result.home ≡ self.old.home) × (length result.bytes ≡ rounded len) }
         ensures left { self.new.left + zone_bytes len ≡ self.old.left }
         ensures same { (self.new.home ≡ self.old.home) × (self.new.size ≡ self.old.size) × (self.new.spare ≡ self.old.spare) }
@@ -146,7 +148,7 @@ impl Stack {
     fn take_ring(&mut self, kind: Kind, k: usize, count: u32) -> Ring
         requires number { k < 8 }
         requires count { IsCount count }
-        requires room { ring_bytes count + 128 < self.old.left }
+        requires room { ring_bytes count + slack < self.old.left }
         requires names { AllBefore (first_of kind + 10 * k) self.old.names }
         requires few { length self.old.names < 64 }
         ensures ring { IsNewRing self.old.home count result }
@@ -162,7 +164,7 @@ impl Stack {
     pub fn take_rings(&mut self, kind: Kind, counts: &[u32]) -> [Option<Ring>; 8]
         requires number { length counts.now ≤ 8 }
         requires counts { AllByRecursion IsCount counts.now }
-        requires room { total ring_bytes counts.now + 128 < self.old.left }
+        requires room { total ring_bytes counts.now + slack < self.old.left }
         requires names { AllBefore (first_of kind) self.old.names }
         requires few { length self.old.names + length counts.now ≤ 64 }
         ensures rings { AreFilled (IsNewRing self.old.home) counts.now result }
@@ -183,7 +185,7 @@ impl Stack {
     fn take_pool(&mut self, k: usize, spec: PoolSpec) -> Pool
         requires number { k < 8 }
         requires spec { pool_fits spec ≡ true }
-        requires room { pool_bytes spec + 128 < self.old.left }
+        requires room { pool_bytes spec + slack < self.old.left }
         requires names { AllBefore (first_pool + 10 * k) self.old.names }
         requires few { length self.old.names + 2 ≤ 64 }
         ensures pool { IsNewPool self.old.home spec result }
@@ -198,7 +200,7 @@ impl Stack {
     pub fn take_pools(&mut self, specs: &[PoolSpec]) -> [Option<Pool>; 8]
         requires number { length specs.now ≤ 8 }
         requires specs { AllByRecursion (λ s. pool_fits s ≡ true) specs.now }
-        requires room { total pool_bytes specs.now + 128 < self.old.left }
+        requires room { total pool_bytes specs.now + slack < self.old.left }
         requires names { AllBefore first_pool self.old.names }
         requires few { length self.old.names + 2 * length specs.now ≤ 64 }
         ensures pools { AreFilled (IsNewPool self.old.home) specs.now result }

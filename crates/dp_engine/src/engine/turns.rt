@@ -1,8 +1,9 @@
 //! Turns of an engine.
 ghost use Rattle.std.specs.Prelude.{◌≡◌, ℕ, ◌+◌, ◌<◌, ◌≤◌, ◌*◌, Bool, List, length};
+ghost use Rattle.dp_pcap.specs.declared.format.TheConstants.{LARGEST_RECORD};
 ghost use Rattle.dp_model.specs.Runs.{Turn as IsTurn, Took, NeverStuck, runs_of};
 ghost use Rattle.dp_model.specs.Safety.{Beginning, IsOfTurn};
-ghost use Rattle.dp_engine.specs.Engines.{tallies_at, counted_at, records_of};
+ghost use Rattle.dp_engine.specs.Engines.{most_turns, tallies_at, counted_at, records_of};
 ghost use Rattle.dp_engine.specs.Outcomes.{outcome_of};
 
 use crate::engine::{Engine, Outcome, Turn};
@@ -14,7 +15,7 @@ use crate::watch::{Silent, Watch};
 // One record more at a port, of which that became.
 fn count(tallies: &mut [Tallies; 8], port: u8, outcome: Outcome)
     requires there { port < 8 }
-    requires few { records_of (tallies_at tallies.old port) < 134217728 }
+    requires few { records_of (tallies_at tallies.old port) < most_turns }
     ensures { tallies.new ≡ counted_at port (outcome_of outcome) tallies.old }
 {
     match outcome {
@@ -30,8 +31,8 @@ impl Engine {
     /// An engine takes at most 134,217,728 turns. No node run is ever stuck.
     pub fn turn(&mut self, port: u8, bytes: &[u8]) -> Turn
         requires exists { port < length self.old.setting.env.ports }
-        requires limit { self.old.turns < 134217728 }
-        requires size { length bytes.now ≤ 262144 }
+        requires limit { self.old.turns < most_turns }
+        requires size { length bytes.now ≤ LARGEST_RECORD }
         ensures turn { (told : List Bool) × IsTurn self.old.setting self.old.nodes port bytes.now self.old.world (outcome_of result.outcome) result.runs told
             self.new.world }
         ensures never_stuck { (b : Beginning) → IsOfTurn self.old.setting self.old.nodes port bytes.now self.old.world b →
@@ -54,8 +55,8 @@ impl Engine {
     #[inline(always)]
     pub fn watched_turn<W: Watch>(&mut self, port: u8, bytes: &[u8], watch: &mut W) -> Turn
         requires exists { port < length self.old.setting.env.ports }
-        requires limit { self.old.turns < 134217728 }
-        requires size { length bytes.now ≤ 262144 }
+        requires limit { self.old.turns < most_turns }
+        requires size { length bytes.now ≤ LARGEST_RECORD }
         ensures turn { (told : List Bool) × IsTurn self.old.setting self.old.nodes port bytes.now self.old.world (outcome_of result.outcome) result.runs told
             self.new.world }
         ensures never_stuck { (b : Beginning) → IsOfTurn self.old.setting self.old.nodes port bytes.now self.old.world b →
