@@ -1,15 +1,27 @@
-use Rattle.std.proofs.Common.{◌<◌, length, ap, arith}
+-- The drain of a port: its transmit list is found once, and each goal is one step from there.
+use Rattle.std.proofs.Common.{◌≡◌, ◌<◌, List, length, Some, ap, arith}
+use Rattle.std.specs.Prelude.{slice_get}
+use Rattle.dp_model.specs.Packets.{Packet}
 use Rattle.dp_engine.specs.Engines.{EngineState}
 use Rattle.dp_engine.proofs.Emptied.{port_within, box_at, sent_kept, sent_fits}
 use Rattle.dp_engine.proofs.engine.Engine.drain.Goals as goal
+use Rattle.dp_engine.proofs.engine.Engine.drain.Goals.{After-put_all-outcome}
+
+-- the port is one of eight, and has a list
+its_list : (g : _) (c : After-put_all-outcome g)
+    → (c.args.port < 8) × ((packets : List Packet) × (slice_get c.self.inside.machine.state.world.outboxes c.args.port ≡ Some packets))
+its_list g c =
+    let e = c.self.inside in
+    let long = ap (λ (x : EngineState). length x.setting.env.ports) c.self.view_is in
+    let here : c.args.port < length e.plan.setting.env.ports = omega (arith, c.requires.exists, long) in (
+      port_within e.plan e.machine e.space e.turns e.tallies e.left c.self.invariant c.args.port here,
+      box_at e.plan e.machine e.space e.turns e.tallies e.left c.self.invariant c.args.port here,
+    )
 
 pub overflow_add-self : goal.overflow_add-self
 overflow_add-self g c =
     let e = c.self.inside in
-    let long = ap (λ (x : EngineState). length x.setting.env.ports) c.self.view_is in
-    let here : c.args.port < length e.plan.setting.env.ports = omega (arith, c.requires.exists, long) in
-    let (packets, box) = box_at e.plan e.machine e.space e.turns e.tallies e.left c.self.invariant c.args.port here in
-    let lt = port_within e.plan e.machine e.space e.turns e.tallies e.left c.self.invariant c.args.port here in
+    let (lt, (packets, box)) = its_list g (goal.at.overflow_add-self g c).After-put_all-outcome in
     omega (
       arith,
       sent_fits e.plan e.machine e.space e.turns e.tallies e.left c.self.invariant c.args.port c.in-Ok.sent packets lt box
@@ -19,10 +31,7 @@ overflow_add-self g c =
 pub overflow_add-self-in-Err : goal.overflow_add-self-in-Err
 overflow_add-self-in-Err g c =
     let e = c.self.inside in
-    let long = ap (λ (x : EngineState). length x.setting.env.ports) c.self.view_is in
-    let here : c.args.port < length e.plan.setting.env.ports = omega (arith, c.requires.exists, long) in
-    let (packets, box) = box_at e.plan e.machine e.space e.turns e.tallies e.left c.self.invariant c.args.port here in
-    let lt = port_within e.plan e.machine e.space e.turns e.tallies e.left c.self.invariant c.args.port here in
+    let (lt, (packets, box)) = its_list g (goal.at.overflow_add-self-in-Err g c).After-put_all-outcome in
     omega (
       arith,
       sent_fits e.plan e.machine e.space e.turns e.tallies e.left c.self.invariant c.args.port c.in-Err.sent packets lt box
@@ -32,19 +41,13 @@ overflow_add-self-in-Err g c =
 pub invariant_of-self : goal.invariant_of-self
 invariant_of-self g c =
     let e = c.self.inside in
-    let long = ap (λ (x : EngineState). length x.setting.env.ports) c.self.view_is in
-    let here : c.args.port < length e.plan.setting.env.ports = omega (arith, c.requires.exists, long) in
-    let (packets, box) = box_at e.plan e.machine e.space e.turns e.tallies e.left c.self.invariant c.args.port here in
-    let lt = port_within e.plan e.machine e.space e.turns e.tallies e.left c.self.invariant c.args.port here in
+    let (lt, (packets, box)) = its_list g (goal.at.invariant_of-self g c).After-put_all-outcome in
     rw c.clear_sent.ensures (sent_kept e.plan e.machine e.space e.turns e.tallies e.left c.self.invariant c.args.port c.in-Ok.sent packets lt box
     (c.in-Ok.ensures.most packets box))
 
 pub invariant_of-self-in-Err : goal.invariant_of-self-in-Err
 invariant_of-self-in-Err g c =
     let e = c.self.inside in
-    let long = ap (λ (x : EngineState). length x.setting.env.ports) c.self.view_is in
-    let here : c.args.port < length e.plan.setting.env.ports = omega (arith, c.requires.exists, long) in
-    let (packets, box) = box_at e.plan e.machine e.space e.turns e.tallies e.left c.self.invariant c.args.port here in
-    let lt = port_within e.plan e.machine e.space e.turns e.tallies e.left c.self.invariant c.args.port here in
+    let (lt, (packets, box)) = its_list g (goal.at.invariant_of-self-in-Err g c).After-put_all-outcome in
     rw c.clear_sent.ensures (sent_kept e.plan e.machine e.space e.turns e.tallies e.left c.self.invariant c.args.port c.in-Err.sent packets lt box
     (c.in-Err.ensures.most packets box))

@@ -1,70 +1,77 @@
+-- A clone of a packet: what its register holds, and what came of the call, is settled once, and each goal is one step from there.
 use Rattle.std.proofs.Common.{[], ◌≡◌, length, sym}
-use Rattle.dp_model.specs.Packets.{cloned}
+use Rattle.dp_model.specs.Packets.{Packet, cloned}
+use Rattle.dp_model.specs.Machine.{Holds}
 use Rattle.dp_engine.specs.Steps.{setting_of}
-use Rattle.dp_engine.specs.Handles.{ran}
-use Rattle.dp_engine.proofs.Registers.{handle, held, taken, too_few, keeps_bytes, called}
-use Rattle.dp_engine.specs.Handles.{lists_of}
+use Rattle.dp_engine.specs.Handles.{ran, frames_of, lists_of}
+use Rattle.dp_engine.proofs.Handles.{Held}
+use Rattle.dp_engine.proofs.Registers.{Taken, handle, held, taken, too_few, keeps_bytes, called}
 use Rattle.dp_engine.proofs.machine.Machine.clone_of.Goals as goal
+use Rattle.dp_engine.proofs.machine.Machine.clone_of.Goals.{After-handle_in-source, In-Some}
+
+-- the handle has the packet
+there : (c : After-handle_in-source) (k : Packet) → Holds c.args.self.now.state c.args.from k → Held c.self.inside.mbufs.store.slots c.self.inside.registers
+    (lists_of c.self.inside.rings c.self.inside.outboxes) c.args.from c.handle_in-source.result k
+there c k holds = held _ _ _ _ _ _ _ _ c.args.from c.handle_in-source.result k c.self.view_is c.self.invariant c.handle_in-source.ensures holds
+
+-- the clone that is given
+given : (c : In-Some) (k : Packet) → Held c.self.inside.mbufs.store.slots c.self.inside.registers (lists_of c.self.inside.rings c.self.inside.outboxes)
+    c.args.from c.handle_in-source.result k
+    → Taken (setting_of c.args.env.now [] c.args.pattern.now) c.clone_of.new.self.store
+    (frames_of c.self.inside.mbufs.zones c.self.inside.rings c.self.inside.outboxes) c.self.inside.registers c.self.inside.numbers
+    (lists_of c.self.inside.rings c.self.inside.outboxes) c.self.inside.calls (ran c.self.inside.steps.count c.self.inside.cuts c.self.inside.jumps)
+    c.args.self.now c.args.into c.args.pool (length k) c.in-Some.packet (λ ns. cloned ns k) (λ ns old new. new ≡ old)
+given c k h =
+    taken (setting_of c.args.env.now [] c.args.pattern.now) _ _ _ c.self.inside.registers c.self.inside.numbers
+    (lists_of c.self.inside.rings c.self.inside.outboxes) c.self.inside.calls (ran c.self.inside.steps.count c.self.inside.cuts c.self.inside.jumps)
+    c.args.self.now c.args.into c.args.pool (length k) c.in-Some.packet (λ ns. cloned ns k) (λ ns old new. new ≡ old) c.self.view_is c.self.invariant
+    c.requires.empty c.requires.pools (c.in-Some.ensures.packets k h.has)
 
 pub handle_in-source-requires : goal.handle_in-source-requires
-handle_in-source-requires c =
-    let (k, holds) = c.requires.holds in
-    handle _ _ _ _ _ _ _ _ c.args.from k c.self.view_is holds
+handle_in-source-requires c = handle _ _ _ _ _ _ _ _ c.args.from c.requires.holds.0 c.self.view_is c.requires.holds.1
 
 pub clone_of-requires-clause-live : goal.clone_of-requires-clause-live
 clone_of-requires-clause-live c =
     let (k, holds) = c.requires.holds in
-    let there = held _ _ _ _ _ _ _ _ c.args.from c.handle_in-source.result k c.self.view_is c.self.invariant c.handle_in-source.ensures holds in
-    (k, there.has, tt)
+    (k, (there (goal.at.clone_of-requires-clause-live c).After-handle_in-source k holds).has, tt)
 
 pub invariant_of-self-in-Some : goal.invariant_of-self-in-Some
 invariant_of-self-in-Some c =
+    let here = goal.at.invariant_of-self-in-Some c in
     let (k, holds) = c.requires.holds in
-    let there = held _ _ _ _ _ _ _ _ c.args.from c.handle_in-source.result k c.self.view_is c.self.invariant c.handle_in-source.ensures holds in
-    let given = taken (setting_of c.args.env.now [] c.args.pattern.now) _ _ _ c.self.inside.registers c.self.inside.numbers
-    (lists_of c.self.inside.rings c.self.inside.outboxes) c.self.inside.calls (ran c.self.inside.steps.count c.self.inside.cuts c.self.inside.jumps)
-    c.args.self.now c.args.into c.args.pool (length k) c.in-Some.packet (λ ns. cloned ns k) (λ ns old new. new
-    ≡ old) c.self.view_is c.self.invariant c.requires.empty c.requires.pools (c.in-Some.ensures.packets k there.has) in
-    rw (c.of.ensures, c.number.ensures, c.number-in-Some.ensures.same) given.stand
+    rw (c.of.ensures, c.number.ensures, c.number-in-Some.ensures.same) (given here.In-Some k (there here.After-handle_in-source k holds)).stand
 
 pub invariant_of-self-in-None : goal.invariant_of-self-in-None
 invariant_of-self-in-None c =
     let (k, holds) = c.requires.holds in
-    let there = held _ _ _ _ _ _ _ _ c.args.from c.handle_in-source.result k c.self.view_is c.self.invariant c.handle_in-source.ensures holds in
-    rw ((c.in-None.ensures.packets k there.has).1) c.self.invariant
+    let h = there (goal.at.invariant_of-self-in-None c).After-handle_in-source k holds in
+    rw ((c.in-None.ensures.packets k h.has).1) c.self.invariant
 
 pub returns-in-Some-clause-denied : goal.returns-in-Some-clause-denied
 returns-in-Some-clause-denied c k holds =
-    let there = held _ _ _ _ _ _ _ _ c.args.from c.handle_in-source.result k c.self.view_is c.self.invariant c.handle_in-source.ensures holds in
-    let given = taken (setting_of c.args.env.now [] c.args.pattern.now) _ _ _ c.self.inside.registers c.self.inside.numbers
-    (lists_of c.self.inside.rings c.self.inside.outboxes) c.self.inside.calls (ran c.self.inside.steps.count c.self.inside.cuts c.self.inside.jumps)
-    c.args.self.now c.args.into c.args.pool (length k) c.in-Some.packet (λ ns. cloned ns k) (λ ns old new. new
-    ≡ old) c.self.view_is c.self.invariant c.requires.empty c.requires.pools (c.in-Some.ensures.packets k there.has) in
-    sym (given.allowed (sym c.if-is_listed.ensures))
+    let here = goal.at.returns-in-Some-clause-denied c in
+    sym ((given here.In-Some k (there here.After-handle_in-source k holds)).allowed (sym c.if-is_listed.ensures))
 
 pub returns-in-Some-clause-given : goal.returns-in-Some-clause-given
 returns-in-Some-clause-given c _ k holds =
-    let there = held _ _ _ _ _ _ _ _ c.args.from c.handle_in-source.result k c.self.view_is c.self.invariant c.handle_in-source.ensures holds in
-    let given = taken (setting_of c.args.env.now [] c.args.pattern.now) _ _ _ c.self.inside.registers c.self.inside.numbers
-    (lists_of c.self.inside.rings c.self.inside.outboxes) c.self.inside.calls (ran c.self.inside.steps.count c.self.inside.cuts c.self.inside.jumps)
-    c.args.self.now c.args.into c.args.pool (length k) c.in-Some.packet (λ ns. cloned ns k) (λ ns old new. new
-    ≡ old) c.self.view_is c.self.invariant c.requires.empty c.requires.pools (c.in-Some.ensures.packets k there.has) in
+    let here = goal.at.returns-in-Some-clause-given c in
+    let t = given here.In-Some k (there here.After-handle_in-source k holds) in
     rw (c.of.ensures, c.number.ensures, c.number-in-Some.ensures.same, c.clone_of.ensures.zones) (
-      given.ns,
-      given.fresh,
-      keeps_bytes _ _ _ _ _ given.changes given.state,
+      t.ns,
+      t.fresh,
+      keeps_bytes _ _ _ _ _ t.changes t.state,
     )
 
 pub returns-in-None-clause-denied : goal.returns-in-None-clause-denied
 returns-in-None-clause-denied c k holds =
-    let there = held _ _ _ _ _ _ _ _ c.args.from c.handle_in-source.result k c.self.view_is c.self.invariant c.handle_in-source.ensures holds in
+    let h = there (goal.at.returns-in-None-clause-denied c).After-handle_in-source k holds in
     sym (too_few (setting_of c.args.env.now [] c.args.pattern.now) _ _ _ c.self.inside.registers c.self.inside.numbers
     (lists_of c.self.inside.rings c.self.inside.outboxes) c.self.inside.calls (ran c.self.inside.steps.count c.self.inside.cuts c.self.inside.jumps)
     c.args.self.now c.args.pool (length k) (λ ns. cloned ns k) (λ ns old new. new
-    ≡ old) c.self.view_is c.self.invariant c.requires.pools (sym c.if-is_listed.ensures) (c.in-None.ensures.packets k there.has))
+    ≡ old) c.self.view_is c.self.invariant c.requires.pools (sym c.if-is_listed.ensures) (c.in-None.ensures.packets k h.has))
 
 pub returns-in-None-clause-refused : goal.returns-in-None-clause-refused
 returns-in-None-clause-refused c _ =
     let (k, holds) = c.requires.holds in
-    let there = held _ _ _ _ _ _ _ _ c.args.from c.handle_in-source.result k c.self.view_is c.self.invariant c.handle_in-source.ensures holds in
-    rw (c.clone_of.ensures.zones) (called _ _ _ _ _ _ _ _ _ c.self.view_is (c.in-None.ensures.packets k there.has).1)
+    let h = there (goal.at.returns-in-None-clause-refused c).After-handle_in-source k holds in
+    rw (c.clone_of.ensures.zones) (called _ _ _ _ _ _ _ _ _ c.self.view_is (c.in-None.ensures.packets k h.has).1)

@@ -1,11 +1,24 @@
+-- An entry put behind the others of a ring: whether it is taken, and which ring waits first then, is settled once.
 use Rattle.std.proofs.Common.{◌≡◌, ◌∙◌, ap, arith, [], ◌∷◌}
 use Rattle.std.specs.Prelude.{nat_lt, if◌then◌else◌}
 use Rattle.dp_ring.specs.Rings.{RingView, room_in, with_more}
 use Rattle.dp_engine.specs.Queues.{ring_at}
-use Rattle.dp_engine.proofs.Firsts.{first_place, put_is}
+use Rattle.dp_engine.proofs.Firsts.{IsPut, first_place, put_is}
 use Rattle.dp_engine.proofs.Slots.{listed as ring_listed, has_ring, ring_is, changed, renewed, set_where}
 use Rattle.dp_engine.proofs.queues.Queues.push.Goals as goal
+use Rattle.dp_engine.proofs.queues.Queues.push.Goals.{After-push_in-is_taken}
 use Rattle.dp_engine.proofs.queues.Queues.push.Goals.{else-is_taken-via-then-is_taken+else-k-self, else-is_taken-via-else-is_taken}
+
+-- whether the entry is taken
+taken : (c : After-push_in-is_taken) → c.push_in-is_taken.result ≡ nat_lt 0 (room_in (ring_at c.args.self.now c.args.k))
+taken c = c.push_in-is_taken.ensures.taken ∙ ap (λ r. nat_lt 0 (room_in r)) (ring_is _ _ c.self.view_is c.self.invariant.0 c.args.k _ c.requires)
+
+-- the number of the first ring that waits, before the entry and behind it
+first : (c : After-push_in-is_taken) → c.self.inside.first ≡ first_place c.args.self.now
+first c = c.self.invariant.2 ∙ ap first_place c.self.view_is
+
+put : (c : After-push_in-is_taken) → IsPut c.args.self.now c.args.k c.args.entry c.push_in-is_taken.result
+put c = put_is c.args.self.now c.args.k c.args.entry c.push_in-is_taken.result c.requires (taken c)
 
 pub listed : goal.listed
 listed c = (ring_listed _ _ c.self.view_is c.self.invariant.0 c.args.k c.requires).0
@@ -18,37 +31,29 @@ push_in-is_taken-requires c = has_ring _ _ c.self.view_is c.self.invariant.0 c.a
 
 pub invariant_of-self : goal.invariant_of-self
 invariant_of-self c =
-    let taken = c.push_in-is_taken.ensures.taken ∙ ap (λ r. nat_lt 0 (room_in r)) (ring_is _ _ c.self.view_is c.self.invariant.0 c.args.k _ c.requires) in
-    let first : c.self.inside.first ≡ first_place c.args.self.now = c.self.invariant.2 ∙ ap first_place c.self.view_is in
-    let put = put_is c.args.self.now c.args.k c.args.entry c.push_in-is_taken.result c.requires taken in
+    let here = (goal.at.invariant_of-self c).After-push_in-is_taken in
     renewed _ _ c.self.view_is c.self.invariant.0 c.args.k _ c.push_in-is_taken.new.slot
     (λ (r : RingView). if nat_lt 0 (room_in r) then with_more r (c.args.entry ∷ []) else r)
     c.self.inside.count c.args.k c.requires c.push_in-is_taken.ensures.ring c.self.invariant.1
-    (put.earlier c.if-is_taken.true (omega (arith, first, c.if-k-self.true)))
+    ((put here).earlier c.if-is_taken.true (omega (arith, first here, c.if-k-self.true)))
 
 pub invariant_of-self-else-k-self : goal.invariant_of-self-else-k-self
 invariant_of-self-else-k-self c =
-    let taken = c.push_in-is_taken.ensures.taken ∙ ap (λ r. nat_lt 0 (room_in r)) (ring_is _ _ c.self.view_is c.self.invariant.0 c.args.k _ c.requires) in
-    let first : c.self.inside.first ≡ first_place c.args.self.now = c.self.invariant.2 ∙ ap first_place c.self.view_is in
-    let put = put_is c.args.self.now c.args.k c.args.entry c.push_in-is_taken.result c.requires taken in
+    let here = (goal.at.invariant_of-self-else-k-self c).After-push_in-is_taken in
     renewed _ _ c.self.view_is c.self.invariant.0 c.args.k _ c.push_in-is_taken.new.slot
     (λ (r : RingView). if nat_lt 0 (room_in r) then with_more r (c.args.entry ∷ []) else r)
-    c.self.inside.count c.self.inside.first c.requires c.push_in-is_taken.ensures.ring c.self.invariant.1 (first
-    ∙ put.later c.if-is_taken.true (omega (arith, first, c.if-k-self.false)))
+    c.self.inside.count c.self.inside.first c.requires c.push_in-is_taken.ensures.ring c.self.invariant.1
+    (first here ∙ (put here).later c.if-is_taken.true (omega (arith, first here, c.if-k-self.false)))
 
 pub invariant_of-self-else-is_taken : goal.invariant_of-self-else-is_taken
 invariant_of-self-else-is_taken c =
-    let taken = c.push_in-is_taken.ensures.taken ∙ ap (λ r. nat_lt 0 (room_in r)) (ring_is _ _ c.self.view_is c.self.invariant.0 c.args.k _ c.requires) in
-    let first : c.self.inside.first ≡ first_place c.args.self.now = c.self.invariant.2 ∙ ap first_place c.self.view_is in
-    let put = put_is c.args.self.now c.args.k c.args.entry c.push_in-is_taken.result c.requires taken in
+    let here = (goal.at.invariant_of-self-else-is_taken c).After-push_in-is_taken in
     renewed _ _ c.self.view_is c.self.invariant.0 c.args.k _ c.push_in-is_taken.new.slot
     (λ (r : RingView). if nat_lt 0 (room_in r) then with_more r (c.args.entry ∷ []) else r)
-    c.self.inside.count c.self.inside.first c.requires c.push_in-is_taken.ensures.ring c.self.invariant.1 (first ∙ put.full c.if-is_taken.false)
+    c.self.inside.count c.self.inside.first c.requires c.push_in-is_taken.ensures.ring c.self.invariant.1 (first here ∙ (put here).full c.if-is_taken.false)
 
 pub returns-then-k-self-clause-taken : goal.returns-then-k-self-clause-taken
-returns-then-k-self-clause-taken c =
-    c.push_in-is_taken.ensures.taken
-    ∙ ap (λ r. nat_lt 0 (room_in r)) (ring_is _ _ c.self.view_is c.self.invariant.0 c.args.k _ c.requires)
+returns-then-k-self-clause-taken c = taken (goal.at.returns-then-k-self-clause-taken c).After-push_in-is_taken
 
 pub returns-then-k-self-clause-rings : goal.returns-then-k-self-clause-rings
 returns-then-k-self-clause-rings c =
@@ -58,9 +63,7 @@ returns-then-k-self-clause-rings c =
     (with_more (ring_at c.args.self.now c.args.k) (c.args.entry ∷ []))
 
 pub returns-else-is_taken-clause-taken : goal.returns-else-is_taken-clause-taken
-returns-else-is_taken-clause-taken c =
-    c.push_in-is_taken.ensures.taken
-    ∙ ap (λ r. nat_lt 0 (room_in r)) (ring_is _ _ c.self.view_is c.self.invariant.0 c.args.k _ c.requires)
+returns-else-is_taken-clause-taken c = taken (goal.at.returns-else-is_taken-clause-taken c).After-push_in-is_taken
 
 pub returns-else-is_taken-clause-rings : goal.returns-else-is_taken-clause-rings
 returns-else-is_taken-clause-rings c =
