@@ -1,3 +1,4 @@
+-- The lemma files.
 pub mod Bytes
 pub mod Lodging
 pub mod Rights

@@ -1,4 +1,4 @@
--- Laws of spans, and of bytes and numbers that are written, for this crate and those above.
+-- Internal: laws of spans, and of bytes and numbers that are written, for this crate and those above.
 use Rattle.std.proofs.Common.{◌≡◌, ℕ, ◌+◌, ◌^◌, ◌<◌, ◌≤◌, ◌⊎◌, inl, inr, true, false, leb, ltb, eqb, List, [], length, refl, sym, ap, ap₂, ◌∙◌, subst, get_or}
 use Rattle.std.proofs.lemmas.Bool.{eqb-true, le-ltb, lt-leb, and_parts, and_left, and_right}
 use Rattle.std.proofs.lemmas.List.{ext_get_or}

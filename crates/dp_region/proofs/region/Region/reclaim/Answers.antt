@@ -1,3 +1,4 @@
+-- The bytes of the block come back into their span, and the region has its size.
 use Rattle.std.proofs.Common.{◌≡◌, ℕ, true, List, length, sym, ap, ◌∙◌, arith}
 use Rattle.dp_region.specs.Spans.{Span, listed, Spaced, with_bytes}
 use Rattle.dp_region.specs.Ownership.{ptr_at}

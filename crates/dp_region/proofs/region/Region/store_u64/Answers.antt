@@ -1,3 +1,4 @@
+-- The eight bytes of the number are stored where they were lent.
 use Rattle.std.proofs.Common.{refl, lit<}
 use Rattle.byteorder.specs.Endian.{little_bytes}
 use Rattle.dp_region.proofs.Spans.{unlent_unlisted}
