@@ -67,7 +67,8 @@ pub belongs_here : (e : Element) → is_free e ≡ true → belongs (class_of e.
 belongs_here e free =
     ap (λ (b : Bool). cond b 1 0)
     (and_from (is_free e) (eqb (class_of e.size) (class_of e.size) && eqb e.offset e.offset) free
-    (and_from (eqb (class_of e.size) (class_of e.size)) (eqb e.offset e.offset) (eq-eqb (class_of e.size) (class_of e.size) refl) (eq-eqb e.offset e.offset refl)))
+    (and_from (eqb (class_of e.size) (class_of e.size)) (eqb e.offset e.offset)
+    (eq-eqb (class_of e.size) (class_of e.size) refl) (eq-eqb e.offset e.offset refl)))
 
 pub belongs_off : (c p : ℕ) (e : Element) → ((is_free e ≡ true) × (class_of e.size ≡ c) × (e.offset ≡ p) → ⊥) → belongs c p e ≡ 0
 belongs_off c p e off = cond_both (counts c p e) 1 0 (λ n. n ≡ 0) (λ t. absurd (off (counts_parts c p e t))) (λ t. refl)

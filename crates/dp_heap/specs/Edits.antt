@@ -1,4 +1,4 @@
--- What the steps inside the heap make of the elements. No public contract cites these.
+-- Internal, no public contract names it: what the steps inside the heap make of the elements.
 use Rattle.std.specs.Prelude.{◌≡◌, ℕ, ◌-◌, Bool, true, false, ◌&&◌, List, [], ◌∷◌, ◌++◌, ◌==◌, nat_lt, if◌then◌else◌, ⊤}
 use Rattle.dp_heap.specs.declared.elements.Element.{Element}
 use Rattle.dp_heap.specs.declared.elements.State.TheVariants.{Free, Busy}

@@ -1,3 +1,4 @@
+-- The element links to the one that was first in its list, and that one back to it.
 use Rattle.std.proofs.Common.{arith}
 use Rattle.dp_heap.proofs.Lent.{free_is}
 use Rattle.dp_heap.proofs.Enter.{own, first, long1, long2, entered_laid, entered}

@@ -1,3 +1,4 @@
+-- A list is passed where none of its elements can hold the block.
 use Rattle.dp_heap.proofs.Walk.{past_begins, past_more, past_all}
 use Rattle.dp_heap.proofs.lists.Lists.find.Goals as goal
 

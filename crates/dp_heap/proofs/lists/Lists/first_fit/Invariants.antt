@@ -1,3 +1,4 @@
+-- The walk has passed elements that cannot hold the block, and the list has an end.
 use Rattle.std.proofs.Common.{length}
 use Rattle.dp_heap.proofs.Walk.{steps_left, Walked}
 use Rattle.dp_heap.proofs.lists.Lists.first_fit.Given as goal

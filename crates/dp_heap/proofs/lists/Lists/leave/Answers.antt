@@ -1,3 +1,4 @@
+-- The elements before and behind in the list link to each other.
 use Rattle.std.proofs.Common.{sym, ◌∙◌, arith}
 use Rattle.dp_heap.proofs.Lent.{free_is}
 use Rattle.dp_heap.proofs.Leave.{own, u_header, v_header, long1, left_laid, left_first, left_later}
