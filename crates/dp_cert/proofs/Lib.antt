@@ -1,3 +1,4 @@
+-- The lemma files.
 pub mod Parts
 pub mod Loop
 pub mod Rows

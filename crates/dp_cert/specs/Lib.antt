@@ -1,3 +1,4 @@
+-- The definitions that contracts of dp_cert name.
 pub mod Spelling
 pub mod Faults
 pub mod Reading

@@ -1,3 +1,4 @@
+-- A line whose digits are bytes is the row that they spell, and no row where they are not.
 use Rattle.std.proofs.Common.{◌≡◌, true, rules, sym}
 use Rattle.dp_cert.specs.Reading.{is_line}
 use Rattle.dp_cert.proofs.Rows.{row_some, row_none}

@@ -1,3 +1,4 @@
+-- Each line is one more row or the first fault, and a line too few or too many is a fault.
 use Rattle.std.proofs.Common.{◌≡◌, ◌<◌, ◌∙◌, sym, take, drop, length, rules, arith, Ok, Err}
 use Rattle.dp_cert.specs.Reading.{row_of}
 use Rattle.dp_cert.proofs.Rows.{take_min, drop_min}

@@ -1,3 +1,4 @@
+-- The lines of the rows so far are written.
 use Rattle.std.proofs.Common.{◌≡◌, ◌++◌, take}
 use Rattle.std.specs.List.{flat_map}
 use Rattle.dp_cert.specs.Spelling.{row_line}

@@ -1,3 +1,4 @@
+-- One more bound is read from its eight bytes.
 use Rattle.std.proofs.Common.{arith}
 use Rattle.std.proofs.Math.ListN.{length-set}
 use Rattle.dp_cert.specs.Reading.{bound_in, bounds_in}

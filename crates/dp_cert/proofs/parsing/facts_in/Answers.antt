@@ -1,3 +1,4 @@
+-- One more fact is read from its eleven bytes.
 use Rattle.std.proofs.Common.{arith}
 use Rattle.std.proofs.Math.ListN.{length-set}
 use Rattle.dp_cert.specs.Reading.{fact_in, facts_in}
