@@ -22,7 +22,8 @@ used_none : (n : ℕ) → used_count (replicate n 0) ≡ 0
 used_none zero = refl
 used_none (suc n) = omega (arith, used_none n)
 
-pub begun : (s : RuledTable) (groups : ℕ) → IsEmptyTable groups s.table → s.rules.items ≡ [] → s.max_rules ≤ 65536 → s.max_rules ≤ vec_capacity s.rules → IsKept s
+pub begun : (s : RuledTable) (groups : ℕ) → IsEmptyTable groups s.table → s.rules.items ≡ [] → s.max_rules ≤ 65536 →
+    s.max_rules ≤ vec_capacity s.rules → IsKept s
 begun s groups empty none most room = record {
   order = subst IsOrdered (sym none) tt;
   each = subst (λ rs. AllByRecursion IsRoute (routes_of rs)) (sym none) tt;

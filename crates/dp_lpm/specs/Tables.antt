@@ -71,7 +71,8 @@ pub record CanClose (first : ℕ) (t : Table) : Type 0 where
   pub group : ℕ
   pub named : group_at t first ≡ Some group
   pub some : 1 ≤ slice_index t.counts.items group
-  pub even : slice_index t.counts.items group ≡ 1 → (j : ℕ) → j < GROUP_ENTRIES → at t.cells.items (group * GROUP_ENTRIES + j) ≡ at t.cells.items (group * GROUP_ENTRIES)
+  pub even : slice_index t.counts.items group ≡ 1 → (j : ℕ) → j < GROUP_ENTRIES →
+      at t.cells.items (group * GROUP_ENTRIES + j) ≡ at t.cells.items (group * GROUP_ENTRIES)
 
 -- the first bits' group has one rule fewer, and is free if it has none; no entry has changed
 pub record Closed (first : ℕ) (old new : Table) : Type 0 where

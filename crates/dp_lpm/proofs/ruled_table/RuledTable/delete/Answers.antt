@@ -27,8 +27,8 @@ close-requires-clause-can c =
 pub returns-then-depth-gt-FIRST_BITS-clause-kept : goal.returns-then-depth-gt-FIRST_BITS-clause-kept
 returns-then-depth-gt-FIRST_BITS-clause-kept c =
     let new : RuledTable = record c.take_out.new.self { table = c.close.new.self } in
-    closed_keeps c.take_out.new.self new (routes_in c.args.self.now) (c.args.ip / 256) c.take_out.ensures.kept (c.take_out.ensures.here c.if-depth-gt-FIRST_BITS.true)
-    (c.take_out.ensures.others c.if-depth-gt-FIRST_BITS.true) (omega arith) c.close.ensures refl refl
+    closed_keeps c.take_out.new.self new (routes_in c.args.self.now) (c.args.ip / 256) c.take_out.ensures.kept
+    (c.take_out.ensures.here c.if-depth-gt-FIRST_BITS.true) (c.take_out.ensures.others c.if-depth-gt-FIRST_BITS.true) (omega arith) c.close.ensures refl refl
 
 pub returns-then-depth-gt-FIRST_BITS-clause-ok : goal.returns-then-depth-gt-FIRST_BITS-clause-ok
 returns-then-depth-gt-FIRST_BITS-clause-ok c = (

@@ -19,7 +19,8 @@ returns-in-Hop c =
 
 pub returns-in_default : goal.returns-in_default
 returns-in_default c =
-    let answer = none_answered (routes_in c.args.self.now) c.args.ip c.entry_for.result c.in_default.not-Hop (c.entry_for.ensures ∙ c.requires.answers c.args.ip) in
+    let answer = none_answered (routes_in c.args.self.now) c.args.ip c.entry_for.result c.in_default.not-Hop
+    (c.entry_for.ensures ∙ c.requires.answers c.args.ip) in
     record {
       value = sym answer;
       deepest = subst (LooksUp (routes_in c.args.self.now) c.args.ip) answer

@@ -8,7 +8,8 @@ use Rattle.dp_lpm.specs.Kept.{routes_in, first_of}
 use Rattle.dp_lpm.specs.declared.ruled_table.RuledTable.{RuledTable}
 use Rattle.dp_lpm.proofs.Counting.{deep_count_few}
 use Rattle.dp_lpm.proofs.Growing.{grown, full, first_small, Makes}
-use Rattle.dp_lpm.proofs.ruled_table.RuledTable.put.Goals.{else-rule-gt-FIRST_BITS-via-then-rule-gt-FIRST_BITS+else-not-open, else-rule-gt-FIRST_BITS-via-else-rule-gt-FIRST_BITS}
+use Rattle.dp_lpm.proofs.ruled_table.RuledTable.put.Goals.{else-rule-gt-FIRST_BITS-via-then-rule-gt-FIRST_BITS+else-not-open}
+use Rattle.dp_lpm.proofs.ruled_table.RuledTable.put.Goals.{else-rule-gt-FIRST_BITS-via-else-rule-gt-FIRST_BITS}
 use Rattle.dp_lpm.proofs.ruled_table.RuledTable.put.Goals as goal
 
 pub open-requires-clause-there : goal.open-requires-clause-there
