@@ -12,6 +12,7 @@ use Rattle.dp_model.specs.declared.instr.Instr.{Instr}
 use Rattle.dp_model.specs.declared.instr.Instr.TheVariants.{Alloc, Clone, Prepend, Adj, Append, Trim, Chain, Load, Store, LoadX, StoreX, Lookup, Tx, Enq, Exit}
 use Rattle.dp_model.specs.Arithmetic.{bytes_in}
 use Rattle.dp_model.specs.Groups.{group_of, is_in}
+use Rattle.dp_model.specs.Limits.{most_segments}
 use Rattle.dp_model.specs.Rows.{is_empty, entails_fact, entails_share, entry_row, fact_of_ring, bound, leads}
 use Rattle.dp_model.specs.Rules.{Question, is_held, uses, IsRefused}
 use Rattle.dp_model.specs.declared.rule.Rule.{Rule}
@@ -186,7 +187,7 @@ Says q label i row (NotAlone p known wanted) =
     (slice_get row.facts p ≡ Some known) × (written_with known i ≡ Some (p, wanted)) × (entails_share (share_in known) wanted ≡ false)
 Says q label i row (TooLong p r known more) =
     (i ≡ Chain p r) × Is (slice_get row.facts p) (λ fact. known ≡ segs_in fact) × Is (slice_get row.facts r) (λ fact. more ≡ segs_in fact)
-    × (64 < known + more)
+    × (most_segments < known + more)
 Says q label i row (NoPort r known ports) =
     (port_of i ≡ Some r) × (known ≡ bound row (Register r)) × (ports ≡ length q.env.ports) × (ports ≤ known)
 Says q label i row (LessThanRing p ring known wanted) =

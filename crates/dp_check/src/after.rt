@@ -2,7 +2,7 @@
 
 ghost use Rattle.std.specs.Prelude.{◌≡◌, ◌<◌, IsTrue};
 ghost use Rattle.dp_model.specs.Rows.{is_well_formed_row, onward, fork, leads};
-ghost use Rattle.dp_check.specs.Leads.{listed};
+ghost use Rattle.dp_check.specs.Leads.{last_label, listed};
 
 use crate::bounds::{with_bits, with_bound, with_left_shift, with_right_shift};
 use crate::groups::{chained, cloned, freed, sent};
@@ -10,7 +10,7 @@ use crate::holding::{
     allocated, appended, cut_behind, cut_in_front, prepended, with_first, with_head, with_last,
     with_tail,
 };
-use dp_model::{Env, Instr, Lead, Row, by_instr};
+use dp_model::{Env, Instr, LARGEST_HOP, Lead, Row, by_instr};
 
 /// Where an instruction leads.
 #[derive(Clone, Copy, Debug, PartialEq, Eq)]
@@ -23,7 +23,7 @@ pub enum Leads {
 impl Leads {
     /// To the next instruction alone.
     fn onward(label: u16, row: Row) -> Leads
-        requires { label < 65535 }
+        requires { label < last_label }
         ensures { listed result ≡ onward label row }
     {
         Leads::One(Lead { to: label + 1, row })
@@ -31,7 +31,7 @@ impl Leads {
 
     /// To the next instruction with the first row, or to a label with the second.
     fn fork(label: u16, row: Row, to: u16, there: Row) -> Leads
-        requires { label < 65535 }
+        requires { label < last_label }
         ensures { listed result ≡ fork label row to there }
     {
         Leads::Two(Lead { to: label + 1, row }, Lead { to, row: there })
@@ -40,7 +40,7 @@ impl Leads {
 
 /// Where the instruction at a label leads, and what is known there.
 pub fn leads_of(instr: Instr, env: &Env, label: u16, row: &Row) -> Leads
-    requires in_range { label < 65535 }
+    requires in_range { label < last_label }
     requires well_formed { IsTrue (is_well_formed_row row.now) }
     ensures { listed result ≡ leads env.now label row.now instr }
 {
@@ -71,7 +71,7 @@ pub fn leads_of(instr: Instr, env: &Env, label: u16, row: &Row) -> Leads
         Jeq: { left, right, equal } => Leads::fork(label, *row, equal, with_bound(row, left, row.bound_of(left).min(row.bound(right))));
         Jlt: { left, right, below } =>
             Leads::fork(label, *row, below, with_bound(row, left, row.bound_of(left).min(right.saturating_sub(1))));
-        Lookup: { into, missed, .. } => Leads::fork(label, with_bound(row, into, 16_777_215), missed, *row);
+        Lookup: { into, missed, .. } => Leads::fork(label, with_bound(row, into, u64::from(LARGEST_HOP)), missed, *row);
         Tx | Enq: { packet, full, .. } => Leads::fork(label, sent(row, packet), full, *row);
         Exit: {} => Leads::Ends;
     }

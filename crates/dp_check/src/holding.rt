@@ -3,10 +3,11 @@
 ghost use Rattle.std.specs.Prelude.{◌≡◌, ◌≤◌, IsTrue, max};
 ghost use Rattle.std.specs.List.{list_all};
 ghost use Rattle.dp_model.specs.Facts.{is_fact_of_row};
+ghost use Rattle.dp_model.specs.Limits.{most_segments};
 ghost use Rattle.dp_model.specs.Rows.{held, held_at, with_fact, emptied, changed, after_prepend, after_adj, after_append, after_trim};
 ghost use Rattle.dp_model.specs.Rows.{shared, owns_head, chained_share, after_chain, chained, after_alloc};
 
-use dp_model::{Fact, Holding, PacketRegister, Row};
+use dp_model::{DEFAULT_HEADROOM, Fact, Holding, PacketRegister, Row};
 
 /// What a row says of the packet in a register, if there is one.
 pub(crate) fn held_at(row: &Row, packet: PacketRegister) -> Option<Holding>
@@ -160,7 +161,7 @@ pub(crate) fn with_share(row: &Row, packet: PacketRegister, share: u8) -> Row
 pub(crate) fn allocated(row: &Row, packet: PacketRegister, room: u16) -> Row
     ensures { result ≡ with_fact row.now packet (after_alloc room) }
 {
-    let head = room.min(128);
+    let head = room.min(DEFAULT_HEADROOM);
     let new = Holding {
         share: 2,
         head,
@@ -196,7 +197,7 @@ fn chained_share(front: u8, back: u8) -> u8
 #[tactic(auto, using(crate::proofs::RowLemmas::few_segs))]
 fn with_behind(row: &Row, packet: PacketRegister, behind: Holding) -> Row
     requires in_range { IsTrue (list_all is_fact_of_row row.now.facts) }
-    requires few { behind.segs ≤ 64 }
+    requires few { behind.segs ≤ most_segments }
     ensures { result ≡ changed row.now packet (λ h. after_chain h behind) }
 {
     let Some(h) = held_at(row, packet) else {

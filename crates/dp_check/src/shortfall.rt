@@ -10,7 +10,7 @@ ghost use Rattle.dp_model.specs.Rules.{Question, places_exist, is_held, uses, ta
 ghost use Rattle.dp_model.specs.Rules.{row_passes, holds_at, later_rules};
 ghost use Rattle.dp_cert.specs.declared.cert.Version.{Version};
 ghost use Rattle.dp_check.specs.Faults.{question};
-ghost use Rattle.dp_check.specs.Leads.{listed};
+ghost use Rattle.dp_check.specs.Leads.{last_label, listed};
 ghost use Rattle.dp_check.specs.Diagnoses.{Is, IsUnmet, Says, SomeOf, measured, measured_at, rule_of, segs_in};
 
 use crate::after::{Leads, leads_of};
@@ -348,7 +348,7 @@ pub(crate) fn reason_in(
     instr: &Instr,
     row: &Row,
 ) -> Option<Reason>
-    requires in_range { label < 65535 }
+    requires in_range { label < last_label }
     requires same_length { length rows.now ≡ length program.now }
     requires well_formed { IsTrue (is_well_formed_row row.now) }
     ensures rule { (version : Version) (entry : Entry) → option_map rule_of result
