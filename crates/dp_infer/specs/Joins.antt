@@ -10,6 +10,7 @@ use Rattle.dp_model.specs.declared.instr.Instr.{Instr}
 use Rattle.dp_model.specs.Environments.{Environment}
 use Rattle.dp_model.specs.declared.env.Entry.{Entry}
 use Rattle.dp_model.specs.Groups.{group_of, is_group, same_registers, reshared_fact}
+use Rattle.dp_model.specs.Limits.{most_segments}
 use Rattle.dp_model.specs.Rows.{owns_head, entry_row, leads}
 
 -- whether a fact of a row can have the share
@@ -26,7 +27,7 @@ abbrev pub joined_fact : Fact → Fact → Fact
 joined_fact Empty other = Empty
 joined_fact (Held share head tail first last segs) Empty = Empty
 joined_fact (Held share head tail first last segs) (Held s h t f l n) =
-    Held (joined_share share s) (min head h) (min tail t) (min first f) (min last l) (min 64 (max 1 (max segs n)))
+    Held (joined_share share s) (min head h) (min tail t) (min first f) (min last l) (min most_segments (max 1 (max segs n)))
 
 -- the elements of two lists, place by place
 abbrev pub paired : {A : Type 0} → (A → A → A) → List A → List A → List A

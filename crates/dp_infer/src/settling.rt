@@ -7,7 +7,7 @@ ghost use Rattle.dp_model.specs.Rows.{is_well_formed_row};
 
 use crate::join::{joined, met};
 use dp_check::{Leads, leads_of};
-use dp_model::{Env, Fact, Holding, Instr, Lead, Operand, Row};
+use dp_model::{Env, Fact, Holding, Instr, Lead, MOST_SEGMENTS, Operand, Row};
 
 /// So many passes go from constant to constant.
 const SLOW_PASSES: u32 = 64;
@@ -104,7 +104,11 @@ fn lowered_fact(program: &[Instr], before: Fact, now: Fact, slow: bool) -> Fact 
                 tail: lowered(program, was.tail, h.tail, slow),
                 first: lowered(program, was.first, h.first, slow),
                 last: lowered(program, was.last, h.last, slow),
-                segs: if h.segs <= was.segs { h.segs } else { 64 },
+                segs: if h.segs <= was.segs {
+                    h.segs
+                } else {
+                    MOST_SEGMENTS
+                },
                 ..h
             }),
         },
