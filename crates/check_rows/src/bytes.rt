@@ -3,6 +3,7 @@
 use crate::given::{RESOLE, RESOLE_ROWS, STRIP, environment, program, resole_text, strip_text};
 use dp_cert::decode;
 use dp_check::check;
+use dp_lang::print;
 use dp_model::{Entry, Env};
 use std::test::Fail;
 
@@ -19,9 +20,11 @@ fn is_harmless(
         Ok(cert) => match check(program(rt, node)?, cert, env, Entry::Port(0)) {
             Err(_) => Ok(true),
             Ok(checked) => {
-                let same = checked.program().instrs() == program(rt, node)?.instrs();
+                let text = print(rt.alloc(), checked.program())?;
+                let same = print(rt.alloc(), &program(rt, node)?)?;
                 Ok(
-                    same && matches!(checked.entry(), Entry::Port(0))
+                    text.as_str() == same.as_str()
+                        && matches!(checked.entry(), Entry::Port(0))
                         && checked.cert().rows().len() == rows,
                 )
             }

@@ -195,14 +195,14 @@ fn groups_come_and_go(rt: HostRuntime) {
         ),
         (three, send, with_shares(&[None, Some(0), Some(0)])),
     ] {
-        assert_eq!(rt; next_row(&row, instr), Some(left), "{instr:?}");
+        assert_eq!(rt; next_row(&row, instr), Some(left));
     }
 }
 
 #[test]
 fn numbers_leave_bounds(rt: HostRuntime) {
     let into = NumberRegister::new(0);
-    for (instr, want) in [
+    for (case, (instr, want)) in [
         (Instr::Set { into, value: 9 }, 9),
         (
             Instr::Add {
@@ -241,8 +241,11 @@ fn numbers_leave_bounds(rt: HostRuntime) {
         ),
         (Instr::Shl { into, by: 63 }, 0),
         (Instr::Shr { into, by: 1 }, 0),
-    ] {
+    ]
+    .into_iter()
+    .enumerate()
+    {
         let bound = row_after(instr).map(|row| row.bound_of(into));
-        assert_eq!(rt; bound, Some(want), "{instr:?}");
+        assert_eq!(rt; bound, Some(want), "case {case}");
     }
 }
