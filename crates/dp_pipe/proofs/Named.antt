@@ -4,8 +4,8 @@ use Rattle.std.specs.Prelude.{slice_get, option_map}
 use Rattle.std.proofs.lemmas.Option.{slice_get-map, slice_get_read}
 use Rattle.std.proofs.lemmas.List.{length-map}
 use Rattle.dp_model.specs.declared.env.Entry.TheVariants.{Port, Ring}
-use Rattle.dp_pipe.specs.declared.names.NodeNames.{NodeNames}
-use Rattle.dp_pipe.specs.declared.names.PortNames.{PortNames}
+use Rattle.dp_pipe.specs.declared.file_names.NodeNames.{NodeNames}
+use Rattle.dp_pipe.specs.declared.file_names.PortNames.{PortNames}
 use Rattle.dp_pipe.specs.declared.nodes.How.{How}
 use Rattle.dp_pipe.specs.Setup.{NodeFiles}
 use Rattle.dp_pipe.specs.Views.{node_names}

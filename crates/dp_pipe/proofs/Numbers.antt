@@ -74,7 +74,7 @@ reported port arrivals outcomes t n is =
     ∙ ap (λ x. report_with (how_many is_got mine) x to.oversize n) (c.nobuf ∙ zero-add (how_many is_nobuf mine))
     ∙ ap (λ x. report_with (how_many is_got mine) (how_many is_nobuf mine) x n) (c.oversize ∙ zero-add (how_many is_oversize mine))
 
--- ---- places of a report
+-- ---- indexes of a report
 
 states_at : (states : List InputState) (ports : List PortReport) (q : ℕ) (s : InputState) (n : PortReport) → slice_get states q ≡ Some s →
     slice_get ports q ≡ Some n

@@ -72,7 +72,7 @@ counted_sent Got t n = refl
 counted_sent NoBuffer t n = refl
 counted_sent Oversize t n = refl
 
--- the places of lists that are joined
+-- the indexes of lists that are joined
 pub joined_at : {A : Type 0} (xs ys : List (List A)) (q : ℕ) (zs : List A) → slice_get (joined xs ys) q ≡ Some zs →
     (x : List A) × (y : List A) × (slice_get xs q ≡ Some x) × (slice_get ys q ≡ Some y) × (zs ≡ x ++ y)
 joined_at [] ys q zs e = cc

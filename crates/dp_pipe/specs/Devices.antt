@@ -41,7 +41,7 @@ pub record Fared {D : Type 0} (is_broken : D → Bool) (failures : D → ℕ) (f
   pub broken : is_broken new ≡ (failed || is_broken old)
   pub count : failures new ≡ failures old + (if failed then 1 else 0)
 
--- each device of a list fared so: those at these places failed, and no other one
+-- each device of a list fared so: those at these indexes failed, and no other one
 abbrev pub AllFared : {D : Type 0} → (D → Bool) → (D → ℕ) → (ℕ → Bool) → List D → List D → Type 0
 AllFared {D} is_broken failures failed olds news =
     (q : ℕ) (old new : D) → slice_get olds q ≡ Some old → slice_get news q ≡ Some new → Fared is_broken failures (failed q) old new

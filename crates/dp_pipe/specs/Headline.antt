@@ -29,9 +29,9 @@ use Rattle.dp_pipe.specs.Running.{setting_in, programs_in, IsIdle, HasHeaderFaul
 -- ---- a run of packets
 
 -- A run of a pipeline's programs on these records, where the calls of the pattern are refused: from a world in which no packet is,
--- what each allocation call was told, what became of each record, and what each port sent, with the record's time.
+-- the outcome of each allocation call, what became of each record, and what each port sent, with the record's time.
 -- No node run in it is ever stuck. And what the ports sent is what they send in the machine in which each packet has bytes of its
--- own, on the same records, where the allocation calls are told the same.
+-- own, on the same records, where the allocation calls have the same outcomes.
 pub record PacketRun (p : Plan) (pattern : List ℕ) (arrivals : List (Arrival Time)) : Type 0 where
   pub first : World
   pub start : IsStart p.env first

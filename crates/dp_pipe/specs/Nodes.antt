@@ -63,8 +63,8 @@ pub record IsCertOf (known : Option FileMap) (name : List ℕ) (n : ℕ) (cert :
   pub spelled : CertText n text cert
   pub reads : cert_of n text ≡ Ok cert
 
--- The certificate is the one that its file spells, where one is read. Else it has the version of its rows, and no other says
--- more, if the program is forward
+-- The certificate is the one that its file spells, where one is read. Else it has the version of its rows, and no other has
+-- more that is known, if the program is forward
 abbrev pub HasCert : Option FileMap → Option (List ℕ) → Question → Type 0
 HasCert known None q = IsWith q (certificate_of q.rows) × SaysMost q.program q.env q.entry q.rows
 HasCert known (Some name) q = (cert : Certificate) × IsWith q cert × IsCertOf known name (length q.program) cert

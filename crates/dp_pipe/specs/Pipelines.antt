@@ -7,7 +7,7 @@ use Rattle.dp_model.specs.Rules.{Question}
 use Rattle.dp_region.specs.Region.{IsRegionSize}
 use Rattle.dp_lpm.specs.Routes.{RouteTable}
 use Rattle.dp_check.specs.Faults.{IsChecked}
-use Rattle.dp_pipe.specs.declared.names.PortNames.{PortNames}
+use Rattle.dp_pipe.specs.declared.file_names.PortNames.{PortNames}
 
 -- what a contract sees of a pipeline: the region in bytes, a checked program for each port and then for each ring, and the
 -- captures that each port reads and writes

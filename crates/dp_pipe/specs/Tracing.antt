@@ -1,4 +1,4 @@
--- What a traced run answers.
+-- Internal, no public contract names it: what a traced run answers.
 use Rattle.std.specs.Prelude.{ℕ, Option, Some, None, ⊤}
 use Rattle.dp_pipe.specs.declared.forwarding.RunCause.{RunCause}
 use Rattle.dp_pipe.specs.declared.forwarding.RunCause.TheVariants.{In}

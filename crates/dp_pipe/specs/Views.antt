@@ -5,8 +5,8 @@ use Rattle.toml.specs.View as toml
 use Rattle.toml.specs.declared.value.Value.{Value}
 use Rattle.dp_pipe.specs.declared.error.PipeError.{PipeError}
 use Rattle.dp_pipe.specs.declared.error.PipeError.TheVariants.{Memory, BadKey}
-use Rattle.dp_pipe.specs.declared.names.NodeNames.{NodeNames}
-use Rattle.dp_pipe.specs.declared.names.PortNames.{PortNames}
+use Rattle.dp_pipe.specs.declared.file_names.NodeNames.{NodeNames}
+use Rattle.dp_pipe.specs.declared.file_names.PortNames.{PortNames}
 use Rattle.dp_pipe.specs.declared.setup.NodeFiles.{NodeFiles}
 use Rattle.dp_pipe.specs.declared.setup.TablePart.{TablePart}
 use Rattle.dp_pipe.specs.declared.setup.RingPart.{RingPart}

@@ -6,7 +6,7 @@ ghost use Rattle.dp_pipe.specs.Config as spec;
 ghost use Rattle.dp_pipe.specs.Views as view;
 
 use crate::error::PipeError;
-use crate::names::{NodeNames, PortNames};
+use crate::file_names::{NodeNames, PortNames};
 use crate::reader::setup_in;
 use crate::routes::add_routes;
 use crate::setup::{NodeFiles, PortPart, RingPart, Setup, TablePart};

@@ -4,12 +4,12 @@
 mod causes;
 mod config;
 mod error;
+mod file_names;
 mod files;
 mod forwarding;
 mod keys;
 mod listed;
 mod loading;
-mod names;
 mod nodes;
 mod parts;
 mod pipeline;

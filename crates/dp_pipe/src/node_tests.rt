@@ -1,8 +1,8 @@
 //! Nodes loaded from files in memory, and the texts of causes.
 
 use crate::error::{Part, PipeError, RouteError};
+use crate::file_names::{NodeNames, PortNames};
 use crate::listed::{Listed, NamedBytes};
-use crate::names::{NodeNames, PortNames};
 use crate::nodes::{How, load_nodes};
 use dp_check::Checked;
 use dp_lpm::LpmError;

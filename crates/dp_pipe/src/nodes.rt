@@ -12,8 +12,8 @@ ghost use Rattle.dp_check.specs.Faults.{question, IsWith, IsChecked};
 ghost use Rattle.dp_infer.specs.Inference.{SaysMost};
 
 use crate::error::{FetchFault, PipeError};
+use crate::file_names::{NodeNames, PortNames};
 use crate::files::{Files, LONGEST_FILE};
-use crate::names::{NodeNames, PortNames};
 use dp_cert::{Cert, CertError, decode};
 use dp_check::{Checked, check};
 use dp_infer::{InferError, infer_checked};
@@ -184,22 +184,22 @@ pub(crate) fn load_node<F: Files>(
     }
 }
 
-// The entry and the files of a node, by its place: ports come first, and then rings.
+// The entry and the files of a node, by its index: ports come first, and then rings.
 fn node_at<'a>(
     ports: &'a [PortNames],
     rings: &'a [NodeNames],
-    place: usize,
+    index: usize,
 ) -> (Entry, &'a NodeNames)
     requires few_ports { length ports.now ≤ 8 }
     requires few_rings { length rings.now ≤ 8 }
-    requires place { place < length ports.now + length rings.now }
-    ensures { (how : How) → slice_get (nodes_of how (map (λ port. node_names port.files) ports.now) (map node_names rings.now)) place
+    requires index { index < length ports.now + length rings.now }
+    ensures { (how : How) → slice_get (nodes_of how (map (λ port. node_names port.files) ports.now) (map node_names rings.now)) index
         ≡ Some (node_of how result.0 (node_names result.1.now)) }
 {
-    if place < ports.len() {
-        (Entry::Port(place as u8), &ports[place].files)
+    if index < ports.len() {
+        (Entry::Port(index as u8), &ports[index].files)
     } else {
-        let ring = place - ports.len();
+        let ring = index - ports.len();
         (Entry::Ring(ring as u8), &rings[ring])
     }
 }
@@ -226,8 +226,8 @@ pub(crate) fn load_nodes<F: Files>(
     ensures stays { F.known files.new ≡ F.known files.old }
 {
     let mut nodes = Vec::new(alloc);
-    for place in 0..ports.len() + rings.len() {
-        let (node, names) = node_at(ports, rings, place);
+    for index in 0..ports.len() + rings.len() {
+        let (node, names) = node_at(ports, rings, index);
         let checked = load_node(alloc, files, how, env, node, names)?;
         nodes.push(checked)?;
     }

@@ -5,7 +5,7 @@ ghost use Rattle.dp_model.specs.declared.env.Entry.TheVariants.{Port, Ring};
 ghost use Rattle.dp_region.specs.Region.{IsRegionSize};
 ghost use Rattle.dp_pipe.specs.Pipelines.{HasNodes, IsFor, IsPlan, input_of, output_of};
 
-use crate::names::PortNames;
+use crate::file_names::PortNames;
 use dp_check::Checked;
 use dp_lpm::Lpm;
 use dp_model::Env;

@@ -61,7 +61,7 @@ fn byte_in(digits: &[u8]) -> Option<u32>
     if n <= 255 { Some(n) } else { None }
 }
 
-fn place_of(byte: u8, text: &[u8]) -> Option<usize>
+fn offset_of(byte: u8, text: &[u8]) -> Option<usize>
     ensures { result ≡ position (λ b. b == byte) text.now }
 {
     text.iter().position(|b| *b == byte)
@@ -72,7 +72,7 @@ fn cut(byte: u8, text: &[u8]) -> (&[u8], &[u8])
     ensures before { result.0.now ≡ spec.before byte text.now }
     ensures after { result.1.now ≡ spec.after byte text.now }
 {
-    match place_of(byte, text) {
+    match offset_of(byte, text) {
         None => (text, &[]),
         Some(at) => (&text[..at], &text[at + 1..]),
     }

@@ -277,7 +277,7 @@ fn hops_are_small(tables: &[Lpm])
 /// whose numbers stand in `pattern` are refused.
 ///
 /// No node run is ever stuck. What a port sends is what it sends where each packet has bytes of its own and the allocation calls
-/// are told the same: no write is seen through another packet.
+/// have the same outcomes: no write is seen through another packet.
 ///
 /// All memory is taken before anything is read: the engine's region, a buffer for a record, and a list of the inputs. Whatever
 /// is answered, all packets are given up at the end and all buffers are free.

@@ -7,7 +7,7 @@ ghost use Rattle.dp_pipe.specs.Views.{node_names};
 
 use crate::config::{Config, configure};
 use crate::error::PipeError;
-use crate::names::NodeNames;
+use crate::file_names::NodeNames;
 use dp_model::{Entry, Env};
 use std::alloc::Global;
 
