@@ -11,7 +11,7 @@ use Rattle.dp_pcap.specs.declared.time.Unit.{Unit as TimeUnit}
 use Rattle.dp_pcap.specs.Source.{failed_pulls}
 use Rattle.dp_pipe.specs.declared.forwarding.RunCause.{RunCause}
 use Rattle.dp_pipe.specs.declared.forwarding.RunCause.TheVariants.{Memory, NoRoom, In, Out}
-use Rattle.dp_pipe.specs.Devices.{Fared, AllFared, AllSound, is_read_of, is_write_of, failed_reader, failed_writer}
+use Rattle.dp_pipe.specs.Devices.{Fared, AllFared, FaredAlone, AllSound, is_read_of, is_write_of, failed_reader, failed_writer}
 use Rattle.dp_pipe.specs.Running.{IsHeaderCause, IsWriteCause}
 use Rattle.dp_pipe.proofs.Forwarded.{split}
 use Rattle.dp_pipe.proofs.Heading.{Changed, there_is, all_at, each_of, order, is_same, new_of}
@@ -108,6 +108,34 @@ pub still_sound : {D : Type 0} (is_broken : D → Bool) (failures : D → ℕ) (
 still_sound is_broken failures olds news many fared sound = each_of (λ d. is_broken d ≡ false) news (λ q d there.
     let here = there_is olds q d (omega (arith, many, slice_get_within news q d there)) in
     (fared q _ d here there).broken ∙ all_at (λ x. is_broken x ≡ false) olds q _ sound here)
+
+-- one reader was called behind others that did not fail, or each was, and this was answered
+pub reader_then : {D A : Type 0} (is_broken : D → Bool) (failures : D → ℕ) (answer given : Result A RunCause) (n : ℕ) (olds ds : List D) (d d' : D) →
+    length ds ≡ length olds
+    → AllFared is_broken failures (λ q. false) olds ds → slice_get ds n ≡ Some d → FaredAlone is_broken failures (failed_reader answer) n d d'
+    → answer ≡ given → AllFared is_broken failures (failed_reader given) olds (slice_set ds n d')
+reader_then is_broken failures answer given n olds ds d d' many first at fared is =
+    subst (λ a. AllFared is_broken failures (failed_reader a) olds (slice_set ds n d')) is
+    (one_then is_broken failures (failed_reader answer) n olds ds d d' many first at fared.own fared.others)
+
+pub readers_then : {D A : Type 0} (is_broken : D → Bool) (failures : D → ℕ) (answer given : Result A RunCause) (olds mids news : List D) →
+    length mids ≡ length olds
+    → AllFared is_broken failures (λ q. false) olds mids → AllFared is_broken failures (failed_reader answer) mids news → answer ≡ given
+    → AllFared is_broken failures (failed_reader given) olds news
+readers_then is_broken failures answer given olds mids news many first next is =
+    all_then is_broken failures (failed_reader given) olds mids news many first
+    (subst (λ a. AllFared is_broken failures (failed_reader a) mids news) is next)
+
+-- of writers that are sound
+pub writers_then : {D A : Type 0} (is_broken : D → Bool) (failures : D → ℕ) (answer given : Result A RunCause) (olds mids news : List D) →
+    length mids ≡ length olds
+    → (AllSound is_broken olds → AllFared is_broken failures (λ q. false) olds mids)
+    → (AllSound is_broken mids → AllFared is_broken failures (failed_writer answer) mids news) → answer ≡ given
+    → AllSound is_broken olds → AllFared is_broken failures (failed_writer given) olds news
+writers_then is_broken failures answer given olds mids news many first next is sound =
+    all_then is_broken failures (failed_writer given) olds mids news many (first sound)
+    (subst (λ a. AllFared is_broken failures (failed_writer a) mids news) is
+    (next (still_sound is_broken failures olds mids many (first sound) sound)))
 
 pub sound_readers : {D A : Type 0} (is_broken : D → Bool) (failures : D → ℕ) (answer : Result A RunCause) (olds news : List D) → length news ≡ length olds
     → AllFared is_broken failures (failed_reader answer) olds news → AllSound is_broken olds → IsOk answer → AllSound is_broken news

@@ -78,57 +78,84 @@ over_on unit e0 e olds news held mids progress inputs round port p along here cl
       wrote = along.wrote;
     }
 
-pub asked_on : {R W : Type 0} (remaining : R → Option (List ℕ)) (contents : W →
-    Option (List ℕ)) (unit : TimeUnit) (e0 e e' : EngineState) (olds held : List (Option (List ℕ))) (ins : List R) (outs outs' : List W)
-    (progress : List Progress) (inputs : List Input) (round port : ℕ)
-    (p p' : Progress) (r r' : R) (answer : Result ⊤ RunCause)
-    → Along unit e0 e olds (map remaining ins) held (map contents outs) progress inputs round port → slice_get progress port ≡ Some p →
-    slice_get ins port ≡ Some r
-    → port < length e0.setting.env.ports → length e0.tallies ≡ 8 → length e0.setting.env.ports ≤ 8 → length outs ≡ length e0.setting.env.ports → answer ≡ Ok tt
-    → (p.state ≡ Open → Advances port unit e e' p p' (remaining r) (remaining r') (map contents outs) (map contents outs') answer)
-    → ((p.state ≡ Open → ⊥) → (answer ≡ Ok tt) × (e' ≡ e) × (p' ≡ p) × (r' ≡ r) × (outs' ≡ outs))
-    → (now : List Input) × Along unit e0 e' olds (map remaining (slice_set ins port r')) held (map contents outs') (slice_set progress port p') now round
-    (port + 1)
-asked_on remaining contents unit e0 e e' olds held ins outs outs' progress inputs round port p p' r r' answer along here reader there counted few many ok step
-    over =
-    go (decide p.state)
-  where
-    go : (p.state ≡ Open) ⊎ (p.state ≡ Open → ⊥) → (now : List Input) × Along unit e0 e' olds (map remaining (slice_set ins port r')) held
-        (map contents outs') (slice_set progress port p') now round (port + 1)
-    go (inl open_p) =
-        rw (map_set remaining ins port r') (goes_on unit e0 e e' olds (map remaining ins) held (map contents outs) (map contents outs') progress inputs round
-        port p p' (remaining r) (remaining r') along
-        (record { counted = counted; few = few; mids_many = length-map outs contents ∙ many }) here open_p there (map_at remaining ins port r reader)
-        (subst (λ (x : Result ⊤ RunCause). Advances port unit e e' p p' (remaining r) (remaining r') (map contents outs) (map contents outs') x) ok
-        (step open_p)))
-    go (inr closed) =
-        let (is_ok, e_is, p_is, r_is, outs_is) = over closed in
-        rw (e_is, p_is, r_is, outs_is, set_itself ins port r reader, set_itself progress port p here) (
-          inputs,
-          over_on unit e0 e olds (map remaining ins) held (map contents outs) progress inputs round port p along here closed,
-        )
+-- A round has come to the input `p` of a port and to its reader `r`.
+pub record Comes {R W : Type 0} (remaining : R → Option (List ℕ)) (contents : W → Option (List ℕ)) (unit : TimeUnit) (e0 e : EngineState)
+    (olds held : List (Option (List ℕ))) (ins : List R) (outs : List W) (progress : List Progress) (round port : ℕ) (p : Progress) (r : R) : Type 0 where
+  pub inputs : List Input
+  pub along : Along unit e0 e olds (map remaining ins) held (map contents outs) progress inputs round port
+  pub input : slice_get progress port ≡ Some p
+  pub reader : slice_get ins port ≡ Some r
+  pub there : port < length e0.setting.env.ports
+  pub few : length e0.setting.env.ports ≤ 8
+  pub many : length outs ≡ length e0.setting.env.ports
+  pub counted : length e0.tallies ≡ 8
 
-pub asked_stops : {R W : Type 0} (remaining : R → Option (List ℕ)) (contents : W →
-    Option (List ℕ)) (unit : TimeUnit) (e0 e e' : EngineState) (olds held : List (Option (List ℕ))) (ins : List R) (outs outs' : List W)
-    (progress : List Progress) (inputs : List Input) (round port : ℕ)
-    (p p' : Progress) (r r' : R) (answer : Result ⊤ RunCause) (cause : RunCause)
-    → Along unit e0 e olds (map remaining ins) held (map contents outs) progress inputs round port → slice_get progress port ≡ Some p →
-    slice_get ins port ≡ Some r → length outs ≡ length e0.setting.env.ports → answer ≡ Err cause
-    → (p.state ≡ Open → Advances port unit e e' p p' (remaining r) (remaining r') (map contents outs) (map contents outs') answer)
-    → ((p.state ≡ Open → ⊥) → (answer ≡ Ok tt) × (e' ≡ e) × (p' ≡ p) × (r' ≡ r) × (outs' ≡ outs))
-    → Stops unit e0 e' olds (map remaining (slice_set ins port r')) held (map contents outs') (slice_set progress port p') cause
-asked_stops remaining contents unit e0 e e' olds held ins outs outs' progress inputs round port p p' r r' answer cause along here reader many err step over =
-    go (decide p.state)
-  where
-    go : (p.state ≡ Open) ⊎ (p.state ≡ Open → ⊥) → Stops unit e0 e' olds (map remaining (slice_set ins port r')) held (map contents outs')
-        (slice_set progress port p') cause
-    go (inl open_p) =
-        rw (map_set remaining ins port r') (stops_at unit e0 e e' olds (map remaining ins) held (map contents outs) (map contents outs') progress inputs round
-        port p p' (remaining r) (remaining r') cause along (length-map outs contents ∙ many) here open_p
-        (map_at remaining ins port r reader)
-        (subst (λ (x : Result ⊤ RunCause). Advances port unit e e' p p' (remaining r) (remaining r') (map contents outs) (map contents outs') x) err
-        (step open_p)))
-    go (inr closed) = let bad : Err cause ≡ Ok tt = sym err ∙ (over closed).0 in cc
+module _ {R W : Type 0} {remaining : R → Option (List ℕ)} {contents : W → Option (List ℕ)} {unit : TimeUnit} {e0 e : EngineState}
+    {olds held : List (Option (List ℕ))} {ins : List R} {outs : List W} {progress : List Progress} {round port : ℕ} {p : Progress} {r : R}
+    (c : Comes remaining contents unit e0 e olds held ins outs progress round port p r) where
+  same_ports : length e.setting.env.ports ≡ length e0.setting.env.ports
+  same_ports = ap (λ (x : EngineState). length x.setting.env.ports) c.along.run.stays
+
+  -- what is asked of a call for them
+  pub there_now : port < length e.setting.env.ports
+  there_now = omega (arith, same_ports, c.there)
+
+  pub many_now : length outs ≡ length e.setting.env.ports
+  many_now = c.many ∙ sym same_ports
+
+  pub counted_now : length e.tallies ≡ 8
+  counted_now = c.along.run.each ∙ c.counted
+
+  pub open_now : p.state ≡ Open → p.source.is_open ≡ true
+  open_now open_p = (open_source unit e0 e olds (map remaining ins) held (map contents outs) progress c.inputs round port p c.along c.input open_p).0
+
+  pub limit_now : p.state ≡ Open → e.turns + 16777216 ≤ 134217728 + p.source.given
+  limit_now open_p =
+      few_turns unit e0 e olds (map remaining ins) held (map contents outs) progress c.inputs round port p c.along c.input open_p
+      (omega (arith, c.along.stand.many, c.along.inputs_many, c.few))
+
+-- what becomes of the run behind it
+module _ {R W : Type 0} {remaining : R → Option (List ℕ)} {contents : W → Option (List ℕ)} {unit : TimeUnit} {e0 e e' : EngineState}
+    {olds held : List (Option (List ℕ))} {ins : List R} {outs outs' : List W} {progress : List Progress} {round port : ℕ} {p p' : Progress} {r r' : R}
+    {answer : Result ⊤ RunCause} (c : Comes remaining contents unit e0 e olds held ins outs progress round port p r)
+    (step : p.state ≡ Open → Advances port unit e e' p p' (remaining r) (remaining r') (map contents outs) (map contents outs') answer)
+    (over : (p.state ≡ Open → ⊥) → (answer ≡ Ok tt) × (e' ≡ e) × (p' ≡ p) × (r' ≡ r) × (outs' ≡ outs)) where
+  answers : (x : Result ⊤ RunCause) → answer ≡ x → p.state ≡ Open →
+      Advances port unit e e' p p' (remaining r) (remaining r') (map contents outs) (map contents outs') x
+  answers x is open_p =
+      subst (λ (y : Result ⊤ RunCause). Advances port unit e e' p p' (remaining r) (remaining r') (map contents outs) (map contents outs') y) is (step open_p)
+
+  -- the call was made, and the run goes along
+  pub asked_on : answer ≡ Ok tt → (now : List Input) × Along unit e0 e' olds (map remaining (slice_set ins port r')) held (map contents outs')
+      (slice_set progress port p') now round (port + 1)
+  asked_on ok = go (decide p.state)
+    where
+      go : (p.state ≡ Open) ⊎ (p.state ≡ Open → ⊥) → (now : List Input) × Along unit e0 e' olds (map remaining (slice_set ins port r')) held
+          (map contents outs') (slice_set progress port p') now round (port + 1)
+      go (inl open_p) =
+          rw (map_set remaining ins port r') (goes_on unit e0 e e' olds (map remaining ins) held (map contents outs) (map contents outs') progress c.inputs
+          round port p p' (remaining r) (remaining r') c.along
+          (record { counted = c.counted; few = c.few; mids_many = length-map outs contents ∙ c.many }) c.input open_p c.there
+          (map_at remaining ins port r c.reader) (answers (Ok tt) ok open_p))
+      go (inr closed) =
+          let (is_ok, e_is, p_is, r_is, outs_is) = over closed in
+          rw (e_is, p_is, r_is, outs_is, set_itself ins port r c.reader, set_itself progress port p c.input) (
+            c.inputs,
+            over_on unit e0 e olds (map remaining ins) held (map contents outs) progress c.inputs round port p c.along c.input closed,
+          )
+
+  -- or it stops
+  pub asked_stops : (cause : RunCause) → answer ≡ Err cause →
+      Stops unit e0 e' olds (map remaining (slice_set ins port r')) held (map contents outs') (slice_set progress port p') cause
+  asked_stops cause err = go (decide p.state)
+    where
+      go : (p.state ≡ Open) ⊎ (p.state ≡ Open → ⊥) → Stops unit e0 e' olds (map remaining (slice_set ins port r')) held (map contents outs')
+          (slice_set progress port p') cause
+      go (inl open_p) =
+          rw (map_set remaining ins port r') (stops_at unit e0 e e' olds (map remaining ins) held (map contents outs) (map contents outs') progress c.inputs
+          round port p p' (remaining r) (remaining r') cause c.along (length-map outs contents ∙ c.many) c.input open_p
+          (map_at remaining ins port r c.reader) (answers (Err cause) err open_p))
+      go (inr closed) = let bad : Err cause ≡ Ok tt = sym err ∙ (over closed).0 in cc
 
 -- behind all ports the next round begins
 pub round_over : (unit : TimeUnit) (e0 e : EngineState) (olds news held mids : List (Option (List ℕ))) (progress : List Progress) (inputs : List Input)

@@ -1,52 +1,70 @@
--- `rounds`: one round more, the end of all inputs, and a stop.
-use Rattle.std.proofs.Common.{rules, ◌≡◌, Err, length, refl, sym, ap, ◌∙◌, arith}
+-- `rounds`: one round more, the end of all inputs, and a stop. The run and each call of `round` are opened once.
+use Rattle.std.proofs.Common.{rules, ◌≡◌, ℕ, List, Option, Result, Ok, Err, length, map, refl, sym, ap, ◌∙◌, arith}
+use Rattle.std.specs.Prelude.{⊤}
 use Rattle.dp_engine.specs.Engines.{EngineState}
+use Rattle.dp_pipe.specs.declared.forwarding.RunCause.{RunCause}
+use Rattle.dp_pipe.specs.Devices.{AllFared, AllSound, failed_reader, failed_writer}
+use Rattle.dp_pipe.specs.Forwarding.{Input, Along, IsRound}
+use Rattle.dp_pipe.proofs.Faring.{readers_then, writers_then}
 use Rattle.dp_pipe.proofs.Rounding.{went_all, none_left, round_ok, round_err}
-use Rattle.std.proofs.Common.{false, subst}
-use Rattle.dp_pipe.specs.Devices.{AllFared, failed_reader, failed_writer}
-use Rattle.dp_pipe.proofs.Faring.{all_then, still_sound}
 use Rattle.dp_pipe.proofs.forwarding.rounds.Goals as goal
+use Rattle.dp_pipe.proofs.forwarding.rounds.Goals.{In-loop-k, After-round}
 
-pub returns-then-not-is_any_open-clause-goes : goal.returns-then-not-is_any_open-clause-goes
-returns-then-not-is_any_open-clause-goes g c e0 olds held read start =
-    let (now, along) = c.loop-k.invariant.goes e0 olds held read start in
-    went_all c.args.unit e0 c.loop-k.engine olds _ held _ c.loop-k.inputs now c.loop-k.k 0 along (c.if-not-is_any_open.ensures refl)
+-- the run goes along, in the round that comes next
+along : (g : _) (c : In-loop-k g) → (now : List Input) × Along c.args.unit c.requires.along.0 c.loop-k.engine c.requires.along.1
+    (map g.R.Feed.remaining c.loop-k.ins) c.requires.along.2 (map g.W.Sink.contents c.loop-k.outs) c.loop-k.inputs now c.loop-k.k 0
+along g c = c.loop-k.invariant.goes _ _ _ _ c.requires.along.4
+
+-- as many ports as at first
+ports : (g : _) (c : In-loop-k g) → length c.args.engine.now.setting.env.ports ≡ length c.loop-k.engine.setting.env.ports
+ports g c =
+    ap (λ (x : EngineState). length x.setting.env.ports) c.requires.along.4.run.stays
+    ∙ sym (ap (λ (x : EngineState). length x.setting.env.ports) (along g c).1.run.stays)
+
+-- the round that was made
+went : (g : _) (c : After-round g) (e0 : EngineState) (olds held : List (Option (List ℕ))) (read : List Input)
+    → Along c.args.unit e0 c.args.engine.now olds (map g.R.Feed.remaining c.args.ins.now) held (map g.W.Sink.contents c.args.outs.now) c.args.inputs.now read 0
+    0 → IsRound c.args.unit e0 c.loop-k.engine c.round.new.engine olds (map g.R.Feed.remaining c.round.new.ins) held
+    (map g.W.Sink.contents c.round.new.outs) c.round.new.inputs c.loop-k.k c.round.result
+went g c e0 olds held read start =
+    let (now, along) = c.loop-k.invariant.goes e0 olds held read start in c.round.ensures.goes e0 olds held now c.loop-k.k along
+
+-- how the devices fared, by what was answered
+readers : (g : _) (c : After-round g) (given : Result ⊤ RunCause) → c.round.result ≡ given
+    → AllFared g.R.Feed.is_broken g.R.Feed.failures (failed_reader given) c.args.ins.now c.round.new.ins
+readers g c given is =
+    let inv = c.loop-k.invariant in
+    readers_then g.R.Feed.is_broken g.R.Feed.failures c.round.result given c.args.ins.now c.loop-k.ins c.round.new.ins inv.ins inv.readers
+    c.round.ensures.fared_readers is
+
+writers : (g : _) (c : After-round g) (given : Result ⊤ RunCause) → c.round.result ≡ given → AllSound g.W.Sink.is_broken c.args.outs.now
+    → AllFared g.W.Sink.is_broken g.W.Sink.failures (failed_writer given) c.args.outs.now c.round.new.outs
+writers g c given is =
+    let inv = c.loop-k.invariant in
+    writers_then g.W.Sink.is_broken g.W.Sink.failures c.round.result given c.args.outs.now c.loop-k.outs c.round.new.outs inv.outs inv.writers
+    c.round.ensures.fared_writers is
+
+-- what is answered where the run stops
+gone : (g : _) (c : goal.After-from_residual g) → c.from_residual.result ≡ Err c.in_err-round.field-0.0
+gone g c = search rules
 
 pub round-requires-clause-inputs : goal.round-requires-clause-inputs
-round-requires-clause-inputs g c =
-    let (e0, olds, held, read, start) = c.requires.along in
-    let (now, along) = c.loop-k.invariant.goes e0 olds held read start in
-    let same = ap (λ (x : EngineState). length x.setting.env.ports) along.run.stays in
-    let before = ap (λ (x : EngineState). length x.setting.env.ports) start.run.stays in
-    c.loop-k.invariant.inputs ∙ c.requires.inputs ∙ before ∙ sym same
+round-requires-clause-inputs g c = c.loop-k.invariant.inputs ∙ c.requires.inputs ∙ ports g (goal.at.round-requires-clause-inputs g c).In-loop-k
 
 pub round-requires-clause-ins : goal.round-requires-clause-ins
-round-requires-clause-ins g c =
-    let (e0, olds, held, read, start) = c.requires.along in
-    let (now, along) = c.loop-k.invariant.goes e0 olds held read start in
-    let same = ap (λ (x : EngineState). length x.setting.env.ports) along.run.stays in
-    let before = ap (λ (x : EngineState). length x.setting.env.ports) start.run.stays in
-    c.loop-k.invariant.ins ∙ c.requires.ins ∙ before ∙ sym same
+round-requires-clause-ins g c = c.loop-k.invariant.ins ∙ c.requires.ins ∙ ports g (goal.at.round-requires-clause-ins g c).In-loop-k
 
 pub round-requires-clause-outs : goal.round-requires-clause-outs
-round-requires-clause-outs g c =
-    let (e0, olds, held, read, start) = c.requires.along in
-    let (now, along) = c.loop-k.invariant.goes e0 olds held read start in
-    let same = ap (λ (x : EngineState). length x.setting.env.ports) along.run.stays in
-    let before = ap (λ (x : EngineState). length x.setting.env.ports) start.run.stays in
-    c.loop-k.invariant.outs ∙ c.requires.outs ∙ before ∙ sym same
+round-requires-clause-outs g c = c.loop-k.invariant.outs ∙ c.requires.outs ∙ ports g (goal.at.round-requires-clause-outs g c).In-loop-k
 
 pub round-requires-clause-counted : goal.round-requires-clause-counted
 round-requires-clause-counted g c =
-    let (e0, olds, held, read, start) = c.requires.along in
-    let (now, along) = c.loop-k.invariant.goes e0 olds held read start in
-    along.run.each ∙ sym start.run.each ∙ c.requires.counted
+    (along g (goal.at.round-requires-clause-counted g c).In-loop-k).1.run.each ∙ sym c.requires.along.4.run.each ∙ c.requires.counted
 
 pub round-requires-clause-along : goal.round-requires-clause-along
 round-requires-clause-along g c =
-    let (e0, olds, held, read, start) = c.requires.along in
-    let (now, along) = c.loop-k.invariant.goes e0 olds held read start in
-    (e0, olds, held, now, c.loop-k.k, along)
+    let (now, going) = along g (goal.at.round-requires-clause-along g c).In-loop-k in
+    (c.requires.along.0, c.requires.along.1, c.requires.along.2, now, c.loop-k.k, going)
 
 pub loop-k-preserved : goal.loop-k-preserved
 loop-k-preserved g c =
@@ -58,18 +76,16 @@ loop-k-preserved g c =
       outs = outs ∙ inv.outs;
       buf = buf ∙ inv.buf;
       goes = λ e0 olds held read start.
-          let (now, along) = inv.goes e0 olds held read start in
           round_ok c.args.unit e0 c.loop-k.engine c.round.new.engine olds _ held _ c.round.new.inputs c.loop-k.k c.round.result c.in_ok-round.was
-          (c.round.ensures.goes e0 olds held now c.loop-k.k along);
-      readers = all_then g.R.Feed.is_broken g.R.Feed.failures (λ q. false) c.args.ins.now c.loop-k.ins c.round.new.ins inv.ins inv.readers
-          (subst (λ x. AllFared g.R.Feed.is_broken g.R.Feed.failures (failed_reader x) c.loop-k.ins c.round.new.ins) c.in_ok-round.was
-          c.round.ensures.fared_readers);
-      writers = λ sound.
-          let before = still_sound g.W.Sink.is_broken g.W.Sink.failures c.args.outs.now c.loop-k.outs inv.outs (inv.writers sound) sound in
-          all_then g.W.Sink.is_broken g.W.Sink.failures (λ q. false) c.args.outs.now c.loop-k.outs c.round.new.outs inv.outs (inv.writers sound)
-          (subst (λ x. AllFared g.W.Sink.is_broken g.W.Sink.failures (failed_writer x) c.loop-k.outs c.round.new.outs) c.in_ok-round.was
-          (c.round.ensures.fared_writers before));
+          (went g (goal.at.loop-k-preserved g c).After-round e0 olds held read start);
+      readers = readers g (goal.at.loop-k-preserved g c).After-round (Ok tt) c.in_ok-round.was;
+      writers = writers g (goal.at.loop-k-preserved g c).After-round (Ok tt) c.in_ok-round.was;
     }
+
+pub returns-then-not-is_any_open-clause-goes : goal.returns-then-not-is_any_open-clause-goes
+returns-then-not-is_any_open-clause-goes g c e0 olds held read start =
+    let (now, along) = c.loop-k.invariant.goes e0 olds held read start in
+    went_all c.args.unit e0 c.loop-k.engine olds _ held _ c.loop-k.inputs now c.loop-k.k 0 along (c.if-not-is_any_open.ensures refl)
 
 pub returns-then-not-is_any_open-clause-fared_readers : goal.returns-then-not-is_any_open-clause-fared_readers
 returns-then-not-is_any_open-clause-fared_readers g c = c.loop-k.invariant.readers
@@ -77,39 +93,27 @@ returns-then-not-is_any_open-clause-fared_readers g c = c.loop-k.invariant.reade
 pub returns-then-not-is_any_open-clause-fared_writers : goal.returns-then-not-is_any_open-clause-fared_writers
 returns-then-not-is_any_open-clause-fared_writers g c = c.loop-k.invariant.writers
 
-pub returns-in_err-round-clause-fared_readers : goal.returns-in_err-round-clause-fared_readers
-returns-in_err-round-clause-fared_readers g c =
-    let inv = c.loop-k.invariant in
-    let gone : c.from_residual.result ≡ Err c.in_err-round.field-0.0 = search rules in
-    all_then g.R.Feed.is_broken g.R.Feed.failures (failed_reader c.from_residual.result) c.args.ins.now c.loop-k.ins c.round.new.ins inv.ins inv.readers
-    (subst (λ x. AllFared g.R.Feed.is_broken g.R.Feed.failures (failed_reader x) c.loop-k.ins c.round.new.ins) (c.in_err-round.was
-    ∙ sym gone) c.round.ensures.fared_readers)
-
-pub returns-in_err-round-clause-fared_writers : goal.returns-in_err-round-clause-fared_writers
-returns-in_err-round-clause-fared_writers g c sound =
-    let inv = c.loop-k.invariant in
-    let gone : c.from_residual.result ≡ Err c.in_err-round.field-0.0 = search rules in
-    let before = still_sound g.W.Sink.is_broken g.W.Sink.failures c.args.outs.now c.loop-k.outs inv.outs (inv.writers sound) sound in
-    all_then g.W.Sink.is_broken g.W.Sink.failures (failed_writer c.from_residual.result) c.args.outs.now c.loop-k.outs c.round.new.outs inv.outs
-    (inv.writers sound)
-    (subst (λ x. AllFared g.W.Sink.is_broken g.W.Sink.failures (failed_writer x) c.loop-k.outs c.round.new.outs) (c.in_err-round.was
-    ∙ sym gone) (c.round.ensures.fared_writers before))
-
-pub returns-clause-fared_readers : goal.returns-clause-fared_readers
-returns-clause-fared_readers g c = c.loop-k.invariant.readers
-
-pub returns-clause-fared_writers : goal.returns-clause-fared_writers
-returns-clause-fared_writers g c = c.loop-k.invariant.writers
-
 pub returns-in_err-round-clause-goes : goal.returns-in_err-round-clause-goes
 returns-in_err-round-clause-goes g c e0 olds held read start =
-    let (now, along) = c.loop-k.invariant.goes e0 olds held read start in
-    let gone : c.from_residual.result ≡ Err c.in_err-round.field-0.0 = search rules in
-    rw gone (round_err c.args.unit e0 c.loop-k.engine c.round.new.engine olds _ held _ c.round.new.inputs c.loop-k.k c.round.result c.in_err-round.field-0.0
-    c.in_err-round.was (c.round.ensures.goes e0 olds held now c.loop-k.k along))
+    rw (gone g c) (round_err c.args.unit e0 c.loop-k.engine c.round.new.engine olds _ held _ c.round.new.inputs c.loop-k.k c.round.result
+    c.in_err-round.field-0.0 c.in_err-round.was (went g (goal.at.returns-in_err-round-clause-goes g c).After-round e0 olds held read start))
+
+pub returns-in_err-round-clause-fared_readers : goal.returns-in_err-round-clause-fared_readers
+returns-in_err-round-clause-fared_readers g c =
+    readers g (goal.at.returns-in_err-round-clause-fared_readers g c).After-round c.from_residual.result (c.in_err-round.was ∙ sym (gone g c))
+
+pub returns-in_err-round-clause-fared_writers : goal.returns-in_err-round-clause-fared_writers
+returns-in_err-round-clause-fared_writers g c =
+    writers g (goal.at.returns-in_err-round-clause-fared_writers g c).After-round c.from_residual.result (c.in_err-round.was ∙ sym (gone g c))
 
 pub returns-clause-goes : goal.returns-clause-goes
 returns-clause-goes g c e0 olds held read start =
     let (now, along) = c.loop-k.invariant.goes e0 olds held read start in
     went_all c.args.unit e0 c.loop-k.engine olds _ held _ c.loop-k.inputs now c.loop-k.k 0 along
     (none_left c.args.unit e0 c.loop-k.engine olds _ held _ c.loop-k.inputs now c.loop-k.k along (omega (arith, c.loop-k-test.false)))
+
+pub returns-clause-fared_readers : goal.returns-clause-fared_readers
+returns-clause-fared_readers g c = c.loop-k.invariant.readers
+
+pub returns-clause-fared_writers : goal.returns-clause-fared_writers
+returns-clause-fared_writers g c = c.loop-k.invariant.writers
