@@ -12,6 +12,7 @@ ghost use Rattle.dp_pipe.specs.Devices.{AllSound, AllFared, failed_reader, faile
 ghost use Rattle.dp_pipe.specs.Forwarding as forwarding;
 ghost use Rattle.dp_pipe.specs.Forwarding.{AllStand, units_of};
 ghost use Rattle.dp_lpm.specs.Routes.{RouteTable};
+ghost use Rattle.dp_lpm.specs.declared.limits.TheConstants.{MAX_HOP};
 ghost use Rattle.dp_model.specs.Prefixes.{Route};
 ghost use Rattle.dp_pipe.specs.Headline.{Forwarded, StoppedBy};
 ghost use Rattle.dp_pipe.specs.Running as spec;
@@ -262,9 +263,9 @@ fn unopened(cause: RunCause, env: &Env) -> RunFault
     }
 }
 
-// What every table is known to keep: no hop is above 16,777,215.
+// What every table is known to keep: no hop is above `MAX_HOP`.
 fn hops_are_small(tables: &[Lpm])
-    ensures { (k : ℕ) (t : RouteTable) → slice_get tables.now k ≡ Some t → AllByRecursion (λ (route : Route). route.hop ≤ 16777215) t.routes }
+    ensures { (k : ℕ) (t : RouteTable) → slice_get tables.now k ≡ Some t → AllByRecursion (λ (route : Route). route.hop ≤ MAX_HOP) t.routes }
 {
     for table in tables {
         let _rules = table.len();
