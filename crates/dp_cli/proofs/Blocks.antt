@@ -17,14 +17,14 @@ use Rattle.dp_cli.specs.Scripts.{IsFilled, IsFreed, IsPrinted, IsTaken, Stage, I
 
 -- ---- the element around a block
 
-found_here : (place : ℕ) (b : Bool) (e : Element) (rest : Option Element) → (x : Element) × (rest ≡ Some x) → (x : Element) × (cond b (Some e) rest ≡ Some x)
-found_here place true e rest h = (e, refl)
-found_here place false e rest h = h
+found_here : (offset : ℕ) (b : Bool) (e : Element) (rest : Option Element) → (x : Element) × (rest ≡ Some x) → (x : Element) × (cond b (Some e) rest ≡ Some x)
+found_here offset true e rest h = (e, refl)
+found_here offset false e rest h = h
 
-found : (place : ℕ) (before : List Element) (e : Element) (after : List Element) → lies_in place e ≡ true
-    → (x : Element) × (element_at (before ++ e ∷ after) place ≡ Some x)
-found place [] e after h = (e, ap (λ b. cond b (Some e) (element_at after place)) h)
-found place (y ∷ before) e after h = found_here place (lies_in place y) y (element_at (before ++ e ∷ after) place) (found place before e after h)
+found : (offset : ℕ) (before : List Element) (e : Element) (after : List Element) → lies_in offset e ≡ true
+    → (x : Element) × (element_at (before ++ e ∷ after) offset ≡ Some x)
+found offset [] e after h = (e, ap (λ b. cond b (Some e) (element_at after offset)) h)
+found offset (y ∷ before) e after h = found_here offset (lies_in offset y) y (element_at (before ++ e ∷ after) offset) (found offset before e after h)
 
 kept_within : (n : ℕ) → kept n ≤ n
 kept_within n = elim (nat_lt 128 n) as (λ b. cond b 0 n ≤ n) [ true ↦ omega arith | false ↦ omega arith ]
@@ -51,18 +51,18 @@ around old n a d new more taken =
 
 -- ---- a block that is taken
 
-pub is_taken : (zeros : Bool) (n a : ℕ) (old new : Stage) (block : BlockView) (place : ℕ) (before after : Option (List ℕ)) → place ≡ block.offset
+pub is_taken : (zeros : Bool) (n a : ℕ) (old new : Stage) (block : BlockView) (offset : ℕ) (before after : Option (List ℕ)) → offset ≡ block.offset
     → (0 < n) × IsAlign a → IsFilled zeros n block.bytes
     → Taken old.elements (rounded n) (alignment a) block.offset new.elements → new.taken ≡ next_number old.taken
     → new.held ≡ old.held ++ record { number = new.taken; block = block } ∷ []
-    → IfSome (element_at new.elements place) (λ e. Appends before after (block_line new.taken place e))
+    → IfSome (element_at new.elements offset) (λ e. Appends before after (block_line new.taken offset e))
     → IsPrinted (λ text. IsTaken zeros n a old text new ⊎ IsRefusalTold n a old text new) before after
-is_taken zeros n a old new block place before after own_place asked filled taken number held told =
+is_taken zeros n a old new block offset before after own_offset asked filled taken number held told =
     let more : 0 < n = asked.0 in
     let own : 0 < rounded n = omega arith in
     let here = around old.elements (rounded n) (alignment a) block.offset new.elements own taken in
     let at : IfSome (element_at new.elements block.offset) (λ e. Appends before after (block_line new.taken block.offset e)) =
-    subst (λ (p : ℕ). IfSome (element_at new.elements p) (λ e. Appends before after (block_line new.taken p e))) own_place told in
+    subst (λ (p : ℕ). IfSome (element_at new.elements p) (λ e. Appends before after (block_line new.taken p e))) own_offset told in
     record {
       text = block_line new.taken block.offset here.0;
       done = inl (record {

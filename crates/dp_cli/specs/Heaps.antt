@@ -9,13 +9,13 @@ use Rattle.dp_heap.specs.declared.error.HeapError.TheVariants.{ZeroSize, BadAlig
 use Rattle.dp_heap.specs.Elements.{is_free, is_busy, count_of, bytes_of}
 use Rattle.dp_heap.specs.Refusals.{number_of}
 
--- whether a place lies in an element
+-- whether an offset lies in an element
 abbrev pub lies_in : ℕ → Element → Bool
-lies_in place e = nat_le e.offset place && nat_lt (place - e.offset) e.size
+lies_in offset e = nat_le e.offset offset && nat_lt (offset - e.offset) e.size
 
--- the element in which a place lies, where there is one
+-- the element in which an offset lies, where there is one
 abbrev pub element_at : List Element → ℕ → Option Element
-element_at es place = find (lies_in place) es
+element_at es offset = find (lies_in offset) es
 
 -- an element, as `list` prints it
 abbrev pub element_text : Element → List ℕ
@@ -28,14 +28,14 @@ element_text e = elim e.state [
 abbrev pub element_line : Element → List ℕ
 element_line e = element_text e ++ 10 ∷ []
 
--- those of a heap, from the lowest place
+-- those of a heap, from the lowest offset
 abbrev pub list_text : List Element → List ℕ
 list_text es = flat_map element_line es
 
--- the line of a success: its number, the place of its data, and the element of these
+-- the line of a success: its number, the offset of its data, and the element of these
 abbrev pub block_line : ℕ → ℕ → Element → List ℕ
-block_line number place e =
-    (decimal number ++ (codes " data " ++ (decimal place ++ (codes " element " ++ (decimal e.offset ++ (codes " + " ++ decimal e.size)))))) ++ 10 ∷ []
+block_line number offset e =
+    (decimal number ++ (codes " data " ++ (decimal offset ++ (codes " element " ++ (decimal e.offset ++ (codes " + " ++ decimal e.size)))))) ++ 10 ∷ []
 
 -- the name of a cause
 abbrev pub name_of : HeapError → List ℕ

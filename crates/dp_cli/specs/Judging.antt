@@ -87,18 +87,18 @@ IsNodeTold known env node status = IsExplained known env node status ⊎ IsUnjud
 abbrev pub node_in : Config → Entry → Option Node
 node_in config entry = option_map (node_of Given entry) (files_at config entry)
 
--- the entries of the nodes that there can be: eight ports, and then eight rings
+-- the entries of the nodes that there can be, by an index: eight ports, and then eight rings
 abbrev pub entry_at : ℕ → Entry
-entry_at place = if nat_lt place 8 then Port place else Ring (place - 8)
+entry_at index = if nat_lt index 8 then Port index else Ring (index - 8)
 
--- the node of this place, where there is one, ended so
+-- the node of this index, where there is one, has a verdict with this status
 abbrev pub EndedAt : Option FileMap → Config → ℕ → ℕ → Type 0
-EndedAt known config status place = IfSome (node_in config (entry_at place)) (λ node. IsNodeTold known config.env node status)
+EndedAt known config status index = IfSome (node_in config (entry_at index)) (λ node. IsNodeTold known config.env node status)
 
 -- what was told of all nodes: 0 where all of them are accepted, and 1 where one is refused
 pub record AreAllTold (known : Option FileMap) (config : Config) (status : ℕ) : Type 0 where
-  pub accepted : status ≡ 0 → (place : ℕ) → place < 16 → EndedAt known config 0 place
-  pub refused : status ≡ 1 → (place : ℕ) × EndedAt known config 1 place
+  pub accepted : status ≡ 0 → (index : ℕ) → index < 16 → EndedAt known config 0 index
+  pub refused : status ≡ 1 → (index : ℕ) × EndedAt known config 1 index
   pub ends : IsTold 0 status ⊎ (status ≡ 1)
 
 -- what was told of the node with this entry: that there is none, or the verdict on it

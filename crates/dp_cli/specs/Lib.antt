@@ -1,14 +1,14 @@
 pub mod Commands
+pub mod FaultReasons
 pub mod Heaps
 pub mod Inferring
 pub mod Judging
-pub mod One
 pub mod Operands
-pub mod Pipe
+pub mod Pipelines
 pub mod Progress
 pub mod Report
 pub mod Run
 pub mod Scripts
+pub mod SinglePort
 pub mod Told
 pub mod Tracing
-pub mod Why

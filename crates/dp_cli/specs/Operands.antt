@@ -1,30 +1,31 @@
 -- Words of the command line.
-use Rattle.std.specs.Prelude.{ℕ, ◌+◌, ◌^◌, List, ◌∷◌, [], ◌++◌, ◌==◌, ◌&&◌, Option, Some, None, codes, length, nat_lt, option_map, option_and_then}
+use Rattle.std.specs.Prelude.{ℕ, ◌+◌, ◌^◌, List, ◌∷◌, [], ◌++◌, ◌==◌, ◌&&◌, Option, Some, None, codes, length, nat_le, nat_lt, option_map, option_and_then}
 use Rattle.std.specs.Prelude.{if◌then◌else◌}
 use Rattle.std.specs.Char.{is_ascii_digit}
 use Rattle.std.specs.List.{list_all, slice_split}
 use Rattle.std.specs.Str.Parse.{digits_value}
 use Rattle.dp_model.specs.declared.env.Entry.{Entry}
 use Rattle.dp_model.specs.declared.env.Entry.TheVariants.{Port, Ring}
+use Rattle.dp_pipe.specs.declared.forwarding.TheConstants.{MOST_TURNS}
 
--- the place of a node among its kind
-abbrev pub place_of : Entry → ℕ
-place_of (Port place) = place
-place_of (Ring place) = place
+-- the number of a node among its kind
+abbrev pub number_of : Entry → ℕ
+number_of (Port number) = number
+number_of (Ring number) = number
 
--- the word of a node whose place has one digit: `port` or `ring`, and the digit
+-- the word of a node whose number has one digit: `port` or `ring`, and the digit
 abbrev pub word_of : Entry → List ℕ
-word_of (Port place) = codes "port" ++ (48 + place) ∷ []
-word_of (Ring place) = codes "ring" ++ (48 + place) ∷ []
+word_of (Port number) = codes "port" ++ (48 + number) ∷ []
+word_of (Ring number) = codes "ring" ++ (48 + number) ∷ []
 
 -- the number that a word is: one decimal digit or more, and below 2^64
 abbrev pub number_in : List ℕ → Option ℕ
 number_in word = if list_all is_ascii_digit word && (nat_lt 0 (length word) && nat_lt (digits_value 10 word) (2 ^ 64)) then Some (digits_value 10 word)
     else None
 
--- the number of records that a word is: from 1 to 134,217,728
+-- the number of records that a word is: from 1 to the most turns of a run
 abbrev pub records_in : List ℕ → Option ℕ
-records_in word = option_and_then (λ n. if nat_lt 0 n && nat_lt n 134217729 then Some n else None) (number_in word)
+records_in word = option_and_then (λ n. if nat_lt 0 n && nat_le n MOST_TURNS then Some n else None) (number_in word)
 
 -- the port that a word is: below 8
 abbrev pub port_in : List ℕ → Option ℕ

@@ -13,7 +13,7 @@ state_text Whole = codes "whole"
 state_text (Cut byte) = codes "cut " ++ decimal byte
 state_text Open = codes "open"
 
--- the line of a port, a ring or a pool, by its place
+-- the line of a port, a ring or a pool, by its number
 abbrev pub port_line : ℕ → PortReport → List ℕ
 port_line k p = (codes "port " ++ (decimal k ++ (codes " received " ++ (decimal p.received ++ (codes " nobuf " ++ decimal p.nobuf)))))
     ++ (codes " oversize " ++ (decimal p.oversize ++ (codes " sent " ++ (decimal p.sent ++ (codes " input " ++ (state_text p.state ++ 10 ∷ []))))))

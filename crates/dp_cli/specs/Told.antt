@@ -10,8 +10,8 @@ use Rattle.dp_cli.specs.declared.fault.Fault.{Fault}
 use Rattle.dp_cli.specs.declared.fault.Fault.TheVariants as fault
 use Rattle.dp_cli.specs.declared.files.ReadFault.{ReadFault}
 use Rattle.dp_cli.specs.declared.files.ReadFault.TheVariants as read
-use Rattle.dp_cli.specs.declared.why.Finding.{Finding}
-use Rattle.dp_cli.specs.Why.{reason_of, finding_lines}
+use Rattle.dp_cli.specs.declared.fault_reasons.Finding.{Finding}
+use Rattle.dp_cli.specs.FaultReasons.{reason_of, finding_lines}
 
 -- a status; or that of a text which could not be written, 3, or 4 for want of memory
 abbrev pub IsTold : ℕ → ℕ → Type 0

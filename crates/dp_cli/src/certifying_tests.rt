@@ -1,7 +1,7 @@
 //! Printed texts and statuses of `dpv infer-one`.
 
 use crate::certifying::infer_node;
-use crate::one::one_env;
+use crate::single_port::one_env;
 use crate::testing::{Ended, cert_text, file};
 use dp_model::Entry;
 use dp_pipe::Listed;

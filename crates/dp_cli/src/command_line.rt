@@ -1,6 +1,6 @@
-//! The commands that the command line has, with their operands and options.
+//! The commands that the command line has, with their operands and options, and the words that were given for them.
 
-use clap::{Arg, ArgAction, Command};
+use clap::{Arg, ArgAction, ArgMatches, Command};
 use std::alloc::{AllocError, Global};
 
 /// The arguments of `dpv one`, in order: the program, its certificate, the capture to read and the one to write.
@@ -199,4 +199,9 @@ pub fn command<'a>(alloc: Global) -> Result<Command<'a>, AllocError> {
     let dpv = with_judging(alloc, dpv)?;
     let dpv = with_reasons(alloc, dpv)?;
     with_runs(alloc, dpv)
+}
+
+/// An operand of a command, which asks for it.
+pub fn word<'a>(words: &ArgMatches<'a>, name: &str) -> &'a str {
+    words.get_str(name).unwrap_or("")
 }

@@ -132,34 +132,34 @@ pub fn explain_node<F: Files, O: Write, E: Write>(
     }
 }
 
-/// The nodes that a pipeline can have: eight ports, and then eight rings.
-fn entry_at(place: u8) -> Entry
-    ensures { result ≡ entry_at place }
+/// The nodes that a pipeline can have, by an index: eight ports, and then eight rings.
+fn entry_at(index: u8) -> Entry
+    ensures { result ≡ entry_at index }
 {
-    if place < 8 {
-        Entry::Port(place)
+    if index < 8 {
+        Entry::Port(index)
     } else {
-        Entry::Ring(place - 8)
+        Entry::Ring(index - 8)
     }
 }
 
-/// Explains the node of a place, and answers the status: 0 also where the pipeline has no such node.
+/// Explains the node of an index, and answers the status: 0 also where the pipeline has no such node.
 #[tactic(auto, using(crate::proofs::Endings::node_ends))]
-fn explain_place<F: Files, O: Write, E: Write>(
+fn explain_nth<F: Files, O: Write, E: Write>(
     alloc: Global,
     files: &mut F,
     survey: &Survey,
-    place: u8,
+    index: u8,
     out: &mut O,
     err: &mut E,
 ) -> u8
-    ensures told { EndedAt (F.known files.old) survey.now.config result place }
+    ensures verdict { EndedAt (F.known files.old) survey.now.config result index }
     ensures ends { IsTold DONE result ⊎ (result ≡ REFUSED) }
     ensures silent { (result ≡ DONE) ⊎ (result ≡ REFUSED) → err.new ≡ err.old }
     ensures memory { result ≡ MEMORY → TellsMemory (E.contents err.old) (E.contents err.new) }
     ensures stays { F.known files.new ≡ F.known files.old }
 {
-    match asked_of(survey, entry_at(place)) {
+    match asked_of(survey, entry_at(index)) {
         Some(asked) => explain_node(alloc, files, survey.env(), asked, out, err),
         None => DONE,
     }
@@ -173,14 +173,14 @@ fn explain_all<F: Files, O: Write, E: Write>(
     out: &mut O,
     err: &mut E,
 ) -> u8
-    ensures told { AreAllTold (F.known files.old) survey.now.config result }
+    ensures verdicts { AreAllTold (F.known files.old) survey.now.config result }
     ensures silent { (result ≡ DONE) ⊎ (result ≡ REFUSED) → err.new ≡ err.old }
     ensures memory { result ≡ MEMORY → TellsMemory (E.contents err.old) (E.contents err.new) }
     ensures stays { F.known files.new ≡ F.known files.old }
 {
     let mut worst = DONE;
-    for place in 0..16 {
-        let status = explain_place(alloc, files, survey, place, out, err);
+    for index in 0..16 {
+        let status = explain_nth(alloc, files, survey, index, out, err);
         if status == REFUSED {
             worst = REFUSED;
         } else if status != DONE {
@@ -208,7 +208,7 @@ fn explain_at<F: Files, O: Write, E: Write>(
     out: &mut O,
     err: &mut E,
 ) -> u8
-    ensures told { IsToldAt (F.known files.old) survey.now.config node result }
+    ensures verdict { IsToldAt (F.known files.old) survey.now.config node result }
     ensures silent { (result ≡ DONE) ⊎ (result ≡ REFUSED) → err.new ≡ err.old }
     ensures memory { result ≡ MEMORY → TellsMemory (E.contents err.old) (E.contents err.new) }
     ensures stays { F.known files.new ≡ F.known files.old }
@@ -229,7 +229,7 @@ pub fn explain_line<F: Files, O: Write, E: Write>(
     out: &mut O,
     err: &mut E,
 ) -> u8
-    ensures told { IsPipelineTold (F.known files.old) text.now which result }
+    ensures verdicts { IsPipelineTold (F.known files.old) text.now which result }
     ensures silent { (result ≡ DONE) ⊎ (result ≡ REFUSED) → err.new ≡ err.old }
     ensures memory { result ≡ MEMORY → TellsMemory (E.contents err.old) (E.contents err.new) }
     ensures stays { F.known files.new ≡ F.known files.old }

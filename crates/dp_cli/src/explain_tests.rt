@@ -2,7 +2,7 @@
 
 use crate::explain::{explain_line, explain_node};
 use crate::judged::Asked;
-use crate::one::one_env;
+use crate::single_port::one_env;
 use crate::testing::cert_text;
 use dp_model::Entry;
 use dp_pipe::{Listed, NamedBytes};
@@ -18,7 +18,7 @@ struct Case {
     told: &'static str,
 }
 
-/// A row that says of p0 that it is sole, with a headroom of 128 and one segment. Zeros follow.
+/// A row in which p0 is sole, with a headroom of 128 and one segment. Zeros follow.
 const SOLE: &str = "010102008000000000000001";
 
 const CASES: [Case; 10] = [

@@ -5,7 +5,7 @@ ghost use Rattle.std.specs.Fmt.{with_newline};
 ghost use Rattle.std.specs.Io.KnownBytes.{Appends};
 ghost use Rattle.dp_cli.specs.Told.{IsTold, TellsMemory, finding_of, lines_behind, lines_of_fault, status_of, status_of_fault, text_of_fault};
 
-use crate::why::{Finding, Reason, reason_of, write_finding};
+use crate::fault_reasons::{Finding, Reason, reason_of, write_finding};
 use dp_pcap::PcapError;
 use dp_pipe::PipeError;
 use std::fmt::Display;
@@ -157,7 +157,7 @@ pub struct Unwritten;
 /// [`Unwritten`] where it cannot be written.
 pub fn try_tell_fault<W: Write>(to: &mut W, fault: Fault<'_>) -> Result<u8, Unwritten>
     ensures status { IfOk result (λ status. status ≡ status_of_fault fault.entry) }
-    ensures told { OnOk result (IfSome (lines_of_fault fault.entry) (Appends (W.contents to.old) (W.contents to.new))) }
+    ensures lines { OnOk result (IfSome (lines_of_fault fault.entry) (Appends (W.contents to.old) (W.contents to.new))) }
 {
     match write_fault(to, fault) {
         Ok(()) => Ok(fault.status()),
@@ -189,7 +189,7 @@ pub fn tell_usage<W: Write, T: Display + Drop>(to: &mut W, text: T) -> u8
 
 /// The status of what was printed. Where memory ran out, that is told.
 pub fn tell_if_memory<W: Write>(to: &mut W, status: u8) -> u8
-    ensures told { IsTold status result }
+    ensures status { IsTold status result }
     ensures silent { status ≢ MEMORY → to.new ≡ to.old }
     ensures memory { result ≡ MEMORY → TellsMemory (W.contents to.old) (W.contents to.new) }
 {

@@ -4,7 +4,7 @@ ghost use Rattle.std.specs.Prelude.{◌≡◌, ◌≢◌};
 ghost use Rattle.dp_cli.specs.Told.{finding_of, read_finding, read_text, text_of_fault};
 
 use crate::fault::Fault;
-use crate::why::Reason;
+use crate::fault_reasons::Reason;
 use dp_pipe::LONGEST_FILE;
 use std::alloc::{AllocError, Global};
 use std::io::{ErrorKind, Read};
@@ -37,7 +37,7 @@ impl From<io::Error> for ReadFault {
     ghost use Rattle.std.specs.IoError.{error_kind};
     ghost use Rattle.std.specs.declared.io.ErrorKind.TheVariants.{OutOfMemory};
     ghost use Rattle.dp_cli.specs.declared.files.ReadFault.TheVariants.{File};
-    ghost use Rattle.dp_cli.specs.declared.why.Reason.TheVariants.{System};
+    ghost use Rattle.dp_cli.specs.declared.fault_reasons.Reason.TheVariants.{System};
 
     ghost from_gives = { λ error fault. error_kind error ≢ OutOfMemory → fault ≡ File (System error) };
 

@@ -2,12 +2,12 @@
 
 ghost use Rattle.std.specs.Prelude.{◌≡◌, ℕ, length, IfOk, IfSome, option_map};
 ghost use Rattle.std.specs.Option.{option_map_or};
-ghost use Rattle.dp_cli.specs.Why as spec;
+ghost use Rattle.dp_cli.specs.FaultReasons as spec;
 
 use crate::captures::{Input, seen_at};
-use crate::one::Naming;
+use crate::fault_reasons::{Finding, Reason};
+use crate::single_port::Naming;
 use crate::watched::Seen;
-use crate::why::{Finding, Reason};
 use dp_pcap::PcapError;
 use dp_pipe::{Pipeline, RunCause};
 use std::alloc::{AllocError, Global};
@@ -48,7 +48,7 @@ fn file_of(names: &[CaptureNames], cause: RunCause) -> Option<&str>
     }
 }
 
-/// Why a reader failed: what the system said.
+/// Why a reader failed: the system's error.
 fn reason_of_read(failure: Option<Error>) -> Reason
     ensures { result ≡ option_map_or (λ e. Reason.System e) failure (Reason.Capture PcapError.Read) }
 {
@@ -58,7 +58,7 @@ fn reason_of_read(failure: Option<Error>) -> Reason
     }
 }
 
-/// Why an input is at fault: what the system said where its reader failed, and else what is wrong with the capture.
+/// Why an input is at fault: the system's error where its reader failed, and else what is wrong with the capture.
 fn reason_of_input(cause: PcapError, seen: Option<Seen>) -> Reason
     ensures { result ≡ spec.reason_of_input cause seen }
 {
@@ -72,7 +72,7 @@ fn reason_of_input(cause: PcapError, seen: Option<Seen>) -> Reason
     }
 }
 
-/// Why an output is at fault: what the system said.
+/// Why an output is at fault: the system's error.
 fn reason_of_output(failure: Option<Error>) -> Reason
     ensures { result ≡ spec.reason_of_output failure }
 {

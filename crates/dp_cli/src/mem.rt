@@ -58,24 +58,24 @@ impl fmt::Display for ElementLine {
     }
 }
 
-/// The element of a heap in which a place lies.
-fn element_around(heap: &Heap, place: u32) -> Option<Element>
-    ensures { result ≡ spec.element_at heap.now.elements place }
+/// The element of a heap in which an offset lies.
+fn element_around(heap: &Heap, offset: u32) -> Option<Element>
+    ensures { result ≡ spec.element_at heap.now.elements offset }
 {
-    heap.iter().find(|element| place >= element.offset && place - element.offset < element.size)
+    heap.iter().find(|element| offset >= element.offset && offset - element.offset < element.size)
 }
 
 /// Prints what became of the block of a success.
-fn tell_block<O: Write>(heap: &Heap, number: u32, place: u32, out: &mut O) -> u8
+fn tell_block<O: Write>(heap: &Heap, number: u32, offset: u32, out: &mut O) -> u8
     ensures status { IsTold DONE result }
-    ensures printed { result ≡ DONE → IfSome (spec.element_at heap.now.elements place)
-        (λ element. Appends (O.contents out.old) (O.contents out.new) (spec.block_line number place element)) }
+    ensures printed { result ≡ DONE → IfSome (spec.element_at heap.now.elements offset)
+        (λ element. Appends (O.contents out.old) (O.contents out.new) (spec.block_line number offset element)) }
 {
-    match element_around(heap, place) {
+    match element_around(heap, offset) {
         Some(element) => tell(
             out,
             format_args!(
-                "{number} data {place} element {} + {}",
+                "{number} data {offset} element {} + {}",
                 element.offset, element.size
             ),
             DONE,
@@ -153,11 +153,11 @@ impl Session {
     {
         match request(&mut self.heap, size, align, zeros) {
             Ok(block) => {
-                let place = block.offset();
+                let start = block.offset();
                 self.taken = self.taken.saturating_add(1);
                 let number = self.taken;
                 match self.held.push(Held { number, block }) {
-                    Ok(()) => tell_block(&self.heap, number, place, out),
+                    Ok(()) => tell_block(&self.heap, number, start, out),
                     Err(full) => {
                         let Held { number: _, block } = full.value;
                         self.heap.free(block);
@@ -169,8 +169,8 @@ impl Session {
         }
     }
 
-    /// The place of a number in the list of blocks.
-    fn place_of(&self, number: u32) -> Option<usize>
+    /// The index of a number in the list of blocks.
+    fn index_of(&self, number: u32) -> Option<usize>
         ensures within { IfSome result (λ k. k < length self.now.held.items) }
         ensures first { result ≡ position (λ held. held.number == number) self.now.held.items }
     {
@@ -184,10 +184,10 @@ impl Session {
         ensures freed { result ≡ Some DONE → IsPrinted (λ text. IsFreed number (stage self.old.heap.elements self.old.held.items self.old.taken) text
             (stage self.new.heap.elements self.new.held.items self.new.taken)) (O.contents out.old) (O.contents out.new) }
     {
-        let Some(place) = self.place_of(number) else {
+        let Some(index) = self.index_of(number) else {
             return None;
         };
-        let Held { number: _, block } = self.held.remove(place);
+        let Held { number: _, block } = self.held.remove(index);
         self.heap.free(block);
         Some(tell(out, format_args!("freed {number}"), DONE))
     }
@@ -253,7 +253,7 @@ struct Cut<'a> {
     behind: Option<&'a [u8]>,
 }
 
-/// The place of the first newline.
+/// The index of the first newline.
 fn newline_in(text: &[u8]) -> Option<usize>
     ensures { result ≡ position (λ b. b == 10) text.now }
 {
@@ -267,9 +267,9 @@ fn cut_line<'a>(text: &'a [u8]) -> Cut<'a>
     ensures within { length result.line.now ≤ length text.now }
 {
     match newline_in(text) {
-        Some(place) => Cut {
-            line: &text[..place],
-            behind: Some(&text[place + 1..]),
+        Some(index) => Cut {
+            line: &text[..index],
+            behind: Some(&text[index + 1..]),
         },
         None => Cut {
             line: text,
@@ -402,7 +402,7 @@ fn ending_of<O: Write>(alloc: Global, script: &[u8], out: &mut O) -> Ending
 
 /// Tells how a script ended, where it did not come to its end, and answers the status.
 fn tell_ending<E: Write>(ending: Ending, err: &mut E) -> Result<u8, Unwritten>
-    ensures told { IfOk result (IsEndingTold ending (E.contents err.old) (E.contents err.new)) }
+    ensures ending { IfOk result (IsEndingTold ending (E.contents err.old) (E.contents err.new)) }
     ensures silent { IfOk result (λ status. status ≡ DONE → err.new ≡ err.old) }
 {
     match ending {
@@ -425,7 +425,7 @@ pub fn mem_line<O: Write, E: Write>(
     out: &mut O,
     err: &mut E,
 ) -> Result<u8, Unwritten>
-    ensures told { IfOk result (IsScriptTold script.now (O.contents out.old) (O.contents out.new) (E.contents err.old) (E.contents err.new)) }
+    ensures script { IfOk result (IsScriptTold script.now (O.contents out.old) (O.contents out.new) (E.contents err.old) (E.contents err.new)) }
     ensures silent { IfOk result (λ status. status ≡ DONE → err.new ≡ err.old) }
     ensures memory { IfOk result (λ status. status ≡ MEMORY → TellsMemory (E.contents err.old) (E.contents err.new)) }
 {

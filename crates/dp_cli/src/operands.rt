@@ -6,15 +6,16 @@ ghost use Rattle.std.specs.List.{list_all};
 ghost use Rattle.dp_engine.specs.Engines.{IsAscending};
 ghost use Rattle.dp_model.specs.declared.env.Entry.{Entry};
 ghost use Rattle.dp_cli.specs.Operands as spec;
-ghost use Rattle.dp_cli.specs.Operands.{place_of, word_of};
+ghost use Rattle.dp_cli.specs.Operands.{number_of, word_of};
 
 use dp_model::Entry;
+use dp_pipe::MOST_TURNS;
 use std::alloc::{AllocError, Global};
 
 /// The node that a word names: `port` or `ring`, and one digit.
 pub fn node_named(word: &str) -> Option<Entry>
     ensures spelled { IfSome result (λ node. word.now ≡ word_of node) }
-    ensures only { (node : Entry) → place_of node < 10 → word.now ≡ word_of node → result ≡ Some node }
+    ensures only { (node : Entry) → number_of node < 10 → word.now ≡ word_of node → result ≡ Some node }
 {
     match word.as_bytes() {
         [b'p', b'o', b'r', b't', digit @ b'0'..=b'9'] => Some(Entry::Port(digit - b'0')),
@@ -41,13 +42,13 @@ fn number_in(word: &str) -> Option<u64>
     }
 }
 
-/// The number of records that a word is: from 1 to 134,217,728.
+/// The number of records that a word is: from 1 to [`MOST_TURNS`].
 pub fn records_in(word: &str) -> Option<u32>
     ensures number { result ≡ spec.records_in word.now }
-    ensures range { IfSome result (λ records. (1 ≤ records) × (records ≤ 134217728)) }
+    ensures range { IfSome result (λ records. (1 ≤ records) × (records ≤ MOST_TURNS)) }
 {
     match number_in(word) {
-        Some(number @ 1..=134_217_728) => Some(number as u32),
+        Some(number @ 1..=MOST_TURNS) => Some(number as u32),
         _ => None,
     }
 }

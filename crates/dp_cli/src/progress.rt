@@ -90,7 +90,7 @@ impl<P: Write> Progress<P> {
         ensures order { self.new.records.order ≡ self.old.records.order }
         ensures behind { self.old.is_on ≡ true → self.old.records.pieces + length bytes.now < 2 ^ 64 →
             (before : List ℕ) → IsBehind self.old.records before → IsBehind self.new.records (before ++ bytes.now) }
-        ensures told { self.new.is_on ≡ true → Appends (P.contents self.old.to) (P.contents self.new.to)
+        ensures steps { self.new.is_on ≡ true → Appends (P.contents self.old.to) (P.contents self.new.to)
             (spec.steps_text self.old.port (records_in self.old.records) (records_in self.new.records)) }
     {
         if !self.is_on {
@@ -130,7 +130,7 @@ pub fn tell_totals<W: Write>(
     to: &mut W,
 ) -> Result<()>
     ensures off { is_on ≡ false → to.new ≡ to.old }
-    ensures told { is_on ≡ true → OnOk result (Appends (W.contents to.old) (W.contents to.new) (spec.total_lines (report_of answer.now).ports.items)) }
+    ensures totals { is_on ≡ true → OnOk result (Appends (W.contents to.old) (W.contents to.new) (spec.total_lines (report_of answer.now).ports.items)) }
 {
     if !is_on {
         return Ok(());

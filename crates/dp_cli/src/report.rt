@@ -8,7 +8,7 @@ use dp_engine::{InputState, PoolReport, PortReport, Report};
 use std::io::Write;
 use std::{fmt, io};
 
-/// How far an input was read: `whole`, `cut` with the place of the record that is cut, or `open`.
+/// How far an input was read: `whole`, `cut` with the offset of the record that is cut, or `open`.
 #[derive(Clone, Copy)]
 struct StateText(InputState);
 

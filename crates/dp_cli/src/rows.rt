@@ -166,13 +166,13 @@ fn push_mark(out: &mut String, mark: &str) -> Result<(), AllocError> {
     }
 }
 
-/// The last of the registers from this one on of which the same is said.
-fn last_alike(said: &[Option<u64>; 8], first: usize) -> usize
+/// The last of the registers from this one on with the same greatest value.
+fn last_alike(shown: &[Option<u64>; 8], first: usize) -> usize
     requires { first < 8 }
 {
     let mut last = first;
     for next in first..8 {
-        if said[next] != said[first] {
+        if shown[next] != shown[first] {
             return last;
         }
         last = next;
@@ -180,11 +180,11 @@ fn last_alike(said: &[Option<u64>; 8], first: usize) -> usize
     last
 }
 
-/// Whether something is said of a register that is not said of the one before.
-fn begins(said: &[Option<u64>; 8], register: usize) -> bool
+/// Whether a register has a greatest value that is shown, and the one before not the same.
+fn begins(shown: &[Option<u64>; 8], register: usize) -> bool
     requires { register < 8 }
 {
-    said[register].is_some() && (register == 0 || said[register - 1] != said[register])
+    shown[register].is_some() && (register == 0 || shown[register - 1] != shown[register])
 }
 
 /// Adds the greatest value of registers, as `r0 <= 5`, `r1-r7 <= 0` or `r2 any`.
@@ -205,13 +205,13 @@ fn push_bound(
     }
 }
 
-/// Adds what is said of number registers, those with the same greatest value together, with a mark between two.
-fn push_bounds(out: &mut String, said: &[Option<u64>; 8], mark: &str) -> Result<(), AllocError> {
+/// Adds the bounds of number registers that are shown, those with the same greatest value together, with a mark between two.
+fn push_bounds(out: &mut String, shown: &[Option<u64>; 8], mark: &str) -> Result<(), AllocError> {
     for first in 0..8 {
-        if begins(said, first) {
+        if begins(shown, first) {
             push_mark(out, mark)?;
-            let greatest = said[first].unwrap_or(u64::MAX);
-            push_bound(out, first, last_alike(said, first), greatest)?;
+            let greatest = shown[first].unwrap_or(u64::MAX);
+            push_bound(out, first, last_alike(shown, first), greatest)?;
         }
     }
     Ok(())
@@ -219,27 +219,27 @@ fn push_bounds(out: &mut String, said: &[Option<u64>; 8], mark: &str) -> Result<
 
 /// The greatest values that are known.
 fn known_bounds(bounds: &[u64; 8]) -> [Option<u64>; 8] {
-    let mut said = [None; 8];
+    let mut shown = [None; 8];
     for k in 0..8 {
         if bounds[k] != u64::MAX {
-            said[k] = Some(bounds[k]);
+            shown[k] = Some(bounds[k]);
         }
     }
-    said
+    shown
 }
 
 /// The greatest values that are not as they were.
 fn changed_bounds(bounds: &[u64; 8], before: &[u64; 8]) -> [Option<u64>; 8] {
-    let mut said = [None; 8];
+    let mut shown = [None; 8];
     for k in 0..8 {
         if bounds[k] != before[k] {
-            said[k] = Some(bounds[k]);
+            shown[k] = Some(bounds[k]);
         }
     }
-    said
+    shown
 }
 
-/// All that a row says, with a mark between two registers: `p0 sole, headroom 128, at most 1 segment; r0-r7 <= 0`. Registers of
+/// All that is known in a row, with a mark between two registers: `p0 sole, headroom 128, at most 1 segment; r0-r7 <= 0`. Registers of
 /// which nothing is known are left out.
 ///
 /// # Errors
@@ -259,7 +259,7 @@ pub fn row_text(alloc: Global, row: &Row, mark: &str) -> Result<String, AllocErr
     Ok(out)
 }
 
-/// What a row says otherwise than the one before, behind a `+`; or `as before`.
+/// What is not known in the row before, behind a `+`; or `as before`.
 fn change_text(alloc: Global, row: &Row, before: &Row) -> Result<String, AllocError> {
     let mut changes = String::new(alloc);
     push_facts(&mut changes, &row.facts, &before.facts, "; ")?;
@@ -275,7 +275,7 @@ fn change_text(alloc: Global, row: &Row, before: &Row) -> Result<String, AllocEr
     format!(in alloc; "+ {changes}")
 }
 
-/// What a row says: as far as it differs from the one before, behind a `+`, where that is no longer; else all of it.
+/// What is known in a row: as far as it differs from the one before, behind a `+`, where that is no longer; else all of it.
 ///
 /// # Errors
 ///

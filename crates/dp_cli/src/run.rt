@@ -8,8 +8,8 @@ ghost use Rattle.dp_cli.specs.Run.{IsRunTold, status_of_cause, status_of_run, st
 ghost use Rattle.dp_cli.specs.Told.{IsTold, TellsMemory, finding_of, status_of_fault, text_of_fault};
 
 use crate::fault::{DONE, Fault, MEMORY, status_of_write, tell_fault, tell_if_memory};
+use crate::fault_reasons::{Finding, Reason};
 use crate::report::print_report;
-use crate::why::{Finding, Reason};
 use dp_engine::Report;
 use dp_pcap::{Feed, PcapError, Sink};
 use dp_pipe::{Pipeline, RunCause, RunFault, run};
@@ -112,7 +112,7 @@ pub fn run_line<R: Feed, W: Sink, O: Write, E: Write>(
     requires readers { length ins.old ≡ length pipeline.env.ports }
     requires writers { length outs.old ≡ length pipeline.env.ports }
     requires pattern { IsAscending 0 pattern.items }
-    ensures told { IsRunTold pipeline pattern.items (map R.remaining ins.old) (map R.remaining ins.new) (map W.contents outs.old) (map W.contents outs.new)
+    ensures answer { IsRunTold pipeline pattern.items (map R.remaining ins.old) (map R.remaining ins.new) (map W.contents outs.old) (map W.contents outs.new)
         (O.contents out.old) (O.contents out.new) result }
     ensures silent { result ≡ DONE → err.new ≡ err.old }
     ensures memory { result ≡ MEMORY → TellsMemory (E.contents err.old) (E.contents err.new) }

@@ -1,7 +1,7 @@
 //! Runs of pipelines: what is printed and told, and what each writer holds.
 
 use crate::operands::numbers_in;
-use crate::pipe_tests::{FORWARD, LOOP, MULTICAST, RING, TWO_PORTS, changed};
+use crate::pipelines_tests::{FORWARD, LOOP, MULTICAST, RING, TWO_PORTS, changed};
 use crate::testing::{Devices, HEADER, NONE, Ran, WHOLE, file, front, joined, run_on};
 use dp_pipe::NamedBytes;
 use std::alloc::{AllocError, Global};

@@ -52,7 +52,7 @@ fn print_shown<O: Write, E: Write>(
     out: &mut O,
     err: &mut E,
 ) -> u8
-    ensures told { IsTold status result }
+    ensures status { IsTold status result }
     ensures silent { (result ≡ DONE) ⊎ (result ≡ REFUSED) → err.new ≡ err.old }
     ensures memory { result ≡ MEMORY → TellsMemory (E.contents err.old) (E.contents err.new) }
 {
@@ -129,7 +129,7 @@ fn show_at<F: Files, O: Write, E: Write>(
     out: &mut O,
     err: &mut E,
 ) -> u8
-    ensures told { IsToldAt (F.known files.old) survey.now.config node result }
+    ensures verdict { IsToldAt (F.known files.old) survey.now.config node result }
     ensures silent { (result ≡ DONE) ⊎ (result ≡ REFUSED) → err.new ≡ err.old }
     ensures memory { result ≡ MEMORY → TellsMemory (E.contents err.old) (E.contents err.new) }
     ensures stays { F.known files.new ≡ F.known files.old }
@@ -150,7 +150,7 @@ pub fn show_line<F: Files, O: Write, E: Write>(
     out: &mut O,
     err: &mut E,
 ) -> u8
-    ensures told { IsPipelineTold (F.known files.old) text.now (Some which) result }
+    ensures verdict { IsPipelineTold (F.known files.old) text.now (Some which) result }
     ensures silent { (result ≡ DONE) ⊎ (result ≡ REFUSED) → err.new ≡ err.old }
     ensures memory { result ≡ MEMORY → TellsMemory (E.contents err.old) (E.contents err.new) }
     ensures stays { F.known files.new ≡ F.known files.old }

@@ -1,8 +1,8 @@
 //! Printed texts and statuses of `dpv show`.
 
 use crate::judged::Asked;
-use crate::one::one_env;
 use crate::show::{Form, show_line, show_node};
+use crate::single_port::one_env;
 use crate::testing::{Ended, cert_text, file};
 use dp_model::Entry;
 use dp_pipe::Listed;
@@ -18,7 +18,7 @@ struct Case {
     printed: &'static str,
 }
 
-/// A row that says of p0 that it is sole, with a headroom of 128 and one segment. Zeros follow.
+/// A row in which p0 is sole, with a headroom of 128 and one segment. Zeros follow.
 const SOLE: &str = "010102008000000000000001";
 
 const STRIP: &str = "iflen p0,14,short\nadj p0,14\ntx p0,r0,short\nexit\nshort: free p0\nexit\n";

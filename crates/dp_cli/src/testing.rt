@@ -1,7 +1,7 @@
 //! Runs over readers and writers in memory, for tests.
 
 use crate::operands::numbers_in;
-use crate::pipe::load_line;
+use crate::pipelines::load_line;
 use crate::run::run_line;
 use dp_pcap::{FailingFeed, FailingSink, Feed, OfRead, OfWrite, Sink};
 use dp_pipe::{How, Listed, NamedBytes, Pipeline};

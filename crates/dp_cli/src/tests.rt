@@ -2,8 +2,8 @@
 
 use crate::fault::{FAULT, Unwritten};
 use crate::mem::mem_line;
-use crate::one::ONE_PORT;
-use crate::pipe::{infer_line, load_line};
+use crate::pipelines::{infer_line, load_line};
+use crate::single_port::ONE_PORT;
 use crate::testing::{
     Devices, Ended, HEADER, NONE, Ran, WHOLE, cert_text, file, front, joined, run_on,
 };
@@ -102,7 +102,8 @@ static SCRIPTS: [(&str, &str); 16] = [
     ),
     (
         "region 4096\nmalloc 100 0\nmalloc 64 1024\nlist\nfree 1\nfree 2\nlist\n",
-        "1 data 3968 element 3904 + 192\n2 data 3072 element 3008 + 128\nFREE 0 + 3008\nBUSY 3008 + 128 pad 0\nFREE 3136 + 768\nBUSY 3904 + 192 pad 0\nfreed 1\nfreed 2\nFREE 0 + 4096\n",
+        "1 data 3968 element 3904 + 192\n2 data 3072 element 3008 + 128\nFREE 0 + 3008\n\
+         BUSY 3008 + 128 pad 0\nFREE 3136 + 768\nBUSY 3904 + 192 pad 0\nfreed 1\nfreed 2\nFREE 0 + 4096\n",
     ),
     (
         "region 4096\nmalloc 100 0\nmalloc 64 1024\nfree 2\nfree 1\nlist",
@@ -138,7 +139,9 @@ static SCRIPTS: [(&str, &str); 16] = [
     ),
     (
         "region 4096\nmalloc 64 0\nmalloc 64 0\nmalloc 64 0\nfree 2\nstats\nmalloc 64 256\nmalloc 64 0\n",
-        "1 data 4032 element 3968 + 128\n2 data 3904 element 3840 + 128\n3 data 3776 element 3712 + 128\nfreed 2\nfree 2 bytes 3840 busy 2 bytes 256\n4 data 3584 element 3520 + 192\n5 data 3904 element 3840 + 128\n",
+        "1 data 4032 element 3968 + 128\n2 data 3904 element 3840 + 128\n3 data 3776 element 3712 + 128\n\
+         freed 2\nfree 2 bytes 3840 busy 2 bytes 256\n4 data 3584 element 3520 + 192\n\
+         5 data 3904 element 3840 + 128\n",
     ),
     (
         "region 4096\nzmalloc 100 0\nstats\n",
@@ -291,9 +294,9 @@ static OTHER_SHARES: [([u8; 3], u8, &str, &str); 5] = [
     ),
 ];
 
-/// Sets a byte, if there is one at the place.
-fn set(bytes: &mut Vec<u8>, place: usize, value: u8) {
-    if let Some(byte) = bytes.get_mut(place) {
+/// Sets a byte, if there is one at the offset.
+fn set(bytes: &mut Vec<u8>, offset: usize, value: u8) {
+    if let Some(byte) = bytes.get_mut(offset) {
         *byte = value;
     }
 }
@@ -337,7 +340,9 @@ static LOOPS: [(&str, usize, &str); 6] = [
     ),
     // a packet of all the pool's buffers, so that each call afterwards is refused, and jumps back
     (
-        "clone p1,p0,0,d\nchain p0,p1\nclone p1,p0,0,d\nchain p0,p1\nclone p1,p0,0,d\nchain p0,p1\nclone p1,p0,0,d\nchain p0,p1\nclone p1,p0,0,d\nchain p0,p1\nclone p1,p0,0,d\nchain p0,p1\na: alloc p1,0,a\nfree p1\nd: free p0\nexit\n",
+        "clone p1,p0,0,d\nchain p0,p1\nclone p1,p0,0,d\nchain p0,p1\nclone p1,p0,0,d\nchain p0,p1\n\
+         clone p1,p0,0,d\nchain p0,p1\nclone p1,p0,0,d\nchain p0,p1\nclone p1,p0,0,d\nchain p0,p1\n\
+         a: alloc p1,0,a\nfree p1\nd: free p0\nexit\n",
         0,
         "pool 0 free 64 of 64\ncalls 264 refused 0\ncut 1\n",
     ),

@@ -6,13 +6,13 @@ ghost use Rattle.dp_cli.specs.Tracing.{IsTraceTold, IsTraced, status_of_trace};
 ghost use Rattle.dp_cli.specs.Told.{IsTold, TellsMemory};
 
 use crate::fault::{DONE, FAULT, Fault, MEMORY, status_of_write, tell_fault, tell_if_memory};
+use crate::fault_reasons::Finding;
 use crate::listing::instructions;
 use crate::run::fault_of;
 use crate::tracer::{Listing, Printing};
-use crate::why::Finding;
 use dp_lang::print;
 use dp_pcap::Feed;
-use dp_pipe::{Pipeline, RunCause, Traced, trace};
+use dp_pipe::{MOST_TURNS, Pipeline, RunCause, Traced, trace};
 use std::alloc::{AllocError, Global};
 use std::io::{self, Write};
 
@@ -58,7 +58,7 @@ pub fn print_trace<R: Feed, O: Write>(
 ) -> Result<TracedRun, AllocError>
     requires readers { length ins.old ≡ length pipeline.env.ports }
     requires pattern { IsAscending 0 pattern.items }
-    requires limit { which.records ≤ 134217728 }
+    requires limit { which.records ≤ MOST_TURNS }
     ensures traced { IfOk result (λ run. IsTraced pipeline (map R.remaining ins.old) (map R.remaining ins.new) run.answer) }
     ensures untouched { IsErr result → ins.new ≡ ins.old }
 {
@@ -107,8 +107,8 @@ pub fn trace_line<R: Feed, O: Write, E: Write>(
 ) -> u8
     requires readers { length ins.old ≡ length pipeline.env.ports }
     requires pattern { IsAscending 0 pattern.items }
-    requires limit { which.records ≤ 134217728 }
-    ensures told { IsTraceTold pipeline (map R.remaining ins.old) (map R.remaining ins.new) result }
+    requires limit { which.records ≤ MOST_TURNS }
+    ensures answer { IsTraceTold pipeline (map R.remaining ins.old) (map R.remaining ins.new) result }
     ensures silent { result ≡ DONE → err.new ≡ err.old }
     ensures memory { result ≡ MEMORY → TellsMemory (E.contents err.old) (E.contents err.new) }
 {

@@ -1,8 +1,8 @@
 //! Printed texts and statuses of `dpv trace`.
 
 use crate::operands::{numbers_in, port_in, records_in};
-use crate::pipe::load_line;
-use crate::pipe_tests::{FORWARD, LOOP, MULTICAST, TWO_PORTS, changed};
+use crate::pipelines::load_line;
+use crate::pipelines_tests::{FORWARD, LOOP, MULTICAST, TWO_PORTS, changed};
 use crate::testing::{Ended, HEADER, NONE, WHOLE, file, joined};
 use crate::trace::trace_line;
 use dp_pcap::{FailingFeed, OfRead};

@@ -2,7 +2,7 @@
 
 ghost use Rattle.std.specs.Prelude.{◌≡◌};
 
-use crate::seen::{Look, NOTHING, SHOWN, Seen};
+use crate::snapshot::{Look, NOTHING, SHOWN, Snapshot};
 use dp_engine::{Outcome, PacketShape, SegmentView, Turn, View, Watch};
 use dp_model::{Entry, PacketRegister};
 use dp_pcap::Time;
@@ -39,7 +39,7 @@ pub struct Printing<'a, W> {
     listing: Listing<'a>,
     node: Entry,
     records: u32,
-    before: Seen,
+    before: Snapshot,
     written: io::Result<()>,
 }
 
@@ -64,7 +64,7 @@ impl<'a, W: Write + Drop> Printing<'a, W> {
     }
 
     /// Prints what changed.
-    fn print_changes(&mut self, view: &View<'_>, now: &Seen, is_made: bool) -> io::Result<()> {
+    fn print_changes(&mut self, view: &View<'_>, now: &Snapshot, is_made: bool) -> io::Result<()> {
         print_call(&mut self.out, &self.before, now, is_made)?;
         print_numbers(&mut self.out, &self.before.numbers, &now.numbers)?;
         print_packets(&mut self.out, view, &self.before.packets, &now.packets)?;
@@ -73,14 +73,14 @@ impl<'a, W: Write + Drop> Printing<'a, W> {
     }
 
     /// Prints the head of a node run, and what is in registers. The call for a record whose node run begins was not refused.
-    fn print_begin(&mut self, view: &View<'_>, now: &Seen) -> io::Result<()> {
+    fn print_begin(&mut self, view: &View<'_>, now: &Snapshot) -> io::Result<()> {
         writeln!(self.out, "{}", NodeName(self.node))?;
         let is_made = matches!(self.node, Entry::Port(_));
         self.print_changes(view, now, is_made)
     }
 
     /// Prints an instruction, and what it changed.
-    fn print_step(&mut self, label: u16, view: &View<'_>, now: &Seen) -> io::Result<()> {
+    fn print_step(&mut self, label: u16, view: &View<'_>, now: &Snapshot) -> io::Result<()> {
         let text = self.listing.text(self.node, label);
         writeln!(self.out, "{label:>4}  {text}")?;
         let is_made = now.has_new_packet(&self.before);
@@ -88,7 +88,7 @@ impl<'a, W: Write + Drop> Printing<'a, W> {
     }
 
     /// Prints what became of a record, and what is sent then.
-    fn print_turn(&mut self, turn: Turn, now: &Seen) -> io::Result<()> {
+    fn print_turn(&mut self, turn: Turn, now: &Snapshot) -> io::Result<()> {
         print_call(&mut self.out, &self.before, now, false)?;
         let outcome = outcome_text(turn.outcome);
         write!(self.out, "turn {outcome} runs {}", turn.runs)?;
@@ -99,7 +99,7 @@ impl<'a, W: Write + Drop> Printing<'a, W> {
 
 impl<W: Write + Drop> Watch for Printing<'_, W> {
     fn begin(&mut self, node: Entry, view: View<'_>) {
-        let now = Seen::of(&view);
+        let now = Snapshot::of(&view);
         self.node = node;
         self.before = self.before.with_empty_registers();
         if self.written.is_ok() {
@@ -109,7 +109,7 @@ impl<W: Write + Drop> Watch for Printing<'_, W> {
     }
 
     fn see(&mut self, label: u16, view: View<'_>) {
-        let now = Seen::of(&view);
+        let now = Snapshot::of(&view);
         if self.written.is_ok() {
             self.written = self.print_step(label, &view, &now);
         }
@@ -126,7 +126,7 @@ impl<W: Write + Drop> Tracer for Printing<'_, W> {
     }
 
     fn turned(&mut self, turn: Turn, view: View<'_>) {
-        let now = Seen::of(&view);
+        let now = Snapshot::of(&view);
         if self.written.is_ok() {
             self.written = self.print_turn(turn, &now);
         }
@@ -161,7 +161,12 @@ fn print_record<W: Write>(
 }
 
 /// Prints what the last allocation call was told, where there was one.
-fn print_call<W: Write>(out: &mut W, before: &Seen, now: &Seen, is_made: bool) -> io::Result<()> {
+fn print_call<W: Write>(
+    out: &mut W,
+    before: &Snapshot,
+    now: &Snapshot,
+    is_made: bool,
+) -> io::Result<()> {
     if now.calls <= before.calls {
         return Ok(());
     }

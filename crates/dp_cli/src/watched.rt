@@ -88,7 +88,7 @@ impl<R: Read, P: Write> Read for Watched<R, P> {
         ensures kept { OnOk result (self.new.seen.failure ≡ self.old.seen.failure) }
         ensures begun { OnOk result (self.new.is_begun ≡ true) }
         ensures off { self.old.progress.is_on ≡ false → self.new.progress.to ≡ self.old.progress.to }
-        ensures told { IfOk result (λ n. self.new.progress.is_on ≡ true →
+        ensures steps { IfOk result (λ n. self.new.progress.is_on ≡ true →
             Appends (P.contents self.old.progress.to) (P.contents self.new.progress.to) (steps_text self.old.progress.port
             (if self.old.is_begun then records_in self.old.progress.records else 0) (records_in self.new.progress.records))) }
         ensures counted { IfOk result (λ n. self.old.progress.is_on ≡ true → self.old.is_begun ≡ true →

@@ -3,10 +3,10 @@ use Rattle.std.proofs.Common.{◌≡◌, ◌⊎◌, ◌<◌, ℕ}
 use Rattle.dp_cli.specs.Judging.{EndedAt}
 use Rattle.dp_cli.proofs.explain.explain_all.Given as goal
 
-abbrev pub invariant-loop-place : goal.invariant-loop-place
-invariant-loop-place g l = record {
-  accepted : l.worst ≡ 0 → (place : ℕ) → place < l.place → EndedAt (g.F.Files.known l.initial.files) l.survey.config 0 place;
-  refused : l.worst ≡ 1 → (place : ℕ) × EndedAt (g.F.Files.known l.initial.files) l.survey.config 1 place;
+abbrev pub invariant-loop-index : goal.invariant-loop-index
+invariant-loop-index g l = record {
+  accepted : l.worst ≡ 0 → (index : ℕ) → index < l.index → EndedAt (g.F.Files.known l.initial.files) l.survey.config 0 index;
+  refused : l.worst ≡ 1 → (index : ℕ) × EndedAt (g.F.Files.known l.initial.files) l.survey.config 1 index;
   ends : (l.worst ≡ 0) ⊎ (l.worst ≡ 1);
   silent : l.err ≡ l.initial.err;
   stays : g.F.Files.known l.files ≡ g.F.Files.known l.initial.files;

@@ -1,4 +1,4 @@
--- The elements are gone through from the lowest place.
+-- The elements are gone through from the lowest offset.
 use Rattle.std.proofs.Common.{rules, sym, ◌∙◌}
 use borrow.Author.Tests.{tests}
 use Rattle.std.proofs.lemmas.Iterator.Consumers.{YieldsList-from_first}
@@ -10,5 +10,5 @@ use Rattle.dp_cli.proofs.mem.element_around.Goals as goal
 pub returns : goal.returns
 returns c =
     sym (option_map_id c.find.result)
-    ∙ find_from_yields_List (lies_in c.args.place) _ _ c.find.result c.find.ensures.ran
+    ∙ find_from_yields_List (lies_in c.args.offset) _ _ c.find.result c.find.ensures.ran
     (YieldsList-from_first (λ e. e) (λ rest. rest) c.args.heap.now.elements c.iter.ensures) (λ x b q k. search (rules, tests))

@@ -3,8 +3,8 @@ use Rattle.std.proofs.Common.{ap, map}
 use Rattle.dp_cli.proofs.Endings.{if_err}
 use Rattle.dp_cli.proofs.run.run_line.Goals as goal
 
-pub returns-clause-told : goal.returns-clause-told
-returns-clause-told g c = record {
+pub returns-clause-answer : goal.returns-clause-answer
+returns-clause-answer g c = record {
   answer = c.run.result;
   answers = c.run.ensures.answers;
   free = c.run.ensures.free;

@@ -1,6 +1,6 @@
 -- The numbers of the one port are within the limits.
 use Rattle.std.proofs.lemmas.Option.{none-some}
-use Rattle.dp_cli.proofs.one.one_env.Goals as goal
+use Rattle.dp_cli.proofs.single_port.one_env.Goals as goal
 
 pub unreachable-requires : goal.unreachable-requires
 unfolding lib.Count.ones

@@ -11,12 +11,12 @@ use Rattle.dp_pipe.specs.declared.error.PipeError.{PipeError}
 use Rattle.dp_pipe.specs.declared.error.PipeError.TheVariants as pipe
 use Rattle.dp_pipe.specs.declared.forwarding.RunCause.{RunCause}
 use Rattle.dp_pipe.specs.declared.forwarding.RunCause.TheVariants.{In, Out}
-use Rattle.dp_cli.specs.declared.apart.PlainFile.{PlainFile}
+use Rattle.dp_cli.specs.declared.same_file.PlainFile.{PlainFile}
 use Rattle.dp_cli.specs.declared.findings.CaptureNames.{CaptureNames}
 use Rattle.dp_cli.specs.declared.watched.Seen.{Seen}
-use Rattle.dp_cli.specs.declared.why.Reason.{Reason}
-use Rattle.dp_cli.specs.declared.why.Reason.TheVariants.{System, TooLong, IsInput, Capture, IsPcapng, Pipeline}
-use Rattle.dp_cli.specs.declared.why.Finding.{Finding}
+use Rattle.dp_cli.specs.declared.fault_reasons.Reason.{Reason}
+use Rattle.dp_cli.specs.declared.fault_reasons.Reason.TheVariants.{System, TooLong, IsInput, Capture, IsPcapng, Pipeline}
+use Rattle.dp_cli.specs.declared.fault_reasons.Finding.{Finding}
 
 -- the words of a reason; those of the system and of the libraries are not told
 abbrev pub reason_text : Reason → Option (List ℕ)
@@ -40,14 +40,14 @@ abbrev pub reason_of : PipeError → Option Reason
 reason_of (pipe.File _) = None
 reason_of error = Some (Pipeline error)
 
--- why an input is at fault: what the system said where its reader failed, and else what is wrong with the capture
+-- why an input is at fault: the system's error where its reader failed, and else what is wrong with the capture
 abbrev pub reason_of_input : PcapError → Option Seen → Reason
 reason_of_input cause None = Capture cause
 reason_of_input pcap.Read (Some seen) = option_map_or (λ error. System error) seen.failure (Capture pcap.Read)
 reason_of_input pcap.BadMagic (Some seen) = if seen.is_pcapng then IsPcapng else Capture pcap.BadMagic
 reason_of_input cause (Some seen) = Capture cause
 
--- why an output is at fault: what the system said
+-- why an output is at fault: the system's error
 abbrev pub reason_of_output : Option Error → Reason
 reason_of_output failure = option_map_or (λ error. System error) failure (Capture pcap.Write)
 

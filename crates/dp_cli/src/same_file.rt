@@ -3,11 +3,11 @@
 ghost use Rattle.std.specs.Prelude.{◌≡◌, ◌++◌, ◌==◌, ◌&&◌, ◌↔◌, Some, None, IfErr, IsErr, IsTrue, codes};
 ghost use Rattle.std.specs.List.{list_any};
 ghost use Rattle.dp_cli.specs.Told.{finding_of, text_of_fault};
-ghost use Rattle.dp_cli.specs.Why as spec;
+ghost use Rattle.dp_cli.specs.FaultReasons as spec;
 
 use crate::fault::Fault;
+use crate::fault_reasons::Reason;
 use crate::findings::CaptureNames;
-use crate::why::Reason;
 use std::alloc::Global;
 use std::fs;
 use std::io::ErrorKind;

@@ -1,9 +1,9 @@
 -- One line more.
 use Rattle.std.proofs.Common.{◌≡◌, ◌∷◌, ◌++◌, [], ap, codes}
 use Rattle.dp_pipe.specs.Causes.{node_text}
-use Rattle.dp_cli.specs.Pipe.{accepted_line}
+use Rattle.dp_cli.specs.Pipelines.{accepted_line}
 use Rattle.dp_cli.proofs.Lines.{appends_piece}
-use Rattle.dp_cli.proofs.pipe.check_line.Goals as goal
+use Rattle.dp_cli.proofs.pipelines.check_line.Goals as goal
 
 pub loop-k-preserved : goal.loop-k-preserved
 loop-k-preserved g c =

@@ -1,8 +1,8 @@
 -- The lines of the nodes so far were printed, and nothing was told.
 use Rattle.std.proofs.Common.{◌≡◌, take}
 use Rattle.std.specs.Io.KnownBytes.{Appends}
-use Rattle.dp_cli.specs.Pipe.{accepted_lines}
-use Rattle.dp_cli.proofs.pipe.check_line.Given as goal
+use Rattle.dp_cli.specs.Pipelines.{accepted_lines}
+use Rattle.dp_cli.proofs.pipelines.check_line.Given as goal
 
 abbrev pub invariant-loop-k : goal.invariant-loop-k
 invariant-loop-k g l = record {

@@ -1,11 +1,11 @@
 //! The reasons behind faults, and what readers and writers keep of a failure.
 
 use crate::fault::{Fault, MEMORY, tell_fault};
+use crate::fault_reasons::{Finding, Reason, reason_of};
 use crate::guarded::Guarded;
 use crate::progress::Progress;
 use crate::run::fault_of;
 use crate::watched::Watched;
-use crate::why::{Finding, Reason, reason_of};
 use dp_model::{Entry, EnvError};
 use dp_pcap::PcapError;
 use dp_pipe::{Part, PipeError, RouteError, RunCause};

@@ -1,7 +1,7 @@
 //! Printed texts and statuses of `dpv check` and `dpv infer`.
 
 use crate::operands::node_named;
-use crate::pipe::{check_line, infer_line, load_line};
+use crate::pipelines::{check_line, infer_line, load_line};
 use crate::testing::{Ended, file};
 use dp_model::Entry;
 use dp_pipe::{How, Listed, NamedBytes};

@@ -1,95 +1,20 @@
-//! `dpv check` and `dpv infer`: pipelines, and the certificates of their programs.
+//! `dpv check` and `dpv infer`: loads pipelines, and prints which of their programs are accepted and with which certificates.
 
-ghost use Rattle.std.specs.Prelude.{◌≡◌, ◌≢◌, IfSome, IfNone, IfOk, IfErr, OnOk, MatchOption, option_map};
+ghost use Rattle.std.specs.Prelude.{◌≡◌, IfSome, IfNone, IfOk, IfErr, OnOk, MatchOption, option_map};
 ghost use Rattle.std.specs.Io.KnownBytes.{Appends};
 ghost use Rattle.dp_cert.specs.Spelling.{Certificate, spelling};
 ghost use Rattle.dp_check.specs.Faults.{IsWith};
 ghost use Rattle.dp_pipe.specs.Loads.{IsLoadedFrom};
-ghost use Rattle.dp_cli.specs.Pipe as spec;
+ghost use Rattle.dp_cli.specs.Pipelines as spec;
 ghost use Rattle.dp_cli.specs.Told.{IsTold, TellsMemory};
 
 use crate::certifying::print_cert;
-use crate::fault::{DONE, FAULT, MEMORY, USAGE, tell, tell_if_memory, tell_unloaded, tell_usage};
-use crate::files::{self, ReadFault};
-use crate::one::Naming;
-use crate::why::{Finding, Reason, write_finding};
+use crate::fault::{DONE, MEMORY, USAGE, tell, tell_if_memory, tell_unloaded, tell_usage};
 use dp_check::Checked;
 use dp_model::Entry;
-use dp_pipe::{FetchFault, Files, How, NodeName, Pipeline, load};
+use dp_pipe::{Files, How, NodeName, Pipeline, load};
 use std::alloc::Global;
 use std::io::Write;
-use std::rt;
-
-/// A file that was not fetched.
-#[derive(Drop)]
-pub struct Unfetched {
-    /// Its name.
-    pub name: String,
-    /// Why.
-    pub reason: Reason,
-}
-
-/// The files of the host.
-#[derive(Drop)]
-pub struct HostFiles<'a, R> {
-    /// Where they are.
-    rt: &'a R,
-    /// By which names.
-    naming: Naming<'a>,
-    /// The one that was not fetched last.
-    unfetched: Option<Unfetched>,
-}
-
-impl<'a, R> HostFiles<'a, R> {
-    /// The files that names stand for.
-    pub fn new(rt: &'a R, naming: Naming<'a>) -> HostFiles<'a, R> {
-        HostFiles {
-            rt,
-            naming,
-            unfetched: None,
-        }
-    }
-
-    /// Tells behind a fault's line why a file was not fetched, and answers the status.
-    pub fn tell_unfetched<E: Write>(&self, status: u8, err: &mut E) -> u8
-        ensures status { result ≡ status }
-        ensures silent { status ≢ FAULT → err.new ≡ err.old }
-    {
-        match &self.unfetched {
-            Some(file) if status == FAULT => {
-                let finding = Finding {
-                    file: Some(file.name.as_str()),
-                    reason: file.reason,
-                };
-                let _written = write_finding(err, finding);
-                status
-            }
-            _ => status,
-        }
-    }
-}
-
-impl<R: rt::Files> Files for HostFiles<'_, R> {
-    ghost use Rattle.std.specs.Prelude.{None};
-
-    // What the host's files hold is not told.
-    ghost known = { λ _. None };
-
-    fn fetch(&mut self, alloc: Global, name: &str) -> Result<Vec<u8>, FetchFault> {
-        let name = self.naming.file(name);
-        match files::read(self.rt, alloc, name) {
-            Ok(bytes) => Ok(bytes),
-            Err(ReadFault::Memory) => Err(FetchFault::Memory),
-            Err(ReadFault::File(reason)) => {
-                let Ok(name) = String::from_str(alloc, name) else {
-                    return Err(FetchFault::Memory);
-                };
-                self.unfetched = Some(Unfetched { name, reason });
-                Err(FetchFault::Missing)
-            }
-        }
-    }
-}
 
 /// The pipeline of a text and the files that it names; or the status, once the first fault is told: a program that is refused
 /// or has no certificate on `out`, all else on `err`.

@@ -1,4 +1,4 @@
-//! What a machine looks like between two instructions, so that it can be told what one of them changed.
+//! A machine as it stands between two instructions, so that what one of them changed can be printed.
 
 use dp_engine::{PacketShape, View};
 use dp_model::{NumberRegister, PacketRegister};
@@ -19,7 +19,7 @@ pub struct Look {
 
 /// What is seen of a machine.
 #[derive(Clone, Copy, Debug)]
-pub struct Seen {
+pub struct Snapshot {
     /// The numbers in registers.
     pub numbers: [u64; 8],
     /// The packets in registers.
@@ -33,7 +33,7 @@ pub struct Seen {
 }
 
 /// A machine in which nothing is.
-pub const NOTHING: Seen = Seen {
+pub const NOTHING: Snapshot = Snapshot {
     numbers: [0; 8],
     packets: [None; 8],
     rings: [0; 8],
@@ -41,10 +41,10 @@ pub const NOTHING: Seen = Seen {
     calls: 0,
 };
 
-impl Seen {
+impl Snapshot {
     /// What is seen of a machine.
-    pub fn of(view: &View<'_>) -> Seen {
-        Seen {
+    pub fn of(view: &View<'_>) -> Snapshot {
+        Snapshot {
             numbers: numbers_of(view),
             packets: packets_of(view),
             rings: rings_of(view),
@@ -54,10 +54,10 @@ impl Seen {
     }
 
     /// Where nothing is in registers: as a node run finds them before its packet comes.
-    pub fn with_empty_registers(self) -> Seen {
+    pub fn with_empty_registers(self) -> Snapshot {
         let numbers = [0; 8];
         let packets = [None; 8];
-        Seen {
+        Snapshot {
             numbers,
             packets,
             ..self
@@ -65,13 +65,13 @@ impl Seen {
     }
 
     /// Where nothing is in transmit lists: as it is once they are sent.
-    pub fn with_empty_lists(self) -> Seen {
+    pub fn with_empty_lists(self) -> Snapshot {
         let lists = [0; 8];
-        Seen { lists, ..self }
+        Snapshot { lists, ..self }
     }
 
     /// Whether a register has a packet that was empty before.
-    pub fn has_new_packet(&self, before: &Seen) -> bool {
+    pub fn has_new_packet(&self, before: &Snapshot) -> bool {
         self.packets
             .iter()
             .zip(before.packets.iter())

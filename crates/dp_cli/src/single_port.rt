@@ -1,7 +1,7 @@
 //! `dpv one`: a pipeline of one port.
 
 ghost use Rattle.std.specs.Prelude.{◌≡◌};
-ghost use Rattle.dp_cli.specs.One.{one_port};
+ghost use Rattle.dp_cli.specs.SinglePort.{one_port};
 
 use dp_model::{Env, PoolSpec, PortSpec};
 

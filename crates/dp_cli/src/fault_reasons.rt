@@ -2,7 +2,7 @@
 
 ghost use Rattle.std.specs.Prelude.{◌≡◌, IfSome, OnOk, option_map};
 ghost use Rattle.std.specs.Io.KnownBytes.{Appends};
-ghost use Rattle.dp_cli.specs.Why.{file_line, finding_lines, reason_of};
+ghost use Rattle.dp_cli.specs.FaultReasons.{file_line, finding_lines, reason_of};
 
 use dp_lang::Cause;
 use dp_pcap::PcapError;
@@ -13,7 +13,7 @@ use std::{fmt, io};
 /// Why something is at fault.
 #[derive(Clone, Copy, Debug)]
 pub enum Reason {
-    /// What the system says.
+    /// The system's error.
     System(io::Error),
     /// A file that has more bytes than are read.
     TooLong,
@@ -28,7 +28,7 @@ pub enum Reason {
 }
 
 impl fmt::Display for Reason {
-    ghost use Rattle.dp_cli.specs.Why.{reason_text};
+    ghost use Rattle.dp_cli.specs.FaultReasons.{reason_text};
 
     ghost output = { reason_text };
 
