@@ -12,7 +12,7 @@ use crate::fault::{
 };
 use crate::judged::{Asked, Judged, asked_of, judge};
 use crate::reasons::{HintText, KnownText, RuleText, WantedText};
-use dp_check::{Diagnosis, diagnose};
+use dp_check::{Diagnosis, Reason, diagnose};
 use dp_lang::source_lines;
 use dp_model::{Entry, Env};
 use dp_pipe::{Files, NodeName, Survey, survey_of};
@@ -43,32 +43,41 @@ struct Explanation<'a> {
 
 impl fmt::Display for Explanation<'_> {
     fn fmt<W: fmt::Write>(&self, f: &mut fmt::Formatter<W>) -> fmt::Result {
-        let Diagnosis { label, reason } = self.diagnosis;
-        let Asked {
-            node,
-            program,
-            cert,
-        } = self.asked;
-        let node = NodeName(node);
-        let verdict = match cert {
-            Some(_) => "refused",
-            None => "not inferred",
-        };
-        let rule = reason.rule();
-        writeln!(f, "{node} {verdict} at {label} by J{}", rule.number())?;
-        writeln!(f, "{program}:{}: {}", self.line, self.source)?;
-        let rule = RuleText(rule);
-        writeln!(f, "  {rule}")?;
-        let known = KnownText(reason);
-        writeln!(f, "  known:  {known}")?;
-        let wanted = WantedText(reason);
-        writeln!(f, "  wanted: {wanted}")?;
+        write_verdict(f, self.asked, self.diagnosis)?;
+        writeln!(f, "{}:{}: {}", self.asked.program, self.line, self.source)?;
+        write_why(f, self.diagnosis.reason)?;
         let hint = HintText {
-            reason,
-            inferred: cert.is_none(),
+            reason: self.diagnosis.reason,
+            inferred: self.asked.cert.is_none(),
         };
         write!(f, "  help:   {hint}")
     }
+}
+
+/// Writes which node's program is refused, where, and by which rule.
+fn write_verdict<W: fmt::Write>(
+    f: &mut fmt::Formatter<W>,
+    asked: Asked<'_>,
+    diagnosis: Diagnosis,
+) -> fmt::Result {
+    let node = NodeName(asked.node);
+    let verdict = if asked.cert.is_some() {
+        "refused"
+    } else {
+        "not inferred"
+    };
+    let rule = diagnosis.reason.rule().number();
+    writeln!(f, "{node} {verdict} at {} by J{rule}", diagnosis.label)
+}
+
+/// Writes the rule that a program breaks, what is known there, and what is wanted.
+fn write_why<W: fmt::Write>(f: &mut fmt::Formatter<W>, reason: Reason) -> fmt::Result {
+    let rule = RuleText(reason.rule());
+    writeln!(f, "  {rule}")?;
+    let known = KnownText(reason);
+    writeln!(f, "  known:  {known}")?;
+    let wanted = WantedText(reason);
+    writeln!(f, "  wanted: {wanted}")
 }
 
 /// The line of an instruction, from 1; or nothing, where memory runs out.

@@ -2,8 +2,11 @@
 
 use crate::rows::{FactText, SegmentsText};
 use dp_check::{Gap, Measure, Reason};
-use dp_model::{Fact, Rule};
+use dp_model::{Fact, NumberRegister, PacketRegister, Rule};
 use std::fmt;
+
+/// The most bytes for which a program can test.
+const MOST_TESTED: u64 = u16::MAX as u64;
 
 /// A rule in words.
 #[derive(Drop)]
@@ -48,79 +51,129 @@ fn test_word(part: Measure) -> &'static str {
     }
 }
 
+/// A pool, table, ring or instruction that is not there.
+#[derive(Clone, Copy, Debug)]
+struct Missing {
+    /// One of its kind, and all of them, in words.
+    one: &'static str,
+    all: &'static str,
+    /// Its number, from 0.
+    number: u16,
+    /// How many there are.
+    known: usize,
+}
+
+/// What is missing, where that is why a program is refused.
+fn missing_in(reason: Reason) -> Option<Missing> {
+    let (one, all, number, known) = match reason {
+        Reason::NoPool { pool, known } => ("a pool", "pools", u16::from(pool), known),
+        Reason::NoTable { table, known } => {
+            ("a table", "tables", u16::from(table), usize::from(known))
+        }
+        Reason::NoRing { ring, known } => ("a ring", "rings", u16::from(ring), known),
+        Reason::NoInstruction { to, known } => ("an instruction", "instructions", to, known),
+        _ => return None,
+    };
+    Some(Missing {
+        one,
+        all,
+        number,
+        known,
+    })
+}
+
+/// Writes what is known of a packet register.
+fn write_fact<W: fmt::Write>(
+    f: &mut fmt::Formatter<W>,
+    packet: PacketRegister,
+    fact: Fact,
+) -> fmt::Result {
+    let fact = FactText(fact);
+    write!(f, "p{} {fact}", packet.number())
+}
+
+/// Writes the greatest value of a number register.
+fn write_bound<W: fmt::Write>(
+    f: &mut fmt::Formatter<W>,
+    register: NumberRegister,
+    greatest: u64,
+) -> fmt::Result {
+    write!(f, "r{} <= {greatest}", register.number())
+}
+
+/// Writes how many segments two packets can have.
+fn write_lengths<W: fmt::Write>(
+    f: &mut fmt::Formatter<W>,
+    front: PacketRegister,
+    known: u8,
+    back: PacketRegister,
+    more: u8,
+) -> fmt::Result {
+    let (known, more) = (SegmentsText(known), SegmentsText(more));
+    write!(f, "p{} {known}, p{} {more}", front.number(), back.number())
+}
+
 /// What is known.
 #[derive(Drop)]
 pub struct KnownText(pub Reason);
 
 impl fmt::Display for KnownText {
     fn fmt<W: fmt::Write>(&self, f: &mut fmt::Formatter<W>) -> fmt::Result {
-        match self.0 {
-            Reason::RowCount { known, .. } => write!(f, "{known} rows"),
-            Reason::NoEntry => write!(f, "no such port or ring"),
-            Reason::EntryRow(gap) => write_known(f, gap),
-            Reason::NoPool { known, .. } => write!(f, "the number of pools is {known}"),
-            Reason::NoTable { known, .. } => write!(f, "the number of tables is {known}"),
-            Reason::NoRing { known, .. } => write!(f, "the number of rings is {known}"),
-            Reason::NoInstruction { known, .. } => write!(
-                f,
-                "the number of instructions is {known}"
-            ),
-            Reason::NotHeld { packet } => write!(f, "p{} empty", packet.number()),
-            Reason::NotEmpty { packet, known } | Reason::LeftOver { packet, known } => {
-                let fact = FactText(known);
-                write!(f, "p{} {fact}", packet.number())
-            }
-            Reason::OneRegister { packet } => write!(f, "both are p{}", packet.number()),
-            Reason::TooLittle {
-                packet,
-                part,
-                known,
-                ..
-            } => write!(f, "p{} {} {known}", packet.number(), measure_word(part)),
-            Reason::NotAlone { packet, known, .. } => {
-                let fact = FactText(known);
-                write!(f, "p{} {fact}", packet.number())
-            }
-            Reason::TooLong {
-                front,
-                back,
-                known,
-                more,
-            } => write!(
-                f,
-                "p{} {}, p{} {}",
-                front.number(),
-                SegmentsText(known),
-                back.number(),
-                SegmentsText(more)
-            ),
-            Reason::NoPort {
-                register,
-                known,
-                ..
-            } => write!(f, "r{} <= {known}", register.number()),
-            Reason::LessThanRing { packet, known, .. } => {
-                let fact = FactText(known);
-                write!(f, "p{} {fact}", packet.number())
-            }
-            Reason::Successor { gap, .. } => write_known(f, gap),
+        match missing_in(self.0) {
+            Some(missing) => write!(f, "the number of {} is {}", missing.all, missing.known),
+            None => write_known(f, self.0),
         }
     }
 }
 
-/// What is known where another row wants more.
-fn write_known<W: fmt::Write>(f: &mut fmt::Formatter<W>, gap: Gap) -> fmt::Result {
+/// Writes what is known where nothing is missing.
+fn write_known<W: fmt::Write>(f: &mut fmt::Formatter<W>, reason: Reason) -> fmt::Result {
+    match reason {
+        Reason::RowCount { known, .. } => write!(f, "{known} rows"),
+        Reason::NoEntry => write!(f, "no such port or ring"),
+        Reason::EntryRow(gap) | Reason::Successor { gap, .. } => write_known_row(f, gap),
+        Reason::NotHeld { packet } => write!(f, "p{} empty", packet.number()),
+        Reason::NotEmpty { packet, known }
+        | Reason::LeftOver { packet, known }
+        | Reason::NotAlone { packet, known, .. }
+        | Reason::LessThanRing { packet, known, .. } => write_fact(f, packet, known),
+        Reason::OneRegister { packet } => write!(f, "both are p{}", packet.number()),
+        Reason::TooLittle {
+            packet,
+            part,
+            known,
+            ..
+        } => write!(f, "p{} {} {known}", packet.number(), measure_word(part)),
+        Reason::TooLong {
+            front,
+            back,
+            known,
+            more,
+        } => write_lengths(f, front, known, back, more),
+        Reason::NoPort {
+            register,
+            known,
+            ..
+        } => write_bound(f, register, known),
+        Reason::NoPool { .. }
+        | Reason::NoTable { .. }
+        | Reason::NoRing { .. }
+        | Reason::NoInstruction { .. } => Ok(()),
+    }
+}
+
+/// Writes what is known where another row wants more.
+fn write_known_row<W: fmt::Write>(f: &mut fmt::Formatter<W>, gap: Gap) -> fmt::Result {
     match gap {
         Gap::Dead => write!(f, "control comes there"),
         Gap::Packet { packet, known, .. } | Gap::Group { packet, known, .. } => {
-            let fact = FactText(known);
-            write!(f, "p{} {fact}", packet.number())
+            write_fact(f, packet, known)
         }
         Gap::Number {
             register,
             known,
             ..
-        } => write!(f, "r{} <= {known}", register.number()),
+        } => write_bound(f, register, known),
     }
 }
 
@@ -130,78 +183,101 @@ pub struct WantedText(pub Reason);
 
 impl fmt::Display for WantedText {
     fn fmt<W: fmt::Write>(&self, f: &mut fmt::Formatter<W>) -> fmt::Result {
-        match self.0 {
-            Reason::RowCount { wanted, .. } => write!(f, "{wanted} rows"),
-            Reason::NoEntry => write!(f, "a port or ring of the environment"),
-            Reason::EntryRow(gap) => write_wanted(f, gap),
-            Reason::NoPool { pool, .. } => write!(f, "a pool with the number {pool}, from 0"),
-            Reason::NoTable { table, .. } => write!(f, "a table with the number {table}, from 0"),
-            Reason::NoRing { ring, .. } => write!(f, "a ring with the number {ring}, from 0"),
-            Reason::NoInstruction { to, .. } => write!(
-                f,
-                "an instruction with the number {to}, from 0"
-            ),
-            Reason::NotHeld { packet } => write!(f, "a packet in p{}", packet.number()),
-            Reason::NotEmpty { packet, .. } | Reason::LeftOver { packet, .. } => {
-                write!(f, "p{} empty", packet.number())
+        match missing_in(self.0) {
+            Some(missing) => {
+                write!(
+                    f,
+                    "{} with the number {}, from 0",
+                    missing.one, missing.number
+                )
             }
-            Reason::OneRegister { .. } => write!(f, "two registers"),
-            Reason::TooLittle {
-                packet,
-                part,
-                start,
-                count,
-                ..
-            } => {
-                write!(f, "p{} {} ", packet.number(), measure_word(part))?;
-                if start > 0 {
-                    write!(f, "{start} + ")?;
-                }
-                write!(f, "{count}")
-            }
-            Reason::NotAlone { packet, wanted, .. } => {
-                let word = if wanted == 2 {
-                    "sole"
-                } else {
-                    "sole or head sole"
-                };
-                write!(f, "p{} {word}", packet.number())
-            }
-            Reason::TooLong { .. } => write!(f, "at most 64 together"),
-            Reason::NoPort {
-                register,
-                ports,
-                ..
-            } => write!(
-                f,
-                "r{} below {ports}, the number of ports",
-                register.number()
-            ),
-            Reason::LessThanRing { packet, wanted, .. } => {
-                let fact = FactText(wanted);
-                write!(f, "p{} {fact}", packet.number())
-            }
-            Reason::Successor { to, gap } => {
-                write!(f, "at {to}: ")?;
-                write_wanted(f, gap)
-            }
+            None => write_wanted(f, self.0),
         }
     }
 }
 
-/// What a row wants.
-fn write_wanted<W: fmt::Write>(f: &mut fmt::Formatter<W>, gap: Gap) -> fmt::Result {
+/// Writes what is wanted where nothing is missing.
+fn write_wanted<W: fmt::Write>(f: &mut fmt::Formatter<W>, reason: Reason) -> fmt::Result {
+    match reason {
+        Reason::RowCount { wanted, .. } => write!(f, "{wanted} rows"),
+        Reason::NoEntry => write!(f, "a port or ring of the environment"),
+        Reason::EntryRow(gap) => write_wanted_row(f, gap),
+        Reason::NotHeld { packet } => write!(f, "a packet in p{}", packet.number()),
+        Reason::NotEmpty { packet, .. } | Reason::LeftOver { packet, .. } => {
+            write!(f, "p{} empty", packet.number())
+        }
+        Reason::OneRegister { .. } => write!(f, "two registers"),
+        Reason::TooLittle {
+            packet,
+            part,
+            start,
+            count,
+            ..
+        } => write_bytes(f, packet, part, start, count),
+        Reason::NotAlone { packet, wanted, .. } => {
+            write!(f, "p{} {}", packet.number(), share_wanted(wanted))
+        }
+        Reason::TooLong { .. } => write!(f, "at most 64 together"),
+        Reason::NoPort {
+            register,
+            ports,
+            ..
+        } => write!(
+            f,
+            "r{} below {ports}, the number of ports",
+            register.number()
+        ),
+        Reason::LessThanRing { packet, wanted, .. } => write_fact(f, packet, wanted),
+        Reason::Successor { to, gap } => write_wanted_at(f, to, gap),
+        Reason::NoPool { .. }
+        | Reason::NoTable { .. }
+        | Reason::NoRing { .. }
+        | Reason::NoInstruction { .. } => Ok(()),
+    }
+}
+
+/// Writes how many bytes of a packet are wanted: `count` from `start` on.
+fn write_bytes<W: fmt::Write>(
+    f: &mut fmt::Formatter<W>,
+    packet: PacketRegister,
+    part: Measure,
+    start: u64,
+    count: u32,
+) -> fmt::Result {
+    write!(f, "p{} {} ", packet.number(), measure_word(part))?;
+    if start > 0 {
+        write!(f, "{start} + ")?;
+    }
+    write!(f, "{count}")
+}
+
+/// The share that is wanted of a packet, in words.
+fn share_wanted(share: u8) -> &'static str {
+    if share == 2 {
+        "sole"
+    } else {
+        "sole or head sole"
+    }
+}
+
+/// Writes what the row at a label wants.
+fn write_wanted_at<W: fmt::Write>(f: &mut fmt::Formatter<W>, label: u16, gap: Gap) -> fmt::Result {
+    write!(f, "at {label}: ")?;
+    write_wanted_row(f, gap)
+}
+
+/// Writes what a row wants.
+fn write_wanted_row<W: fmt::Write>(f: &mut fmt::Formatter<W>, gap: Gap) -> fmt::Result {
     match gap {
         Gap::Dead => write!(f, "that control never comes there"),
         Gap::Packet { packet, wanted, .. } | Gap::Group { packet, wanted, .. } => {
-            let fact = FactText(wanted);
-            write!(f, "p{} {fact}", packet.number())
+            write_fact(f, packet, wanted)
         }
         Gap::Number {
             register,
             wanted,
             ..
-        } => write!(f, "r{} <= {wanted}", register.number()),
+        } => write_bound(f, register, wanted),
     }
 }
 
@@ -216,59 +292,74 @@ pub struct HintText {
 
 impl fmt::Display for HintText {
     fn fmt<W: fmt::Write>(&self, f: &mut fmt::Formatter<W>) -> fmt::Result {
-        match self.reason {
-            Reason::RowCount { .. } | Reason::EntryRow(_) => write!(
-                f,
-                "let dpv infer write the certificate"
-            ),
-            Reason::Successor { gap, .. } => write_of_rows(f, gap, self.inferred),
-            Reason::NoEntry => write!(f, "name a port or ring that is there"),
-            Reason::NoPool { .. } | Reason::NoTable { .. } | Reason::NoRing { .. } => {
-                write!(f, "declare one more in the pipeline, or name another")
-            }
-            Reason::NoInstruction { .. } => write!(f, "end the program with exit or jmp"),
-            Reason::NotHeld { packet } => write!(
-                f,
-                "put a packet into p{} before it, by alloc or clone",
-                packet.number()
-            ),
-            Reason::NotEmpty { packet, .. } => write!(
-                f,
-                "free p{} before it, or take another register",
-                packet.number()
-            ),
-            Reason::OneRegister { .. } => write!(f, "clone the packet, and chain the clone"),
-            Reason::TooLittle {
-                packet,
-                part,
-                start,
-                count,
-                ..
-            } => write_test(f, packet.number(), part, start, count),
-            Reason::NotAlone { known, .. } => write_of_share(f, known),
-            Reason::TooLong { .. } => write!(
-                f,
-                "let the port or ring take packets of fewer segments"
-            ),
-            Reason::NoPort {
-                register,
-                ports,
-                ..
-            } => write!(
-                f,
-                "jlt r{},{ports},L before it, and at L the tx",
-                register.number()
-            ),
-            Reason::LessThanRing { .. } => write!(
-                f,
-                "test for what is missing before it, or let the ring declare less"
-            ),
-            Reason::LeftOver { packet, .. } => write!(f, "free p{} before it", packet.number()),
+        match fixed_hint(self.reason) {
+            Some(words) => write!(f, "{words}"),
+            None => write_hint(f, self.reason, self.inferred),
         }
     }
 }
 
-/// How what is known after an instruction comes to be enough.
+/// What would help, where that names no register and no number.
+fn fixed_hint(reason: Reason) -> Option<&'static str> {
+    match reason {
+        Reason::RowCount { .. } | Reason::EntryRow(_) => {
+            Some("let dpv infer write the certificate")
+        }
+        Reason::NoEntry => Some("name a port or ring that is there"),
+        Reason::NoPool { .. } | Reason::NoTable { .. } | Reason::NoRing { .. } => {
+            Some("declare one more in the pipeline, or name another")
+        }
+        Reason::NoInstruction { .. } => Some("end the program with exit or jmp"),
+        Reason::OneRegister { .. } => Some("clone the packet, and chain the clone"),
+        Reason::TooLong { .. } => Some("let the port or ring take packets of fewer segments"),
+        Reason::LessThanRing { .. } => {
+            Some("test for what is missing before it, or let the ring declare less")
+        }
+        _ => None,
+    }
+}
+
+/// Writes what would help, where that names a register or a number.
+fn write_hint<W: fmt::Write>(
+    f: &mut fmt::Formatter<W>,
+    reason: Reason,
+    inferred: bool,
+) -> fmt::Result {
+    match reason {
+        Reason::NotHeld { packet } => write!(
+            f,
+            "put a packet into p{} before it, by alloc or clone",
+            packet.number()
+        ),
+        Reason::NotEmpty { packet, .. } => write!(
+            f,
+            "free p{} before it, or take another register",
+            packet.number()
+        ),
+        Reason::TooLittle {
+            packet,
+            part,
+            start,
+            count,
+            ..
+        } => write_test(f, packet.number(), part, start, count),
+        Reason::NotAlone { known, .. } => write_of_share(f, known),
+        Reason::NoPort {
+            register,
+            ports,
+            ..
+        } => write!(
+            f,
+            "jlt r{},{ports},L before it, and at L the tx",
+            register.number()
+        ),
+        Reason::LeftOver { packet, .. } => write!(f, "free p{} before it", packet.number()),
+        Reason::Successor { gap, .. } => write_of_rows(f, gap, inferred),
+        _ => Ok(()),
+    }
+}
+
+/// Writes how what is known after an instruction comes to be enough.
 fn write_of_rows<W: fmt::Write>(
     f: &mut fmt::Formatter<W>,
     gap: Gap,
@@ -300,7 +391,7 @@ fn freed_there(gap: Gap) -> Option<u8> {
     }
 }
 
-/// How a packet comes to be held alone.
+/// Writes how a packet comes to be held alone.
 fn write_of_share<W: fmt::Write>(f: &mut fmt::Formatter<W>, known: Fact) -> fmt::Result {
     match known {
         Fact::Held { share, .. } if share >= 8 => {
@@ -314,7 +405,7 @@ fn write_of_share<W: fmt::Write>(f: &mut fmt::Formatter<W>, known: Fact) -> fmt:
     }
 }
 
-/// The test that makes enough bytes known.
+/// Writes the test that makes enough bytes known.
 fn write_test<W: fmt::Write>(
     f: &mut fmt::Formatter<W>,
     packet: u8,
@@ -324,7 +415,7 @@ fn write_test<W: fmt::Write>(
 ) -> fmt::Result {
     let most = start.saturating_add(count as u64);
     let test = test_word(part);
-    if most <= 65_535 {
+    if most <= MOST_TESTED {
         write!(f, "{test} p{packet},{most},L before it")
     } else {
         write!(
