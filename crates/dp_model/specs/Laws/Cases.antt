@@ -7,7 +7,11 @@ pub by_cases : {G : Type 0} (b : Bool) → (b ≡ true → G) → (b ≡ false �
 by_cases true f g = f refl
 by_cases false f g = g refl
 
--- where a test is false, the second of two facts is to be shown
+-- where a test is true, the first of two facts is to be shown, and where it is false the second
+pub match_true : (b : Bool) (P Q : Type 0) → b ≡ true → P → MatchBool b P Q
+match_true true P Q e x = x
+match_true false P Q e x = cc
+
 pub match_false : (b : Bool) (P Q : Type 0) → b ≡ false → Q → MatchBool b P Q
 match_false false P Q e x = x
 match_false true P Q e x = cc
