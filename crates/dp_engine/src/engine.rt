@@ -119,7 +119,6 @@ impl Engine {
         let plan = Plan::new(env.copy(), tables, nodes);
         let mbufs = Mbufs::over(pools);
         mbufs.is_well_formed();
-        let _env = plan.env();
         let machine = Machine::over(mbufs, Queues::over(rings), Queues::over(lists));
         Ok(Engine {
             plan,

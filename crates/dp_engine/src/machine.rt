@@ -132,7 +132,6 @@ impl Machine {
         ensures pools { self.new.pools ≡ self.old.pools }
         ensures frames { self.new.frames ≡ self.old.frames }
     {
-        let _env = env;
         self.calls += 1;
         if is_listed(pattern, self.calls) {
             return false;

@@ -61,7 +61,9 @@ impl Plan {
     pub(crate) fn new(env: Env, tables: Vec<Lpm>, nodes: Vec<Checked>) -> Plan
         requires tables { length tables.items ≡ env.tables }
         requires nodes { AreNodes env nodes.items }
-        ensures { result ≡ scheme_of env tables.items nodes.items [] }
+        ensures plan { result ≡ scheme_of env tables.items nodes.items [] }
+        ensures pipeline { IsPipeline result.setting result.nodes }
+        ensures tables { TablesFit result.setting }
     {
         env.within_limits();
         tell_hops(tables.as_slice());

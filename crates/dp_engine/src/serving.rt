@@ -5,6 +5,7 @@ ghost use Rattle.dp_model.specs.Limits.{least_port_room};
 ghost use Rattle.dp_model.specs.Environments.{room_at};
 ghost use Rattle.dp_model.specs.Packets.{needed as segments_needed};
 ghost use Rattle.dp_model.specs.Runs.{Serves, Took, runs_of};
+ghost use Rattle.dp_model.specs.Safety.{IsPipeline, KeepsSafe};
 ghost use Rattle.dp_engine.specs.Outcomes.{outcome_of};
 ghost use Rattle.dp_engine.specs.Tallies.{packet_count};
 ghost use Rattle.dp_engine.specs.Serving.{ArrivesAt, ServesOne, Rests};
@@ -55,6 +56,8 @@ pub(crate) fn arrive<W: Watch>(
     ensures packets { packet_count m.new.state + m.old.state.world.calls ≤ packet_count m.old.state + m.new.state.world.calls }
     ensures rests { Rests plan.now m.new }
     ensures frames { m.new.frames ≡ m.old.frames }
+    ensures pipeline { IsPipeline plan.now.setting plan.now.nodes }
+    ensures safe { KeepsSafe plan.now.setting plan.now.nodes }
 {
     let env = plan.env();
     let spec = env.ports()[port as usize];

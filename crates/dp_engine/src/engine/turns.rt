@@ -71,8 +71,6 @@ impl Engine {
           tallies = counted_at port (outcome_of result.outcome) self.old.tallies;
         } }
     {
-        // It tells that the nodes are checked.
-        let _env = self.plan.env();
         self.turns += 1;
         let (outcome, own) = arrive(&self.plan, &mut self.machine, port, bytes, watch);
         count(&mut self.tallies, port, outcome);

@@ -134,7 +134,6 @@ impl Machine {
             × ChangesOnly ns self.old.state.world.buffers buffers
             × (self.new ≡ moved (with_call (with_packet into (allocated env.now.pools ns) (with_buffers buffers self.old.state))) self.old) }
     {
-        let _env = env;
         self.calls += 1;
         if is_listed(pattern, self.calls) {
             return false;
@@ -169,7 +168,6 @@ impl Machine {
             (ns : List Number) × AreFresh env.now.pools (live self.old.state) pool (length k) ns
             × (self.new ≡ moved (with_call (with_packet into (cloned ns k) self.old.state)) self.old) }
     {
-        let _env = env;
         self.calls += 1;
         if is_listed(pattern, self.calls) {
             return false;

@@ -8,30 +8,30 @@ use Rattle.dp_engine.specs.declared.report.Tallies.{Tallies}
 use Rattle.dp_engine.specs.Engines.{EngineState, IsEngine, most_turns, records_of}
 use Rattle.dp_engine.proofs.Turning.{turn_is, port_small, one_of_all, turned}
 use Rattle.dp_engine.proofs.engine.Engine.watched_turn.Goals as goal
-use Rattle.dp_engine.proofs.engine.Engine.watched_turn.Goals.{After-env-env}
+use Rattle.dp_engine.proofs.engine.Engine.watched_turn.Goals.{After-arrive-outcome}
 
 -- the port is one of eight
-small : (g : _) (c : After-env-env g) → c.args.port < 8
+small : (g : _) (c : After-arrive-outcome g) → c.args.port < 8
 small g c =
-    port_small c.self.inside.plan c.args.port c.env-env.ensures.pipeline
+    port_small c.self.inside.plan c.args.port c.arrive-outcome.ensures.pipeline
     (subst (λ (v : EngineState). c.args.port < length v.setting.env.ports) (sym c.self.view_is) c.requires.exists)
 
 -- there can be one more turn
-few : (g : _) (c : After-env-env g) → c.self.inside.turns < most_turns
+few : (g : _) (c : After-arrive-outcome g) → c.self.inside.turns < most_turns
 few g c = omega (arith, ap (λ (v : EngineState). v.turns) c.self.view_is, c.requires.limit)
 
 pub count-requires-clause-there : goal.count-requires-clause-there
-count-requires-clause-there g c = small g (goal.at.count-requires-clause-there g c).After-env-env
+count-requires-clause-there g c = small g (goal.at.count-requires-clause-there g c).After-arrive-outcome
 
 pub count-requires-clause-few : goal.count-requires-clause-few
 count-requires-clause-few g c =
-    let here = (goal.at.count-requires-clause-few g c).After-env-env in
+    let here = (goal.at.count-requires-clause-few g c).After-arrive-outcome in
     let e = c.self.invariant in
     omega (arith, few g here, e.records, one_of_all records_of c.self.inside.tallies c.args.port (omega (arith, small g here, e.ports)))
 
 pub invariant_of-self : goal.invariant_of-self
 invariant_of-self g c =
-    let here = (goal.at.invariant_of-self g c).After-env-env in
+    let here = (goal.at.invariant_of-self g c).After-arrive-outcome in
     let engine = c.self.inside in
     let m2 = c.serve-served.new.m in
     let a = c.arrive-outcome.ensures in
@@ -57,7 +57,7 @@ returns-clause-never_stuck g c =
     subst (λ (v : EngineState). (b : Beginning) → IsOfTurn v.setting v.nodes c.args.port c.args.bytes.now v.world b
     → NeverStuck v.setting b.program b.packet b.number b.world) c.self.view_is
     (λ b of. safe_never_stuck c.self.inside.plan.setting b
-    (c.env-env.ensures.safe.turn_runs c.args.port c.args.bytes.now c.self.inside.machine.state.world b c.self.invariant.rests.rest of))
+    (c.arrive-outcome.ensures.safe.turn_runs c.args.port c.args.bytes.now c.self.inside.machine.state.world b c.self.invariant.rests.rest of))
 
 pub returns-clause-lists : goal.returns-clause-lists
 returns-clause-lists g c = c.serve-served.ensures.rests.rest.ready.world.outboxes
