@@ -1,4 +1,4 @@
--- Laws of plans: what is known of an environment, and that checked programs are a pipeline.
+-- Internal: laws of plans, what is known of an environment, and that checked programs are a pipeline.
 use Rattle.std.proofs.Common.{◌≡◌, ℕ, ◌+◌, ◌≤◌, Bool, true, false, not, cond, ◌&&◌, List, [], ◌∷◌, length, map, Option, Some, None, refl, sym, ◌∙◌, zero, suc}
 use Rattle.std.proofs.Common.{ap, arith, ◌<◌, take, drop, subst}
 use Rattle.std.specs.Prelude.{nat_le, position, sum_by, if◌then◌else◌, slice_get}

@@ -1,4 +1,4 @@
--- A space that is laid out for an environment.
+-- Internal: a space that is laid out for an environment.
 use Rattle.std.specs.Prelude.{◌≡◌, ℕ, ◌+◌, ◌*◌}
 use Rattle.dp_region.specs.Ownership.{Home}
 use Rattle.dp_model.specs.Environments.{Environment}

@@ -1,4 +1,4 @@
--- The names of an engine's zones, and the order in which these are taken.
+-- Internal: the names of an engine's zones, and the order in which these are taken.
 use Rattle.std.specs.Prelude.{◌≡◌, ℕ, ◌+◌, ◌*◌, ◌<◌, ◌==◌, codes, true, if◌then◌else◌, List, [], ◌∷◌, ◌++◌, length, slice_index}
 use Rattle.std.specs.List.{AllByRecursion}
 use Rattle.dp_zone.specs.Names.{is_name}

@@ -1,4 +1,4 @@
--- The rings of an engine, by their numbers.
+-- Internal: the rings of an engine, by their numbers.
 use Rattle.std.specs.Prelude.{◌≡◌, ℕ, ◌==◌, Bool, not, List, [], ◌∷◌, length, Option, Some, None, slice_index_or}
 use Rattle.std.specs.List.{AllByRecursion}
 use Rattle.dp_ring.specs.Rings.{RingView}

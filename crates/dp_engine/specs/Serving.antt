@@ -1,4 +1,4 @@
--- What a turn does to the world.
+-- Internal: what a turn does to the world.
 use Rattle.std.specs.Prelude.{◌≡◌, ℕ, Bool, List, Option, Some, None, slice_get}
 use Rattle.std.specs.List.{AllByRecursion}
 use Rattle.dp_model.specs.declared.env.PortSpec.{PortSpec}

@@ -1,4 +1,4 @@
--- The space of an engine: a heap in a region, and what stands in its zones.
+-- Internal, but for `SpaceView`: the space of an engine, a heap in a region, and what stands in its zones.
 use Rattle.std.specs.Prelude.{◌≡◌, ℕ, ◌+◌, ◌≤◌, false, if◌then◌else◌, List, [], ◌∷◌, length, Option, None, Some, IfSome, is_some, replicate}
 use Rattle.std.specs.List.{AllByRecursion}
 use Rattle.dp_region.specs.Ownership.{Home}

@@ -1,4 +1,4 @@
--- A heap whose zones are taken from the top down: one free element at the bottom, and busy ones above it.
+-- Internal: a heap whose zones are taken from the top down, one free element at the bottom, and busy ones above it.
 use Rattle.std.specs.Prelude.{◌≡◌, ℕ, ◌+◌, ◌-◌, ◌%◌, ◌<◌, ◌≤◌, ◌⊎◌, false, List, [], ◌∷◌, length, map}
 use Rattle.dp_region.specs.Ownership.{Home}
 use Rattle.dp_heap.specs.declared.elements.Element.{Element}

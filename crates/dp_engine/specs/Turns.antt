@@ -1,4 +1,4 @@
--- What turns begin with.
+-- Internal: what turns begin with.
 use Rattle.std.specs.Prelude.{◌≡◌, ℕ, ◌+◌, List, length}
 use Rattle.dp_model.specs.Environments.{room_at}
 use Rattle.dp_model.specs.Buffers.{Number, Buffers}
