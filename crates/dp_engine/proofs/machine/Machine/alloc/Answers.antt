@@ -1,35 +1,37 @@
+-- A new packet: what came of the call is settled once, and each goal is one step from there.
 use Rattle.std.proofs.Common.{[], sym}
 use Rattle.dp_model.specs.Buffers.{ChangesOnly}
 use Rattle.dp_model.specs.Packets.{allocated}
 use Rattle.dp_engine.specs.Steps.{setting_of}
-use Rattle.dp_engine.specs.Handles.{ran}
-use Rattle.dp_engine.proofs.Registers.{allocated_taken, too_few}
-use Rattle.dp_engine.specs.Handles.{lists_of}
+use Rattle.dp_engine.specs.Handles.{ran, frames_of, lists_of}
+use Rattle.dp_engine.proofs.Registers.{Taken, allocated_taken, too_few}
 use Rattle.dp_engine.proofs.machine.Machine.alloc.Goals as goal
+use Rattle.dp_engine.proofs.machine.Machine.alloc.Goals.{In-Some}
+
+-- the packet that is given
+given : (c : In-Some) → Taken (setting_of c.args.env.now [] c.args.pattern.now) c.alloc.new.self.store
+    (frames_of c.self.inside.mbufs.zones c.self.inside.rings c.self.inside.outboxes) c.self.inside.registers c.self.inside.numbers
+    (lists_of c.self.inside.rings c.self.inside.outboxes) c.self.inside.calls (ran c.self.inside.steps.count c.self.inside.cuts c.self.inside.jumps)
+    c.args.self.now c.args.into c.args.pool 1 c.in-Some.packet (allocated c.args.env.now.pools) ChangesOnly
+given c =
+    allocated_taken (setting_of c.args.env.now [] c.args.pattern.now) _ _ _ c.self.inside.registers c.self.inside.numbers
+    (lists_of c.self.inside.rings c.self.inside.outboxes) c.self.inside.calls (ran c.self.inside.steps.count c.self.inside.cuts c.self.inside.jumps)
+    c.args.self.now c.args.into c.args.pool c.in-Some.packet c.self.view_is c.self.invariant c.requires.empty c.requires.pools c.in-Some.ensures.packets
 
 pub invariant_of-self-in-Some : goal.invariant_of-self-in-Some
 invariant_of-self-in-Some c =
-    let given = allocated_taken (setting_of c.args.env.now [] c.args.pattern.now) _ _ _ c.self.inside.registers c.self.inside.numbers
-    (lists_of c.self.inside.rings c.self.inside.outboxes) c.self.inside.calls (ran c.self.inside.steps.count c.self.inside.cuts c.self.inside.jumps)
-    c.args.self.now c.args.into c.args.pool c.in-Some.packet c.self.view_is c.self.invariant c.requires.empty c.requires.pools
-    c.in-Some.ensures.packets in
-    rw (c.of.ensures, c.number.ensures, c.number-in-Some.ensures.same) given.stand
+    let t = given (goal.at.invariant_of-self-in-Some c).In-Some in
+    rw (c.of.ensures, c.number.ensures, c.number-in-Some.ensures.same) t.stand
 
 pub returns-in-Some-clause-denied : goal.returns-in-Some-clause-denied
 returns-in-Some-clause-denied c =
-    let given = allocated_taken (setting_of c.args.env.now [] c.args.pattern.now) _ _ _ c.self.inside.registers c.self.inside.numbers
-    (lists_of c.self.inside.rings c.self.inside.outboxes) c.self.inside.calls (ran c.self.inside.steps.count c.self.inside.cuts c.self.inside.jumps)
-    c.args.self.now c.args.into c.args.pool c.in-Some.packet c.self.view_is c.self.invariant c.requires.empty c.requires.pools
-    c.in-Some.ensures.packets in
-    sym (given.allowed (sym c.if-is_listed.ensures))
+    let t = given (goal.at.returns-in-Some-clause-denied c).In-Some in
+    sym (t.allowed (sym c.if-is_listed.ensures))
 
 pub returns-in-Some-clause-given : goal.returns-in-Some-clause-given
 returns-in-Some-clause-given c _ =
-    let given = allocated_taken (setting_of c.args.env.now [] c.args.pattern.now) _ _ _ c.self.inside.registers c.self.inside.numbers
-    (lists_of c.self.inside.rings c.self.inside.outboxes) c.self.inside.calls (ran c.self.inside.steps.count c.self.inside.cuts c.self.inside.jumps)
-    c.args.self.now c.args.into c.args.pool c.in-Some.packet c.self.view_is c.self.invariant c.requires.empty c.requires.pools
-    c.in-Some.ensures.packets in
-    rw (c.of.ensures, c.number.ensures, c.number-in-Some.ensures.same, c.alloc.ensures.zones) (given.ns, given.buffers, given.fresh, given.changes, given.state)
+    let t = given (goal.at.returns-in-Some-clause-given c).In-Some in
+    rw (c.of.ensures, c.number.ensures, c.number-in-Some.ensures.same, c.alloc.ensures.zones) (t.ns, t.buffers, t.fresh, t.changes, t.state)
 
 pub returns-in-None-clause-denied : goal.returns-in-None-clause-denied
 returns-in-None-clause-denied c =

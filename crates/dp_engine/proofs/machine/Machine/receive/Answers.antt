@@ -1,30 +1,32 @@
+-- Bytes received: what came of the call is settled once, and each goal is one step from there.
 use Rattle.std.proofs.Common.{[], sym}
 use Rattle.dp_engine.specs.Steps.{setting_of}
-use Rattle.dp_engine.specs.Handles.{ran}
-use Rattle.dp_engine.proofs.Receive.{given, refused}
-use Rattle.dp_engine.specs.Handles.{lists_of}
+use Rattle.dp_engine.specs.Handles.{ran, frames_of, lists_of}
+use Rattle.dp_engine.proofs.Receive.{Given, given, refused}
 use Rattle.dp_engine.proofs.machine.Machine.receive.Goals as goal
+use Rattle.dp_engine.proofs.machine.Machine.receive.Goals.{In-Some}
+
+-- the packet that is received
+taken : (c : In-Some) → Given (setting_of c.args.env.now [] c.args.pattern.now) c.receive.new.self.store
+    (frames_of c.self.inside.mbufs.zones c.self.inside.rings c.self.inside.outboxes) c.self.inside.registers
+    (lists_of c.self.inside.rings c.self.inside.outboxes) c.self.inside.calls (ran c.self.inside.steps.count c.self.inside.cuts c.self.inside.jumps)
+    c.args.self.now c.args.pool c.args.port c.in-Some.packet c.args.bytes.now
+taken c =
+    given (setting_of c.args.env.now [] c.args.pattern.now) _ _ _ c.self.inside.registers c.self.inside.numbers
+    (lists_of c.self.inside.rings c.self.inside.outboxes) c.self.inside.calls (ran c.self.inside.steps.count c.self.inside.cuts c.self.inside.jumps)
+    c.args.self.now c.args.pool c.args.port c.in-Some.packet c.args.bytes.now c.self.view_is c.self.invariant c.requires.idle c.requires.pools
+    c.in-Some.ensures.packets
 
 pub invariant_of-self-in-Some : goal.invariant_of-self-in-Some
 invariant_of-self-in-Some c =
-    rw (c.one_packet-self-inside.ensures, c.number.ensures) ((given (setting_of c.args.env.now [] c.args.pattern.now) _ _ _ c.self.inside.registers
-    c.self.inside.numbers (lists_of c.self.inside.rings c.self.inside.outboxes) c.self.inside.calls
-    (ran c.self.inside.steps.count c.self.inside.cuts c.self.inside.jumps) c.args.self.now c.args.pool c.args.port c.in-Some.packet c.args.bytes.now
-    c.self.view_is c.self.invariant c.requires.idle c.requires.pools c.in-Some.ensures.packets).stand)
+    rw (c.one_packet-self-inside.ensures, c.number.ensures) (taken (goal.at.invariant_of-self-in-Some c).In-Some).stand
 
 pub returns-in-Some-clause-denied : goal.returns-in-Some-clause-denied
-returns-in-Some-clause-denied c =
-    sym ((given (setting_of c.args.env.now [] c.args.pattern.now) _ _ _ c.self.inside.registers c.self.inside.numbers
-    (lists_of c.self.inside.rings c.self.inside.outboxes) c.self.inside.calls (ran c.self.inside.steps.count c.self.inside.cuts c.self.inside.jumps)
-    c.args.self.now c.args.pool c.args.port c.in-Some.packet c.args.bytes.now c.self.view_is c.self.invariant c.requires.idle c.requires.pools
-    c.in-Some.ensures.packets).allowed (sym c.if-is_listed.ensures))
+returns-in-Some-clause-denied c = sym ((taken (goal.at.returns-in-Some-clause-denied c).In-Some).allowed (sym c.if-is_listed.ensures))
 
 pub returns-in-Some-clause-received : goal.returns-in-Some-clause-received
 returns-in-Some-clause-received c _ =
-    rw (c.one_packet-self-inside.ensures, c.number.ensures) ((given (setting_of c.args.env.now [] c.args.pattern.now) _ _ _ c.self.inside.registers
-    c.self.inside.numbers (lists_of c.self.inside.rings c.self.inside.outboxes) c.self.inside.calls
-    (ran c.self.inside.steps.count c.self.inside.cuts c.self.inside.jumps) c.args.self.now c.args.pool c.args.port c.in-Some.packet c.args.bytes.now
-    c.self.view_is c.self.invariant c.requires.idle c.requires.pools c.in-Some.ensures.packets).state)
+    rw (c.one_packet-self-inside.ensures, c.number.ensures) (taken (goal.at.returns-in-Some-clause-received c).In-Some).state
 
 pub returns-in-None-clause-denied : goal.returns-in-None-clause-denied
 returns-in-None-clause-denied c =

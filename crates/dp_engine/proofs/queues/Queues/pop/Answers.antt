@@ -1,3 +1,4 @@
+-- The first entry of a ring taken: which it is, and which ring waited first, is settled once.
 use Rattle.std.proofs.Common.{◌≡◌, ◌∙◌, refl, ap, sym, subst, arith, ◌≤◌}
 use Rattle.std.specs.Prelude.{slice_get}
 use Rattle.dp_ring.specs.Rings.{without_first}
@@ -5,6 +6,16 @@ use Rattle.dp_engine.specs.Queues.{ring_at}
 use Rattle.dp_engine.proofs.Firsts.{first_place, not_before, stays}
 use Rattle.dp_engine.proofs.Slots.{listed as ring_listed, has_ring, ring_is, changed, renewed, kept}
 use Rattle.dp_engine.proofs.queues.Queues.pop.Goals as goal
+use Rattle.dp_engine.proofs.queues.Queues.pop.Goals.{After-pop_in-entry}
+
+-- the entry that is taken
+entry : (c : After-pop_in-entry) → c.pop_in-entry.result ≡ slice_get (ring_at c.args.self.now c.args.k).entries 0
+entry c =
+    c.pop_in-entry.ensures.first ∙ ap (λ r. slice_get r.entries 0) (ring_is _ _ c.self.view_is c.self.invariant.0 c.args.k _ c.requires)
+
+-- the number of the first ring that waits, before that
+first : (c : After-pop_in-entry) → c.self.inside.first ≡ first_place c.args.self.now
+first c = c.self.invariant.2 ∙ ap first_place c.self.view_is
 
 pub listed : goal.listed
 listed c = (ring_listed _ _ c.self.view_is c.self.invariant.0 c.args.k c.requires).0
@@ -23,11 +34,11 @@ first_from-self-inside-requires-clause-count c =
 
 pub first_from-self-inside-requires-clause-from : goal.first_from-self-inside-requires-clause-from
 first_from-self-inside-requires-clause-from c =
-    let first : c.self.inside.first ≡ first_place c.args.self.now = c.self.invariant.2 ∙ ap first_place c.self.view_is in
+    let before = first (goal.at.first_from-self-inside-requires-clause-from c).After-pop_in-entry in
     let now = changed _ _ c.self.view_is c.self.invariant.0 c.args.k _ c.pop_in-entry.new.slot
     (λ r. without_first r 1) c.requires c.pop_in-entry.ensures.rest in
     subst (λ rings. c.args.k ≤ first_place rings) (sym now.1)
-    (not_before c.args.self.now c.args.k (without_first (ring_at c.args.self.now c.args.k) 1) (omega (arith, first, c.if-k-self.true)) c.requires)
+    (not_before c.args.self.now c.args.k (without_first (ring_at c.args.self.now c.args.k) 1) (omega (arith, before, c.if-k-self.true)) c.requires)
 
 pub invariant_of-self : goal.invariant_of-self
 invariant_of-self c =
@@ -37,15 +48,13 @@ invariant_of-self c =
 
 pub invariant_of-self-else-k-self : goal.invariant_of-self-else-k-self
 invariant_of-self-else-k-self c =
-    let first : c.self.inside.first ≡ first_place c.args.self.now = c.self.invariant.2 ∙ ap first_place c.self.view_is in
+    let before = first (goal.at.invariant_of-self-else-k-self c).After-pop_in-entry in
     renewed _ _ c.self.view_is c.self.invariant.0 c.args.k _ c.pop_in-entry.new.slot (λ r. without_first r 1) c.self.inside.count c.self.inside.first c.requires
     c.pop_in-entry.ensures.rest c.self.invariant.1
-    (first ∙ sym (stays c.args.self.now c.args.k (without_first (ring_at c.args.self.now c.args.k) 1) (omega (arith, first, c.if-k-self.false)) c.requires))
+    (before ∙ sym (stays c.args.self.now c.args.k (without_first (ring_at c.args.self.now c.args.k) 1) (omega (arith, before, c.if-k-self.false)) c.requires))
 
 pub returns-then-k-self-clause-first : goal.returns-then-k-self-clause-first
-returns-then-k-self-clause-first c =
-    c.pop_in-entry.ensures.first
-    ∙ ap (λ r. slice_get r.entries 0) (ring_is _ _ c.self.view_is c.self.invariant.0 c.args.k _ c.requires)
+returns-then-k-self-clause-first c = entry (goal.at.returns-then-k-self-clause-first c).After-pop_in-entry
 
 pub returns-then-k-self-clause-rest : goal.returns-then-k-self-clause-rest
 returns-then-k-self-clause-rest c =
@@ -53,15 +62,11 @@ returns-then-k-self-clause-rest c =
 
 pub returns-then-k-self-clause-kept : goal.returns-then-k-self-clause-kept
 returns-then-k-self-clause-kept c =
-    kept c.args.self.now c.args.k c.pop_in-entry.result _
-    (c.pop_in-entry.ensures.first
-    ∙ ap (λ r. slice_get r.entries 0) (ring_is _ _ c.self.view_is c.self.invariant.0 c.args.k _ c.requires))
+    kept c.args.self.now c.args.k c.pop_in-entry.result _ (entry (goal.at.returns-then-k-self-clause-kept c).After-pop_in-entry)
     (changed _ _ c.self.view_is c.self.invariant.0 c.args.k _ c.pop_in-entry.new.slot (λ r. without_first r 1) c.requires c.pop_in-entry.ensures.rest).1
 
 pub returns-else-k-self-clause-first : goal.returns-else-k-self-clause-first
-returns-else-k-self-clause-first c =
-    c.pop_in-entry.ensures.first
-    ∙ ap (λ r. slice_get r.entries 0) (ring_is _ _ c.self.view_is c.self.invariant.0 c.args.k _ c.requires)
+returns-else-k-self-clause-first c = entry (goal.at.returns-else-k-self-clause-first c).After-pop_in-entry
 
 pub returns-else-k-self-clause-rest : goal.returns-else-k-self-clause-rest
 returns-else-k-self-clause-rest c =
@@ -69,7 +74,5 @@ returns-else-k-self-clause-rest c =
 
 pub returns-else-k-self-clause-kept : goal.returns-else-k-self-clause-kept
 returns-else-k-self-clause-kept c =
-    kept c.args.self.now c.args.k c.pop_in-entry.result _
-    (c.pop_in-entry.ensures.first
-    ∙ ap (λ r. slice_get r.entries 0) (ring_is _ _ c.self.view_is c.self.invariant.0 c.args.k _ c.requires))
+    kept c.args.self.now c.args.k c.pop_in-entry.result _ (entry (goal.at.returns-else-k-self-clause-kept c).After-pop_in-entry)
     (changed _ _ c.self.view_is c.self.invariant.0 c.args.k _ c.pop_in-entry.new.slot (λ r. without_first r 1) c.requires c.pop_in-entry.ensures.rest).1

@@ -1,13 +1,25 @@
-use Rattle.std.proofs.Common.{◌+◌, ◌*◌, ap, sym, subst, ◌∙◌, arith, List, length}
+-- The last pool of a stack: what is free for it is settled once.
+use Rattle.std.proofs.Common.{◌≡◌, ◌+◌, ◌-◌, ◌*◌, ◌%◌, ap, sym, subst, ◌∙◌, arith, List, length}
+use Rattle.dp_heap.specs.Elements.{freed}
 use Rattle.dp_heap.specs.Laid.{HeapView}
 use Rattle.dp_zone.specs.Zones.{Reserved}
 use Rattle.dp_engine.specs.Names.{AllBefore, first_pool}
 use Rattle.dp_engine.specs.Needs.{objects_len}
-use Rattle.dp_engine.specs.Stacks.{StackView, names_of, size_of}
+use Rattle.dp_engine.specs.Stacks.{StackView, Has, bottom, block_at, names_of, size_of}
 use Rattle.dp_engine.proofs.NameLemmas.{without_before, without_few}
 use Rattle.dp_engine.proofs.StackLemmas.{merged_size}
 use Rattle.dp_engine.proofs.Stacking.{released, last_objects, last_queue}
 use Rattle.dp_engine.proofs.stack.Stack.finish.Goals as goal
+use Rattle.dp_engine.proofs.stack.Stack.finish.Goals.{After-give_back}
+
+-- the spare zone is free again, and so is all below
+back : (c : After-give_back) → Has (bottom c.args.self.left) c.give_back.new.heap.elements
+    × Has (freed (block_at (c.self.inside.spare.offset - 64) (length c.self.inside.spare.bytes))) c.give_back.new.heap.elements
+    × (c.args.self.left % 64 ≡ 0)
+back c =
+    let view = ap (λ (v : StackView). length v.names) c.self.view_is in
+    released c.self.inside.heap c.self.inside.zones c.self.inside.spare c.args.self.left c.give_back.new.heap.elements c.self.invariant
+    (ap (λ (v : StackView). v.left) c.self.view_is) (omega (arith, view, c.requires.some)) (ap (λ (h : HeapView). h.elements) c.give_back.ensures.heap)
 
 pub make-pool-requires-clause-names : goal.make-pool-requires-clause-names
 make-pool-requires-clause-names c =
@@ -25,21 +37,15 @@ make-pool-requires-clause-few c =
 
 pub make-pool-requires-clause-objects : goal.make-pool-requires-clause-objects
 make-pool-requires-clause-objects c = λ none.
-    let view = ap (λ (v : StackView). length v.names) c.self.view_is in let some = c.requires.some in
-    let back = released c.self.inside.heap c.self.inside.zones c.self.inside.spare c.args.self.left c.give_back.new.heap.elements c.self.invariant
-    (ap (λ (v : StackView). v.left) c.self.view_is) (omega (arith, view, some))
-    (ap (λ (h : HeapView). h.elements) c.give_back.ensures.heap) in
-    last_objects c.args.self.left (objects_len c.args.spec) c.give_back.new.heap.elements back.0 back.2 c.requires.room none
+    let b = back (goal.at.make-pool-requires-clause-objects c).After-give_back in
+    last_objects c.args.self.left (objects_len c.args.spec) c.give_back.new.heap.elements b.0 b.2 c.requires.room none
 
 pub make-pool-requires-clause-queue : goal.make-pool-requires-clause-queue
 make-pool-requires-clause-queue c = λ place mid taken none.
-    let view = ap (λ (v : StackView). length v.names) c.self.view_is in let some = c.requires.some in
-    let back = released c.self.inside.heap c.self.inside.zones c.self.inside.spare c.args.self.left c.give_back.new.heap.elements c.self.invariant
-    (ap (λ (v : StackView). v.left) c.self.view_is) (omega (arith, view, some))
-    (ap (λ (h : HeapView). h.elements) c.give_back.ensures.heap) in
+    let b = back (goal.at.make-pool-requires-clause-queue c).After-give_back in
     last_queue c.self.inside.spare.offset (length c.self.inside.spare.bytes) place c.args.spec c.give_back.new.heap.elements mid c.requires.spec
     c.self.invariant.high c.self.invariant.even
-    (ap (λ (v : StackView). v.spare) c.self.view_is ∙ c.requires.spare) back.1 taken none
+    (ap (λ (v : StackView). v.spare) c.self.view_is ∙ c.requires.spare) b.1 taken none
 
 pub returns-clause-same : goal.returns-clause-same
 returns-clause-same c = (

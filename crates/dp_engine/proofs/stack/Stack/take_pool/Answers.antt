@@ -1,29 +1,32 @@
-use Rattle.std.proofs.Common.{ap, ◌∙◌, ◌∷◌, ◌++◌, [], length}
+-- The next pool of a stack: what the stack is then is settled once.
+use Rattle.std.proofs.Common.{◌≡◌, ◌+◌, ap, ◌∙◌, ◌∷◌, ◌++◌, [], length}
 use Rattle.dp_pool.specs.Making.{object_name, queue_name}
 use Rattle.dp_engine.specs.Names.{pool_name}
-use Rattle.dp_engine.specs.Stacks.{StackView, names_of}
+use Rattle.dp_engine.specs.Needs.{pool_bytes}
+use Rattle.dp_engine.specs.Stacks.{StackView, IsStack, left_in, names_of}
 use Rattle.dp_engine.proofs.NameLemmas.{pool_taken, two_more}
 use Rattle.dp_engine.proofs.Stacking.{pool_more, queue_fits}
 use Rattle.dp_engine.proofs.stack.Stack.take_pool.Goals as goal
+use Rattle.dp_engine.proofs.stack.Stack.take_pool.Goals.{After-make}
 
 pub make-requires-clause-queue : goal.make-requires-clause-queue
 make-requires-clause-queue c = λ place mid taken none.
     queue_fits c.self.inside.heap c.self.inside.zones c.self.inside.spare c.args.spec c.args.self.now.left place mid c.self.invariant
     (ap (λ (v : StackView). v.left) c.self.view_is) c.requires.room taken none
 
+-- what the stack is then
+stacked : (c : After-make) → IsStack c.make.new.heap c.make.new.zones c.self.inside.spare
+    × (left_in c.make.new.heap.elements + pool_bytes c.args.spec ≡ c.args.self.now.left)
+stacked c =
+    pool_more c.self.inside.heap c.make.new.heap c.self.inside.zones c.make.new.zones c.self.inside.spare c.args.spec c.args.self.now.left c.self.invariant
+    (ap (λ (v : StackView). v.left) c.self.view_is) c.requires.room c.make.ensures.taken c.make.ensures.home c.make.ensures.counted
+    (ap length c.make.ensures.names ∙ two_more c.args.k (names_of c.self.inside.zones))
+
 pub invariant_of-self : goal.invariant_of-self
-invariant_of-self c =
-    (pool_more c.self.inside.heap c.make.new.heap c.self.inside.zones c.make.new.zones c.self.inside.spare c.args.spec c.args.self.now.left c.self.invariant
-    (ap (λ (v : StackView). v.left) c.self.view_is)
-    c.requires.room c.make.ensures.taken c.make.ensures.home c.make.ensures.counted (ap length c.make.ensures.names
-    ∙ two_more c.args.k (names_of c.self.inside.zones))).0
+invariant_of-self c = (stacked (goal.at.invariant_of-self c).After-make).0
 
 pub returns-clause-left : goal.returns-clause-left
-returns-clause-left c =
-    (pool_more c.self.inside.heap c.make.new.heap c.self.inside.zones c.make.new.zones c.self.inside.spare c.args.spec c.args.self.now.left c.self.invariant
-    (ap (λ (v : StackView). v.left) c.self.view_is)
-    c.requires.room c.make.ensures.taken c.make.ensures.home c.make.ensures.counted (ap length c.make.ensures.names
-    ∙ two_more c.args.k (names_of c.self.inside.zones))).1
+returns-clause-left c = (stacked (goal.at.returns-clause-left c).After-make).1
 
 pub returns-clause-names : goal.returns-clause-names
 returns-clause-names c =
