@@ -1,17 +1,17 @@
 -- The lists, after elements were put in the place of others that were in none.
 use Rattle.std.proofs.Common.{◌≡◌, ℕ, ◌+◌, ◌<◌, ◌≤◌, false, eqb, ltb, List, [], ◌∷◌, ◌++◌, length, refl, sym, ap, subst, ◌∙◌, arith, inl, inr}
-use Rattle.std.specs.Prelude.{slice_index, not}
+use Rattle.std.specs.Prelude.{◌≢◌, ◌-◌, slice_index, not}
 use Rattle.std.proofs.lemmas.Bool.{ltb-true, ltb-false, true≢false, and_parts, not-true}
 use Rattle.dp_heap.proofs.ByTest.{by_test}
-use Rattle.dp_region.specs.Region.{RegionView}
+use Rattle.dp_region.specs.Region.{RegionView, number_at}
 use Rattle.dp_heap.specs.declared.elements.Element.{Element}
-use Rattle.dp_heap.specs.Elements.{is_free, end_of, data_of, freed, both}
-use Rattle.dp_heap.specs.Edits.{lower, upper, Emptied}
+use Rattle.dp_heap.specs.Elements.{is_free, end_of, data_of, freed, both, joined}
+use Rattle.dp_heap.specs.Edits.{onto, lower, upper, Emptied}
 use Rattle.dp_heap.specs.Laid.{element_at, elements_in, Laid, IsLaid}
 use Rattle.dp_heap.specs.Lists.{none, class_of, belong, Listed, Outside}
 use Rattle.dp_heap.proofs.Laid.{first_offset, laid_bound, laid_split}
 use Rattle.dp_heap.proofs.Cut.{front, here, e_bound}
-use Rattle.dp_heap.proofs.Found.{below_last, below_bound}
+use Rattle.dp_heap.proofs.Found.{below_last, below_bound, below_split, below_read}
 use Rattle.dp_heap.proofs.Belong.{member, belong-append, belongs_off}
 use Rattle.dp_heap.proofs.Links.{linked_stay}
 
@@ -98,15 +98,33 @@ after_join r laid before x y after split ys new z is same heads off was w =
 pub elsewhere : (e x : Element) → (e.offset ≡ x.offset → ⊥) → belong (class_of x.size) x.offset (e ∷ []) ≡ 0
 elsewhere e x differ = let no = belongs_off (class_of x.size) x.offset e (λ all. differ all.2) in omega arith
 
+-- y stands right below e, and in no list that e alone is off
+pub record Neighbour (r : RegionView) (before : List Element) (e : Element) (after : List Element) (y : Element) : Type 0 where
+  pub front : List Element
+  pub split : elements_in r.bytes ≡ front ++ y ∷ e ∷ after
+  pub joins : (rest : List Element) → onto before rest ≡ front ++ joined y rest
+  pub elsewhere : belong (class_of y.size) y.offset (e ∷ []) ≡ 0
+
 module _ (r : RegionView) (laid : IsLaid r) (before : List Element) (e : Element) (after : List Element) (split : elements_in r.bytes ≡ before
     ++ e ∷ after) (y : Element) where
   pub above_elsewhere : y ≡ element_at r.bytes (end_of e) → belong (class_of y.size) y.offset (e ∷ []) ≡ 0
   above_elsewhere is = let some = (e_bound r laid before e after split).1 in
       let at = ap (λ (x : Element). x.offset) is in elsewhere e y (λ same. absurd (omega arith))
 
-  pub below_elsewhere : (some : 0 < e.offset) → y ≡ (below_last r laid before e after split some).last → belong (class_of y.size) y.offset (e ∷ []) ≡ 0
-  below_elsewhere some is = let b = below_bound r laid before e after split some in let b0 = b.0 in let b1 = b.1 in
-      let at = ap (λ (x : Element). x.offset) is in elsewhere e y (λ same. absurd (omega arith))
+  pub neighbour : (size : ℕ) → (e.offset ≢ 0) → size ≡ number_at r.bytes (e.offset + 12) 4 → y ≡ element_at r.bytes (e.offset - size) →
+      Neighbour r before e after y
+  neighbour size differ kept read =
+      let some : 0 < e.offset = omega (arith, differ) in
+      let b = below_last r laid before e after split some in
+      let is = read ∙ below_read r laid before e after split some size kept in
+      let bound = below_bound r laid before e after split some in let ends = bound.0 in let large = bound.1 in
+      let at = ap (λ (x : Element). x.offset) is in
+      record {
+        front = b.before;
+        split = below_split r laid before e after split some ∙ ap (λ (x : Element). b.before ++ x ∷ e ∷ after) (sym is);
+        joins = λ rest. b.joins rest ∙ ap (λ (x : Element). b.before ++ joined x rest) (sym is);
+        elsewhere = elsewhere e y (λ same. absurd (omega arith));
+      }
 
 -- an element loses its block
 pub emptied_listed : (r : RegionView) → IsLaid r → (d : ℕ) (x : Element) (ys : List ℕ) → Emptied d x (elements_in r.bytes) (elements_in ys) →
