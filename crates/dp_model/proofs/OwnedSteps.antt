@@ -1,19 +1,18 @@
 -- Each step leaves each mbuf with one owner.
-use Rattle.std.proofs.Common.{◌≡◌, ◌≢◌, ℕ, ◌+◌, Bool, true, false, cond, List, [], ◌∷◌, ◌++◌, length, Some, None, refl, sym, ap, subst, arith}
-use Rattle.std.specs.Prelude.{slice_get, slice_index, nat_lt}
+use Rattle.std.proofs.Common.{◌≡◌, ◌≢◌, ℕ, ◌+◌, Bool, List, [], ◌∷◌, ◌++◌, length, Some, None, refl, sym, ap, subst, arith}
+use Rattle.std.specs.Prelude.{slice_get}
 use Rattle.dp_model.specs.declared.instr.Instr.{Instr}
-use Rattle.dp_model.specs.declared.instr.Instr.TheVariants.{Alloc, Free, Clone, Prepend, Adj, Append, Trim, Chain, IfHead, IfTail, IfLen, IfLast, Load, Store}
-use Rattle.dp_model.specs.declared.instr.Instr.TheVariants.{LoadX, StoreX, Set, Mov, Add, Sub, And, Or, Xor, Shl, Shr, Jmp, Jeq, Jlt, Lookup, Tx, Enq, Exit}
 use Rattle.dp_model.specs.Buffers.{Number, same_number}
-use Rattle.dp_model.specs.Packets.{Segment, Packet, headroom, tailroom, first_len, last_len, AreFresh, AreOwned, allocated, cloned, at_front, at_end}
+use Rattle.dp_model.specs.Packets.{Segment, Packet, AreFresh, AreOwned, allocated, cloned, at_front, at_end}
 use Rattle.dp_model.specs.Packets.{more_before, less_before, more_behind, less_behind}
-use Rattle.dp_model.specs.Machine.{Setting, State, live, segments_held, Step, with_step, with_cut, without_packets, Move, Acts, Holds, IsEmpty, goes_on}
-use Rattle.dp_model.specs.Machine.{moves_to, is_denied, with_packet, without_packet, with_ring, with_outbox}
+use Rattle.dp_model.specs.Machine.{Setting, State, live, segments_held, Step, with_step, with_cut, without_packets, Move, Acts, Holds, IsEmpty}
+use Rattle.dp_model.specs.Machine.{with_packet, without_packet, with_ring, with_outbox}
 use Rattle.dp_model.specs.Laws.References.{refs_held, live_parts}
 use Rattle.dp_model.proofs.Counts.{tally_live, tally_live_set, tally_to_ring, tally_to_outbox, tally_chain, tally_front, tally_end}
 use Rattle.dp_model.specs.Laws.Counts.{tally, has_mbuf, is_indirect_at, AreFewer, fewer_owned, fewer_by}
 use Rattle.dp_model.proofs.Owned.{AreMore, more_owned, allocated_direct, direct_comes, clone_comes}
-use Rattle.dp_model.specs.Laws.Cases.{matched}
+use Rattle.dp_model.specs.Laws.Effects.{Effect, Kept, Calculated, Refused, Allocated, Cloned, Freed, Prepended, Appended, Adjusted, Trimmed, Chained, Stored, Sent}
+use Rattle.dp_model.specs.Laws.Effects.{Queued, effect_of}
 use Rattle.dp_model.specs.Laws.Steps.{budget_keeps}
 use Rattle.dp_model.proofs.SoundClone.{refs_cloned}
 
@@ -87,12 +86,8 @@ chain_fewer s p q k t apart hp hq =
     (λ test. omega (arith, tally_live test s, tally_live test (without_packet q (with_packet p (k ++ t) s)), tally_chain test s.packets p q k t apart hp hq))
 
 -- ---- a step
-by : (c : Setting) (m m' : Move) → m ≡ m' → HasOwners c m'.state → HasOwners c m.state
-by c m m' is h = subst (λ m. HasOwners c m.state) (sym is) h
-
-if_owned : (c : Setting) (b : Bool) (x y : Move) → HasOwners c x.state → HasOwners c y.state → HasOwners c (cond b x y).state
-if_owned c true x y hx hy = hx
-if_owned c false x y hx hy = hy
+by : (c : Setting) (s s' : State) → s ≡ s' → HasOwners c s' → HasOwners c s
+by c s s' is h = subst (HasOwners c) (sym is) h
 
 ring_owned : (c : Setting) (s : State) (p ring : ℕ) (k : Packet) (packets : List Packet) → HasOwners c s → Holds s p k → slice_get s.world.rings ring
     ≡ Some packets → HasOwners c (with_ring ring (packets ++ k ∷ []) (without_packet p s))
@@ -122,59 +117,34 @@ clone_owned c s p q pool k ns owned empty holds fresh =
     (clone_comes c.env.pools (live s) pool ns k (λ n. omega (arith, refs_cloned ns k n fresh.count, refs_held s.packets q (Some k) n holds, live_parts s n))
     fresh) owned
 
-pub acts_owned : (c : Setting) (label : ℕ) (s : State) (i : Instr) (m : Move) → HasOwners c s → Acts c label s i m → HasOwners c m.state
-acts_owned c label s (Alloc p pool l) m owned (empty, there, call) = matched (is_denied c s pool 1) _ _ call
-    (λ is. by c m _ is owned)
-    (λ (ns, buffers, fresh, changes, is). by c m _ is (alloc_owned c s p pool ns owned empty fresh))
-acts_owned c label s (Clone p q pool l) m owned (k, holds, empty, there, call) = matched (is_denied c s pool (length k)) _ _ call
-    (λ is. by c m _ is owned)
-    (λ (ns, fresh, is). by c m _ is (clone_owned c s p q pool k ns owned empty holds fresh))
-acts_owned c label s (Free p) m owned (k, holds, is) =
-    by c m _ is (fewer_owned c.env.pools (live s) (live (without_packet p s)) (packet_fewer s p k holds) owned)
-acts_owned c label s (Prepend p n) m owned (k, holds, le, sole, is) =
-    by c m _ is (fewer_owned c.env.pools (live s) (live (with_packet p (at_front (more_before n) k) s))
+effect_owned : (c : Setting) (s : State) (m : Move) → HasOwners c s → Effect c s m → HasOwners c m.state
+effect_owned c s m owned (Kept is _) = by c m.state _ is owned
+effect_owned c s m owned (Calculated numbers is _) = by c m.state _ is owned
+effect_owned c s m owned (Refused is _) = by c m.state _ is owned
+effect_owned c s m owned (Allocated p pool ns buffers empty fresh changes is _) = by c m.state _ is (alloc_owned c s p pool ns owned empty fresh)
+effect_owned c s m owned (Cloned p q pool k ns holds empty fresh is _) = by c m.state _ is (clone_owned c s p q pool k ns owned empty holds fresh)
+effect_owned c s m owned (Freed p k holds is _) =
+    by c m.state _ is (fewer_owned c.env.pools (live s) (live (without_packet p s)) (packet_fewer s p k holds) owned)
+effect_owned c s m owned (Prepended p n k holds le sole is _) =
+    by c m.state _ is (fewer_owned c.env.pools (live s) (live (with_packet p (at_front (more_before n) k) s))
     (front_fewer s p (more_before n) k (λ s. (refl, refl)) holds) owned)
-acts_owned c label s (Append p n) m owned (k, holds, le, sole, is) =
-    by c m _ is (fewer_owned c.env.pools (live s) (live (with_packet p (at_end (more_behind n) k) s))
+effect_owned c s m owned (Appended p n k holds le sole is _) =
+    by c m.state _ is (fewer_owned c.env.pools (live s) (live (with_packet p (at_end (more_behind n) k) s))
     (end_fewer s p (more_behind n) k (λ s. (refl, refl)) holds) owned)
-acts_owned c label s (Adj p n) m owned (k, holds, le, is) =
-    by c m _ is (fewer_owned c.env.pools (live s) (live (with_packet p (at_front (less_before n) k) s))
+effect_owned c s m owned (Adjusted p n k holds le is _) =
+    by c m.state _ is (fewer_owned c.env.pools (live s) (live (with_packet p (at_front (less_before n) k) s))
     (front_fewer s p (less_before n) k (λ s. (refl, refl)) holds) owned)
-acts_owned c label s (Trim p n) m owned (k, holds, le, is) =
-    by c m _ is (fewer_owned c.env.pools (live s) (live (with_packet p (at_end (less_behind n) k) s))
+effect_owned c s m owned (Trimmed p n k holds le is _) =
+    by c m.state _ is (fewer_owned c.env.pools (live s) (live (with_packet p (at_end (less_behind n) k) s))
     (end_fewer s p (less_behind n) k (λ s. (refl, refl)) holds) owned)
-acts_owned c label s (Chain p q) m owned (k, t, hk, ht, apart, few, is) =
-    by c m _ is (fewer_owned c.env.pools (live s) (live (without_packet q (with_packet p (k ++ t) s))) (chain_fewer s p q k t apart hk ht) owned)
-acts_owned c label s (IfHead p n l) m owned (k, holds, is) = by c m _ is (if_owned c (nat_lt (headroom k) n) (moves_to l s) (goes_on label s) owned owned)
-acts_owned c label s (IfTail p n l) m owned (k, holds, is) = by c m _ is
-    (if_owned c (nat_lt (tailroom c.env.pools k) n) (moves_to l s) (goes_on label s) owned owned)
-acts_owned c label s (IfLen p n l) m owned (k, holds, is) = by c m _ is (if_owned c (nat_lt (first_len k) n) (moves_to l s) (goes_on label s) owned owned)
-acts_owned c label s (IfLast p n l) m owned (k, holds, is) = by c m _ is (if_owned c (nat_lt (last_len k) n) (moves_to l s) (goes_on label s) owned owned)
-acts_owned c label s (Load r p off w) m owned (k, holds, le, is) = by c m _ is owned
-acts_owned c label s (LoadX r p x off w) m owned (k, holds, le, is) = by c m _ is owned
-acts_owned c label s (Store p off w r) m owned (k, holds, le, sole, is) = by c m _ is owned
-acts_owned c label s (StoreX p x off w r) m owned (k, holds, le, sole, is) = by c m _ is owned
-acts_owned c label s (Tx p r l) m owned (k, port, packets, holds, is_port, there, is) =
-    by c m _ is (if_owned c (nat_lt (length packets + 1) port.queue) (goes_on label
-    (with_outbox (slice_index s.numbers r) (packets ++ k ∷ []) (without_packet p s))) (moves_to l s)
-    (outbox_owned c s p (slice_index s.numbers r) k packets owned holds there) owned)
-acts_owned c label s (Enq p ring l) m owned (k, spec, packets, holds, is_ring, there, is) =
-    by c m _ is (if_owned c (nat_lt (length packets + 1) spec.count) (goes_on label (with_ring ring (packets ++ k ∷ []) (without_packet p s))) (moves_to l s)
-    (ring_owned c s p ring k packets owned holds there) owned)
-acts_owned c label s Exit m owned (gone, is) = by c m _ is owned
-acts_owned c label s (Set r n) m owned (after, e, is) = by c m _ is owned
-acts_owned c label s (Mov r x) m owned (after, e, is) = by c m _ is owned
-acts_owned c label s (Add r x) m owned (after, e, is) = by c m _ is owned
-acts_owned c label s (Sub r x) m owned (after, e, is) = by c m _ is owned
-acts_owned c label s (And r x) m owned (after, e, is) = by c m _ is owned
-acts_owned c label s (Or r x) m owned (after, e, is) = by c m _ is owned
-acts_owned c label s (Xor r x) m owned (after, e, is) = by c m _ is owned
-acts_owned c label s (Shl r n) m owned (after, e, is) = by c m _ is owned
-acts_owned c label s (Shr r n) m owned (after, e, is) = by c m _ is owned
-acts_owned c label s (Jmp l) m owned (after, e, is) = by c m _ is owned
-acts_owned c label s (Jeq r x l) m owned (after, e, is) = by c m _ is owned
-acts_owned c label s (Jlt r n l) m owned (after, e, is) = by c m _ is owned
-acts_owned c label s (Lookup r table x l) m owned (after, e, is) = by c m _ is owned
+effect_owned c s m owned (Chained p q k t hk ht apart few is _) =
+    by c m.state _ is (fewer_owned c.env.pools (live s) (live (without_packet q (with_packet p (k ++ t) s))) (chain_fewer s p q k t apart hk ht) owned)
+effect_owned c s m owned (Stored p offset w n k holds le sole is _) = by c m.state _ is owned
+effect_owned c s m owned (Sent p port k packets holds there is _) = by c m.state _ is (outbox_owned c s p port k packets owned holds there)
+effect_owned c s m owned (Queued p ring k packets holds there is _) = by c m.state _ is (ring_owned c s p ring k packets owned holds there)
+
+pub acts_owned : (c : Setting) (label : ℕ) (s : State) (i : Instr) (m : Move) → HasOwners c s → Acts c label s i m → HasOwners c m.state
+acts_owned c label s i m owned acts = effect_owned c s m owned (effect_of c label s i m acts)
 
 -- the packets that a cut run held are gone
 owned_cut : (c : Setting) (s : State) → HasOwners c s → HasOwners c (without_packets (with_cut s))

@@ -1,21 +1,20 @@
 -- Each step leaves packets of 1 to 64 segments.
-use Rattle.std.proofs.Common.{◌≡◌, ℕ, zero, suc, ◌+◌, Bool, true, false, cond, List, [], ◌∷◌, ◌++◌, length, Option, Some, None, refl, sym, ap, subst, arith}
+use Rattle.std.proofs.Common.{◌≡◌, ℕ, zero, suc, Bool, List, [], ◌∷◌, ◌++◌, length, Option, Some, None, refl, sym, ap, subst, arith}
 use Rattle.std.proofs.Common.{length-append}
-use Rattle.std.specs.Prelude.{slice_get, slice_set, slice_index, nat_lt}
+use Rattle.std.specs.Prelude.{slice_get, slice_set}
 use Rattle.std.specs.List.{AllByRecursion}
 use Rattle.std.proofs.lemmas.List.{length-map}
 use Rattle.dp_model.specs.declared.env.PoolSpec.{PoolSpec}
 use Rattle.dp_model.specs.declared.instr.Instr.{Instr}
-use Rattle.dp_model.specs.declared.instr.Instr.TheVariants.{Alloc, Free, Clone, Prepend, Adj, Append, Trim, Chain, IfHead, IfTail, IfLen, IfLast, Load, Store}
-use Rattle.dp_model.specs.declared.instr.Instr.TheVariants.{LoadX, StoreX, Set, Mov, Add, Sub, And, Or, Xor, Shl, Shr, Jmp, Jeq, Jlt, Lookup, Tx, Enq, Exit}
 use Rattle.dp_model.specs.Buffers.{Number}
-use Rattle.dp_model.specs.Packets.{Segment, Packet, headroom, tailroom, first_len, last_len, allocated, cloned, at_front, at_end, more_before, less_before}
+use Rattle.dp_model.specs.Packets.{Segment, Packet, allocated, cloned, at_front, at_end, more_before, less_before}
 use Rattle.dp_model.specs.Packets.{more_behind, less_behind}
-use Rattle.dp_model.specs.Machine.{Setting, State, Next, At, Ended, Move, Acts, Holds, goes_on, moves_to, is_denied, with_packet, without_packet, with_ring}
+use Rattle.dp_model.specs.Machine.{Setting, State, Next, At, Ended, Move, Acts, Holds, with_packet, without_packet, with_ring}
 use Rattle.dp_model.specs.Machine.{with_outbox, with_step, Step}
 use Rattle.dp_model.specs.Runs.{Then, Goes}
 use Rattle.dp_model.specs.Safety.{IsPacket, IsPacketOrNone, ArePackets}
-use Rattle.dp_model.specs.Laws.Cases.{matched}
+use Rattle.dp_model.specs.Laws.Effects.{Effect, Kept, Calculated, Refused, Allocated, Cloned, Freed, Prepended, Appended, Adjusted, Trimmed, Chained, Stored, Sent}
+use Rattle.dp_model.specs.Laws.Effects.{Queued, effect_of}
 use Rattle.dp_model.proofs.SoundClone.{length_cloned}
 use Rattle.dp_model.specs.Laws.Lists.{all_join, each_at}
 use Rattle.dp_model.specs.Laws.Steps.{budget_keeps}
@@ -47,13 +46,6 @@ held_packet s p k are holds = each_at IsPacketOrNone s.packets p (Some k) are.he
 -- a register is set
 pub set_packets : (s : State) (p : ℕ) (o : Option Packet) → ArePackets s → IsPacketOrNone o → ArePackets (record s { packets = slice_set s.packets p o })
 set_packets s p o are here = record { held = each_set IsPacketOrNone s.packets p o are.held here; rings = are.rings; outboxes = are.outboxes }
-
-by : (m m' : Move) → m ≡ m' → ArePackets m'.state → ArePackets m.state
-by m m' is h = subst (λ m. ArePackets m.state) (sym is) h
-
-if_packets : (b : Bool) (x y : Move) → ArePackets x.state → ArePackets y.state → ArePackets (cond b x y).state
-if_packets true x y hx hy = hx
-if_packets false x y hx hy = hy
 
 ring_packets : (s : State) (p ring : ℕ) (k : Packet) (packets : List Packet) → ArePackets s → Holds s p k → slice_get s.world.rings ring ≡ Some packets →
     ArePackets (with_ring ring (packets ++ k ∷ []) (without_packet p s))
@@ -89,71 +81,44 @@ same_packets s s' p r o are = record {
 allocated_packet : (pools : List PoolSpec) (ns : List Number) → length ns ≡ 1 → IsPacket (allocated pools ns)
 allocated_packet pools ns one = let e : length (allocated pools ns) ≡ length ns = length-map ns _ in (omega (arith, e, one), omega (arith, e, one))
 
-edit : (s : State) (p : ℕ) (k j : Packet) (m : Move) (s' : State) → ArePackets s → Holds s p k → length j ≡ length k → m.state ≡ s' →
-    s'.packets ≡ slice_set s.packets p (Some j) → s'.world.rings ≡ s.world.rings → s'.world.outboxes ≡ s.world.outboxes → ArePackets m.state
-edit s p k j m s' are holds long is packets rings outboxes =
-    subst ArePackets (sym is)
-    (same_packets (record s { packets = slice_set s.packets p (Some j) }) s' packets rings outboxes
-    (set_packets s p (Some j) are (as_long k j long (held_packet s p k are holds))))
+-- another packet that is as long is in the register
+edited : (s : State) (p : ℕ) (k j : Packet) → ArePackets s → Holds s p k → length j ≡ length k → ArePackets (with_packet p j s)
+edited s p k j are holds long = set_packets s p (Some j) are (as_long k j long (held_packet s p k are holds))
 
-plain : (s s' : State) (m : Move) → ArePackets s → m.state ≡ s' → s'.packets ≡ s.packets → s'.world.rings ≡ s.world.rings →
-    s'.world.outboxes ≡ s.world.outboxes → ArePackets m.state
-plain s s' m are is packets rings outboxes = subst ArePackets (sym is) (same_packets s s' packets rings outboxes are)
+by : (s s' t : State) → s ≡ s' → s'.packets ≡ t.packets → s'.world.rings ≡ t.world.rings → s'.world.outboxes ≡ t.world.outboxes → ArePackets t → ArePackets s
+by s s' t is packets rings outboxes are = subst ArePackets (sym is) (same_packets t s' packets rings outboxes are)
 
-abbrev at_state : Move → State
-at_state m = m.state
+effect_packets : (c : Setting) (s : State) (m : Move) → ArePackets s → Effect c s m → ArePackets m.state
+effect_packets c s m are (Kept is _) = by m.state _ s is refl refl refl are
+effect_packets c s m are (Calculated numbers is _) = by m.state _ s is refl refl refl are
+effect_packets c s m are (Refused is _) = by m.state _ s is refl refl refl are
+effect_packets c s m are (Allocated p pool ns buffers empty fresh changes is _) =
+    by m.state _ (with_packet p (allocated c.env.pools ns) s) is refl refl refl
+    (set_packets s p (Some (allocated c.env.pools ns)) are (allocated_packet c.env.pools ns fresh.count))
+effect_packets c s m are (Cloned p q pool k ns holds empty fresh is _) =
+    by m.state _ (with_packet p (cloned ns k) s) is refl refl refl
+    (set_packets s p (Some (cloned ns k)) are (as_long k (cloned ns k) (length_cloned ns k fresh.count) (held_packet s q k are holds)))
+effect_packets c s m are (Freed p k holds is _) = by m.state _ (without_packet p s) is refl refl refl (set_packets s p None are tt)
+effect_packets c s m are (Prepended p n k holds le sole is _) =
+    by m.state _ (with_packet p (at_front (more_before n) k) s) is refl refl refl (edited s p k _ are holds (length_front (more_before n) k))
+effect_packets c s m are (Appended p n k holds le sole is _) =
+    by m.state _ (with_packet p (at_end (more_behind n) k) s) is refl refl refl (edited s p k _ are holds (length_end (more_behind n) k))
+effect_packets c s m are (Adjusted p n k holds le is _) =
+    by m.state _ (with_packet p (at_front (less_before n) k) s) is refl refl refl (edited s p k _ are holds (length_front (less_before n) k))
+effect_packets c s m are (Trimmed p n k holds le is _) =
+    by m.state _ (with_packet p (at_end (less_behind n) k) s) is refl refl refl (edited s p k _ are holds (length_end (less_behind n) k))
+effect_packets c s m are (Chained p q k t hk ht apart few is _) =
+    by m.state _ (without_packet q (with_packet p (k ++ t) s)) is refl refl refl
+    (set_packets (with_packet p (k ++ t) s) q None (set_packets s p (Some (k ++ t)) are
+    (omega (arith, length-append k t, (held_packet s p k are hk).0), omega (arith, length-append k t, few))) tt)
+effect_packets c s m are (Stored p offset w n k holds le sole is _) = by m.state _ s is refl refl refl are
+effect_packets c s m are (Sent p port k packets holds there is _) =
+    by m.state _ (with_outbox port (packets ++ k ∷ []) (without_packet p s)) is refl refl refl (outbox_packets s p port k packets are holds there)
+effect_packets c s m are (Queued p ring k packets holds there is _) =
+    by m.state _ (with_ring ring (packets ++ k ∷ []) (without_packet p s)) is refl refl refl (ring_packets s p ring k packets are holds there)
 
 pub acts_packets : (c : Setting) (label : ℕ) (s : State) (i : Instr) (m : Move) → ArePackets s → Acts c label s i m → ArePackets m.state
-acts_packets c label s (Alloc p pool l) m are (empty, there, call) = matched (is_denied c s pool 1) _ _ call
-    (λ is. plain s _ m are (ap at_state is) refl refl refl)
-    (λ (ns, buffers, fresh, changes, is). subst ArePackets (sym (ap at_state is))
-    (same_packets (record s { packets = slice_set s.packets p (Some (allocated c.env.pools ns)) }) _ refl refl refl
-    (set_packets s p (Some (allocated c.env.pools ns)) are (allocated_packet c.env.pools ns fresh.count))))
-acts_packets c label s (Clone p q pool l) m are (k, holds, empty, there, call) = matched (is_denied c s pool (length k)) _ _ call
-    (λ is. plain s _ m are (ap at_state is) refl refl refl)
-    (λ (ns, fresh, is). subst ArePackets (sym (ap at_state is)) (same_packets (record s { packets = slice_set s.packets p (Some (cloned ns k)) }) _ refl refl
-    refl (set_packets s p (Some (cloned ns k)) are (as_long k (cloned ns k) (length_cloned ns k fresh.count) (held_packet s q k are holds)))))
-acts_packets c label s (Free p) m are (k, holds, is) = by m _ is (set_packets s p None are tt)
-acts_packets c label s (Prepend p n) m are (k, holds, le, sole, is) = edit s p k (at_front (more_before n) k) m _ are holds (length_front (more_before n) k)
-    (ap at_state is) refl refl refl
-acts_packets c label s (Append p n) m are (k, holds, le, sole, is) = edit s p k (at_end (more_behind n) k) m _ are holds (length_end (more_behind n) k)
-    (ap at_state is) refl refl refl
-acts_packets c label s (Adj p n) m are (k, holds, le, is) = edit s p k (at_front (less_before n) k) m _ are holds (length_front (less_before n) k)
-    (ap at_state is) refl refl refl
-acts_packets c label s (Trim p n) m are (k, holds, le, is) = edit s p k (at_end (less_behind n) k) m _ are holds (length_end (less_behind n) k)
-    (ap at_state is) refl refl refl
-acts_packets c label s (Chain p q) m are (k, t, hk, ht, apart, few, is) =
-    by m _ is (set_packets (with_packet p (k ++ t) s) q None (set_packets s p (Some (k ++ t)) are
-    (omega (arith, length-append k t, (held_packet s p k are hk).0), omega (arith, length-append k t, few))) tt)
-acts_packets c label s (IfHead p n l) m are (k, holds, is) = by m _ is (if_packets (nat_lt (headroom k) n) (moves_to l s) (goes_on label s) are are)
-acts_packets c label s (IfTail p n l) m are (k, holds, is) = by m _ is (if_packets (nat_lt (tailroom c.env.pools k) n) (moves_to l s) (goes_on label s) are are)
-acts_packets c label s (IfLen p n l) m are (k, holds, is) = by m _ is (if_packets (nat_lt (first_len k) n) (moves_to l s) (goes_on label s) are are)
-acts_packets c label s (IfLast p n l) m are (k, holds, is) = by m _ is (if_packets (nat_lt (last_len k) n) (moves_to l s) (goes_on label s) are are)
-acts_packets c label s (Load r p off w) m are (k, holds, le, is) = plain s _ m are (ap at_state is) refl refl refl
-acts_packets c label s (LoadX r p x off w) m are (k, holds, le, is) = plain s _ m are (ap at_state is) refl refl refl
-acts_packets c label s (Store p off w r) m are (k, holds, le, sole, is) = plain s _ m are (ap at_state is) refl refl refl
-acts_packets c label s (StoreX p x off w r) m are (k, holds, le, sole, is) = plain s _ m are (ap at_state is) refl refl refl
-acts_packets c label s (Tx p r l) m are (k, port, packets, holds, is_port, there, is) =
-    by m _ is (if_packets (nat_lt (length packets + 1) port.queue) (goes_on label
-    (with_outbox (slice_index s.numbers r) (packets ++ k ∷ []) (without_packet p s))) (moves_to l s)
-    (outbox_packets s p (slice_index s.numbers r) k packets are holds there) are)
-acts_packets c label s (Enq p ring l) m are (k, spec, packets, holds, is_ring, there, is) =
-    by m _ is (if_packets (nat_lt (length packets + 1) spec.count) (goes_on label (with_ring ring (packets ++ k ∷ []) (without_packet p s))) (moves_to l s)
-    (ring_packets s p ring k packets are holds there) are)
-acts_packets c label s Exit m are (gone, is) = by m _ is are
-acts_packets c label s (Set r n) m are (after, e, is) = plain s _ m are (ap at_state is) refl refl refl
-acts_packets c label s (Mov r x) m are (after, e, is) = plain s _ m are (ap at_state is) refl refl refl
-acts_packets c label s (Add r x) m are (after, e, is) = plain s _ m are (ap at_state is) refl refl refl
-acts_packets c label s (Sub r x) m are (after, e, is) = plain s _ m are (ap at_state is) refl refl refl
-acts_packets c label s (And r x) m are (after, e, is) = plain s _ m are (ap at_state is) refl refl refl
-acts_packets c label s (Or r x) m are (after, e, is) = plain s _ m are (ap at_state is) refl refl refl
-acts_packets c label s (Xor r x) m are (after, e, is) = plain s _ m are (ap at_state is) refl refl refl
-acts_packets c label s (Shl r n) m are (after, e, is) = plain s _ m are (ap at_state is) refl refl refl
-acts_packets c label s (Shr r n) m are (after, e, is) = plain s _ m are (ap at_state is) refl refl refl
-acts_packets c label s (Jmp l) m are (after, e, is) = plain s _ m are (ap at_state is) refl refl refl
-acts_packets c label s (Jeq r x l) m are (after, e, is) = plain s _ m are (ap at_state is) refl refl refl
-acts_packets c label s (Jlt r n l) m are (after, e, is) = plain s _ m are (ap at_state is) refl refl refl
-acts_packets c label s (Lookup r table x l) m are (after, e, is) = plain s _ m are (ap at_state is) refl refl refl
+acts_packets c label s i m are acts = effect_packets c s m are (effect_of c label s i m acts)
 
 pub step_packets : (c : Setting) (program : List Instr) (label : ℕ) (s : State) (m : Move) → ArePackets s → Step c program label s m → ArePackets m.state
 step_packets c program label s m are st =

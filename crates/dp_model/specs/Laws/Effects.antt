@@ -1,0 +1,103 @@
+-- Internal: what an instruction may do to a machine: one of fourteen effects. Who wants what all instructions keep goes through these.
+use Rattle.std.proofs.Common.{◌≡◌, ℕ, ◌+◌, ◌≤◌, ◌≢◌, Bool, true, false, cond, List, [], ◌∷◌, ◌++◌, length, Some, ap}
+use Rattle.std.specs.Prelude.{slice_get, slice_index, nat_lt}
+use Rattle.dp_model.specs.declared.instr.Instr.{Instr}
+use Rattle.dp_model.specs.declared.instr.Instr.TheVariants.{Alloc, Free, Clone, Prepend, Adj, Append, Trim, Chain, IfHead, IfTail, IfLen, IfLast, Load, Store}
+use Rattle.dp_model.specs.declared.instr.Instr.TheVariants.{LoadX, StoreX, Set, Mov, Add, Sub, And, Or, Xor, Shl, Shr, Jmp, Jeq, Jlt, Lookup, Tx, Enq, Exit}
+use Rattle.dp_model.specs.Arithmetic.{bytes_in}
+use Rattle.dp_model.specs.Buffers.{Number, Buffers, ChangesOnly}
+use Rattle.dp_model.specs.Packets.{Packet, headroom, tailroom, first_len, last_len, AreFresh, IsHeadSole, IsTailSole, allocated, cloned, at_front, at_end}
+use Rattle.dp_model.specs.Packets.{more_before, less_before, more_behind, less_behind, zeroed_before, zeroed_behind, stored}
+use Rattle.dp_model.specs.Machine.{Setting, State, live, Move, Acts, Holds, IsEmpty, branches, goes_on, moves_to, is_denied, with_call, with_packet}
+use Rattle.dp_model.specs.Machine.{without_packet, with_buffers, with_ring, with_outbox}
+use Rattle.dp_model.specs.Limits.{most_segments}
+use Rattle.dp_model.specs.Laws.Cases.{matched}
+
+-- what an instruction did to a state, with what stood there before
+pub data Effect (c : Setting) (s : State) (m : Move) : Type 0 where
+  Kept : m.state ≡ s → m.told ≡ [] → Effect c s m
+  Calculated : (numbers : List ℕ) → m.state ≡ record s { numbers = numbers } → m.told ≡ [] → Effect c s m
+  Refused : m.state ≡ with_call s → m.told ≡ false ∷ [] → Effect c s m
+  Allocated : (p pool : ℕ) (ns : List Number) (buffers : Buffers) → IsEmpty s p → AreFresh c.env.pools (live s) pool 1 ns →
+      ChangesOnly ns s.world.buffers buffers → m.state ≡ with_call (with_packet p (allocated c.env.pools ns) (with_buffers buffers s)) →
+      m.told ≡ true ∷ [] → Effect c s m
+  Cloned : (p q pool : ℕ) (k : Packet) (ns : List Number) → Holds s q k → IsEmpty s p → AreFresh c.env.pools (live s) pool (length k) ns →
+      m.state ≡ with_call (with_packet p (cloned ns k) s) → m.told ≡ true ∷ [] → Effect c s m
+  Freed : (p : ℕ) (k : Packet) → Holds s p k → m.state ≡ without_packet p s → m.told ≡ [] → Effect c s m
+  Prepended : (p n : ℕ) (k : Packet) → Holds s p k → n ≤ headroom k → IsHeadSole (live s) k →
+      m.state ≡ with_packet p (at_front (more_before n) k) (with_buffers (zeroed_before n k s.world.buffers) s) → m.told ≡ [] → Effect c s m
+  Appended : (p n : ℕ) (k : Packet) → Holds s p k → n ≤ tailroom c.env.pools k → IsTailSole (live s) k →
+      m.state ≡ with_packet p (at_end (more_behind n) k) (with_buffers (zeroed_behind n k s.world.buffers) s) → m.told ≡ [] → Effect c s m
+  Adjusted : (p n : ℕ) (k : Packet) → Holds s p k → n ≤ first_len k → m.state ≡ with_packet p (at_front (less_before n) k) s → m.told ≡ [] → Effect c s m
+  Trimmed : (p n : ℕ) (k : Packet) → Holds s p k → n ≤ last_len k → m.state ≡ with_packet p (at_end (less_behind n) k) s → m.told ≡ [] → Effect c s m
+  Chained : (p q : ℕ) (k t : Packet) → Holds s p k → Holds s q t → p ≢ q → length k + length t ≤ most_segments →
+      m.state ≡ without_packet q (with_packet p (k ++ t) s) → m.told ≡ [] → Effect c s m
+  Stored : (p offset w n : ℕ) (k : Packet) → Holds s p k → offset + w ≤ first_len k → IsHeadSole (live s) k →
+      m.state ≡ with_buffers (stored offset w n k s.world.buffers) s → m.told ≡ [] → Effect c s m
+  Sent : (p port : ℕ) (k : Packet) (packets : List Packet) → Holds s p k → slice_get s.world.outboxes port ≡ Some packets →
+      m.state ≡ with_outbox port (packets ++ k ∷ []) (without_packet p s) → m.told ≡ [] → Effect c s m
+  Queued : (p ring : ℕ) (k : Packet) (packets : List Packet) → Holds s p k → slice_get s.world.rings ring ≡ Some packets →
+      m.state ≡ with_ring ring (packets ++ k ∷ []) (without_packet p s) → m.told ≡ [] → Effect c s m
+
+abbrev state_of_move : Move → State
+state_of_move m = m.state
+
+abbrev told_of_move : Move → List Bool
+told_of_move m = m.told
+
+module _ (c : Setting) (s : State) (m : Move) where
+  -- a test leaves all as it is, wherever it leads
+  tested : (b : Bool) (label l : ℕ) → m ≡ branches b label l s → Effect c s m
+  tested true label l is = Kept (ap state_of_move is) (ap told_of_move is)
+  tested false label l is = Kept (ap state_of_move is) (ap told_of_move is)
+
+  -- a packet leaves, or stays where the list is full
+  left : (b : Bool) (label l : ℕ) (s' : State) → m ≡ cond b (goes_on label s') (moves_to l s) → (m.state ≡ s' → m.told ≡ [] → Effect c s m) → Effect c s m
+  left true label l s' is f = f (ap state_of_move is) (ap told_of_move is)
+  left false label l s' is f = Kept (ap state_of_move is) (ap told_of_move is)
+
+  counted : (numbers : List ℕ) (label : ℕ) → m ≡ moves_to label (record s { numbers = numbers }) → Effect c s m
+  counted numbers label is = Calculated numbers (ap state_of_move is) (ap told_of_move is)
+
+-- each instruction has one of them
+pub effect_of : (c : Setting) (label : ℕ) (s : State) (i : Instr) (m : Move) → Acts c label s i m → Effect c s m
+effect_of c label s (Alloc p pool l) m (empty, there, call) = matched (is_denied c s pool 1) _ _ call
+    (λ is. Refused (ap state_of_move is) (ap told_of_move is))
+    (λ (ns, buffers, fresh, changes, is). Allocated p pool ns buffers empty fresh changes (ap state_of_move is) (ap told_of_move is))
+effect_of c label s (Clone p q pool l) m (k, holds, empty, there, call) = matched (is_denied c s pool (length k)) _ _ call
+    (λ is. Refused (ap state_of_move is) (ap told_of_move is))
+    (λ (ns, fresh, is). Cloned p q pool k ns holds empty fresh (ap state_of_move is) (ap told_of_move is))
+effect_of c label s (Free p) m (k, holds, is) = Freed p k holds (ap state_of_move is) (ap told_of_move is)
+effect_of c label s (Prepend p n) m (k, holds, le, sole, is) = Prepended p n k holds le sole (ap state_of_move is) (ap told_of_move is)
+effect_of c label s (Append p n) m (k, holds, le, sole, is) = Appended p n k holds le sole (ap state_of_move is) (ap told_of_move is)
+effect_of c label s (Adj p n) m (k, holds, le, is) = Adjusted p n k holds le (ap state_of_move is) (ap told_of_move is)
+effect_of c label s (Trim p n) m (k, holds, le, is) = Trimmed p n k holds le (ap state_of_move is) (ap told_of_move is)
+effect_of c label s (Chain p q) m (k, t, hk, ht, apart, few, is) = Chained p q k t hk ht apart few (ap state_of_move is) (ap told_of_move is)
+effect_of c label s (IfHead p n l) m (k, holds, is) = tested c s m (nat_lt (headroom k) n) label l is
+effect_of c label s (IfTail p n l) m (k, holds, is) = tested c s m (nat_lt (tailroom c.env.pools k) n) label l is
+effect_of c label s (IfLen p n l) m (k, holds, is) = tested c s m (nat_lt (first_len k) n) label l is
+effect_of c label s (IfLast p n l) m (k, holds, is) = tested c s m (nat_lt (last_len k) n) label l is
+effect_of c label s (Load r p off w) m (k, holds, le, is) = counted c s m _ (label + 1) is
+effect_of c label s (LoadX r p x off w) m (k, holds, le, is) = counted c s m _ (label + 1) is
+effect_of c label s (Store p off w r) m (k, holds, le, sole, is) =
+    Stored p off (bytes_in w) (slice_index s.numbers r) k holds le sole (ap state_of_move is) (ap told_of_move is)
+effect_of c label s (StoreX p x off w r) m (k, holds, le, sole, is) =
+    Stored p (slice_index s.numbers x + off) (bytes_in w) (slice_index s.numbers r) k holds le sole (ap state_of_move is) (ap told_of_move is)
+effect_of c label s (Tx p r l) m (k, port, packets, holds, is_port, there, is) =
+    left c s m (nat_lt (length packets + 1) port.queue) label l _ is (Sent p (slice_index s.numbers r) k packets holds there)
+effect_of c label s (Enq p ring l) m (k, spec, packets, holds, is_ring, there, is) =
+    left c s m (nat_lt (length packets + 1) spec.count) label l _ is (Queued p ring k packets holds there)
+effect_of c label s Exit m (gone, is) = Kept (ap state_of_move is) (ap told_of_move is)
+effect_of c label s (Set r n) m (after, e, is) = counted c s m after.1 after.0 is
+effect_of c label s (Mov r x) m (after, e, is) = counted c s m after.1 after.0 is
+effect_of c label s (Add r x) m (after, e, is) = counted c s m after.1 after.0 is
+effect_of c label s (Sub r x) m (after, e, is) = counted c s m after.1 after.0 is
+effect_of c label s (And r x) m (after, e, is) = counted c s m after.1 after.0 is
+effect_of c label s (Or r x) m (after, e, is) = counted c s m after.1 after.0 is
+effect_of c label s (Xor r x) m (after, e, is) = counted c s m after.1 after.0 is
+effect_of c label s (Shl r n) m (after, e, is) = counted c s m after.1 after.0 is
+effect_of c label s (Shr r n) m (after, e, is) = counted c s m after.1 after.0 is
+effect_of c label s (Jmp l) m (after, e, is) = counted c s m after.1 after.0 is
+effect_of c label s (Jeq r x l) m (after, e, is) = counted c s m after.1 after.0 is
+effect_of c label s (Jlt r n l) m (after, e, is) = counted c s m after.1 after.0 is
+effect_of c label s (Lookup r table x l) m (after, e, is) = counted c s m after.1 after.0 is
