@@ -33,10 +33,4 @@ returns-clause-empty c =
 
 pub returns-clause-free : goal.returns-clause-free
 returns-clause-free c =
-    let i = c.self.inside in
-    let e = c.args.self.now in
-    let all = has_all i.plan i.machine i.space i.turns i.tallies i.left c.self.invariant e c.self.view_is in
-    let env = c.ports-ports.ensures ∙ ap (λ (x : Environment). x.ports) c.env-2.ensures.same ∙ ap (λ (x : EngineState). x.setting.env.ports) c.self.view_is in
-    let empty = c.loop-port.invariant ∙ all_flushed (length e.setting.env.rings) c.loop-port.port e (omega (arith, all.rings))
-    (omega (arith, c.loop-port-test.false, all.ports, ap length env)) in
-    subst (λ (x : EngineState). live (between x.world) ≡ []) (sym empty) (nothing_lives e)
+    subst (λ (x : EngineState). live (between x.world) ≡ []) (sym (returns-clause-empty c)) (nothing_lives c.args.self.now)
