@@ -6,6 +6,7 @@ use Rattle.dp_pool.specs.Pools.{PoolZones}
 use Rattle.dp_ring.specs.Rings.{RingView}
 use Rattle.dp_pcap.specs.declared.format.TheConstants.{MOST_RECORDS}
 use Rattle.dp_lpm.specs.Routes.{RouteTable}
+use Rattle.dp_model.specs.Limits.{most_ring_runs}
 use Rattle.dp_model.specs.Environments.{Environment, fault_of}
 use Rattle.dp_model.specs.Packets.{Packet}
 use Rattle.dp_model.specs.Rules.{Question}
@@ -14,6 +15,7 @@ use Rattle.dp_model.specs.Runs as runs
 use Rattle.dp_model.specs.Runs.{Nodes, with_empty_outboxes, with_empty_rings, left_in_rings}
 use Rattle.dp_model.specs.Starts.{IsStart}
 use Rattle.dp_engine.specs.declared.report.Tallies.{Tallies}
+use Rattle.dp_engine.specs.Outcomes.{most_steps}
 use Rattle.dp_engine.specs.Handles.{Frames, Core}
 use Rattle.dp_engine.specs.Schemes.{Scheme, scheme_of}
 use Rattle.dp_engine.specs.Serving.{Rests}
@@ -72,8 +74,8 @@ pub record StandIn (space : SpaceView) (frames : Frames) : Type 0 where
 abbrev pub most_turns : ℕ
 most_turns = 8 * MOST_RECORDS
 
--- its environment is within the limits; a turn has 33 node runs at most, each of 257 times 1,024 steps at most; each step and
--- each record make at most one allocation call, and each packet that was sent or left comes from one
+-- its environment is within the limits; a turn has the node run of its record and those on packets of rings; each step and each
+-- record make at most one allocation call, each node run is cut at most once, and each packet that was sent or left comes from a call
 pub record IsEngine (s : Scheme) (core : Core) (space : SpaceView) (turns : ℕ) (tallies : List Tallies) (left : List ℕ) : Type 0 where
   pub within : fault_of s.setting.env ≡ None
   pub rests : Rests s core
@@ -82,8 +84,8 @@ pub record IsEngine (s : Scheme) (core : Core) (space : SpaceView) (turns : ℕ)
   pub ports : length tallies ≡ 8
   pub rings : length left ≡ 8
   pub records : over_ports records_of tallies ≤ turns
-  pub calls : core.state.world.calls ≤ turns * 8684545
-  pub cuts : core.state.world.cuts ≤ turns * 33
+  pub calls : core.state.world.calls ≤ turns * ((most_ring_runs + 1) * most_steps + 1)
+  pub cuts : core.state.world.cuts ≤ turns * (most_ring_runs + 1)
   pub packets : over_ports sent_by tallies + sum left + packet_count core.state ≤ core.state.world.calls
 
 -- ---- how it begins

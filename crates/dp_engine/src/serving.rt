@@ -6,7 +6,7 @@ ghost use Rattle.dp_model.specs.Environments.{room_at};
 ghost use Rattle.dp_model.specs.Packets.{needed as segments_needed};
 ghost use Rattle.dp_model.specs.Runs.{Serves, Took, runs_of};
 ghost use Rattle.dp_model.specs.Safety.{IsPipeline, KeepsSafe};
-ghost use Rattle.dp_engine.specs.Outcomes.{outcome_of};
+ghost use Rattle.dp_engine.specs.Outcomes.{outcome_of, most_steps};
 ghost use Rattle.dp_engine.specs.Tallies.{packet_count};
 ghost use Rattle.dp_engine.specs.Serving.{ArrivesAt, ServesOne, Rests};
 
@@ -45,14 +45,14 @@ pub(crate) fn arrive<W: Watch>(
     requires exists { port < length plan.now.setting.env.ports }
     requires size { length bytes.now ≤ LARGEST_RECORD }
     requires rests { Rests plan.now m.old }
-    requires few { m.old.state.world.calls + 263169 < 2 ^ 64 }
+    requires few { m.old.state.world.calls + most_steps + 1 < 2 ^ 64 }
     requires few_cuts { m.old.state.world.cuts + 1 < 2 ^ 64 }
     ensures arrives { (told : List Bool) × ArrivesAt plan.now port bytes.now m.old.state.world (outcome_of result.0) told m.new.state.world }
     ensures took { Took m.old.state.world m.new.state.world result.1.steps result.1.cuts }
-    ensures few_steps { result.1.steps ≤ runs_of (outcome_of result.0) * 263168 }
+    ensures few_steps { result.1.steps ≤ runs_of (outcome_of result.0) * most_steps }
     ensures few_cuts { result.1.cuts ≤ 1 }
     // A call for the record, and one at most for each step.
-    ensures calls { m.new.state.world.calls ≤ m.old.state.world.calls + 263169 }
+    ensures calls { m.new.state.world.calls ≤ m.old.state.world.calls + most_steps + 1 }
     ensures packets { packet_count m.new.state + m.old.state.world.calls ≤ packet_count m.old.state + m.new.state.world.calls }
     ensures rests { Rests plan.now m.new }
     ensures frames { m.new.frames ≡ m.old.frames }
@@ -78,11 +78,11 @@ pub(crate) fn arrive<W: Watch>(
 // The node run on the front packet of the first ring that has one, if there is one.
 fn serve_one<W: Watch>(plan: &Plan, m: &mut Machine, watch: &mut W) -> Option<NodeRun>
     requires rests { Rests plan.now m.old }
-    requires few { m.old.state.world.calls + 263168 < 2 ^ 64 }
+    requires few { m.old.state.world.calls + most_steps < 2 ^ 64 }
     requires few_cuts { m.old.state.world.cuts + 1 < 2 ^ 64 }
     ensures serves { ServesOne plan.now m.old.state.world result m.new.state.world }
-    ensures few_steps { IfSome result (λ r. (r.steps ≤ 263168) × (r.cuts ≤ 1)) }
-    ensures calls { m.new.state.world.calls ≤ m.old.state.world.calls + 263168 }
+    ensures few_steps { IfSome result (λ r. (r.steps ≤ most_steps) × (r.cuts ≤ 1)) }
+    ensures calls { m.new.state.world.calls ≤ m.old.state.world.calls + most_steps }
     ensures packets { packet_count m.new.state + m.old.state.world.calls ≤ packet_count m.old.state + m.new.state.world.calls }
     ensures rests { Rests plan.now m.new }
     ensures frames { m.new.frames ≡ m.old.frames }
@@ -107,14 +107,14 @@ pub(crate) struct Served {
 // Up to 32 node runs, each on the front packet of the first ring that has one.
 pub(crate) fn serve<W: Watch>(plan: &Plan, m: &mut Machine, watch: &mut W) -> Served
     requires rests { Rests plan.now m.old }
-    requires few { m.old.state.world.calls + 32 * 263168 < 2 ^ 64 }
+    requires few { m.old.state.world.calls + 32 * most_steps < 2 ^ 64 }
     requires few_cuts { m.old.state.world.cuts + 32 < 2 ^ 64 }
     ensures serves { (told : List Bool) × Serves plan.now.setting plan.now.nodes.rings 32 m.old.state.world told result.runs m.new.state.world }
     ensures took { Took m.old.state.world m.new.state.world result.steps result.cuts }
     ensures few_runs { result.runs ≤ 32 }
-    ensures few_steps { result.steps ≤ result.runs * 263168 }
+    ensures few_steps { result.steps ≤ result.runs * most_steps }
     ensures few_cuts { result.cuts ≤ 32 }
-    ensures calls { m.new.state.world.calls ≤ m.old.state.world.calls + 32 * 263168 }
+    ensures calls { m.new.state.world.calls ≤ m.old.state.world.calls + 32 * most_steps }
     ensures packets { packet_count m.new.state + m.old.state.world.calls ≤ packet_count m.old.state + m.new.state.world.calls }
     ensures rests { Rests plan.now m.new }
     ensures frames { m.new.frames ≡ m.old.frames }

@@ -4,7 +4,7 @@ ghost use Rattle.dp_pcap.specs.declared.format.TheConstants.{LARGEST_RECORD};
 ghost use Rattle.dp_model.specs.Runs.{Turn as IsTurn, Took, NeverStuck, runs_of};
 ghost use Rattle.dp_model.specs.Safety.{Beginning, IsOfTurn};
 ghost use Rattle.dp_engine.specs.Engines.{most_turns, tallies_at, counted_at, records_of};
-ghost use Rattle.dp_engine.specs.Outcomes.{outcome_of};
+ghost use Rattle.dp_engine.specs.Outcomes.{outcome_of, most_steps};
 
 use crate::engine::{Engine, Outcome, Turn};
 use crate::report::Tallies;
@@ -38,7 +38,7 @@ impl Engine {
         ensures never_stuck { (b : Beginning) → IsOfTurn self.old.setting self.old.nodes port bytes.now self.old.world b →
             NeverStuck self.old.setting b.program b.packet b.number b.world }
         ensures took { Took self.old.world self.new.world result.steps result.cuts }
-        ensures few { result.steps ≤ result.runs * 263168 }
+        ensures few { result.steps ≤ result.runs * most_steps }
         // Each port has its transmit list.
         ensures lists { length self.new.world.outboxes ≡ length self.new.setting.env.ports }
         ensures rest { self.new ≡ record self.old {
@@ -62,7 +62,7 @@ impl Engine {
         ensures never_stuck { (b : Beginning) → IsOfTurn self.old.setting self.old.nodes port bytes.now self.old.world b →
             NeverStuck self.old.setting b.program b.packet b.number b.world }
         ensures took { Took self.old.world self.new.world result.steps result.cuts }
-        ensures few { result.steps ≤ result.runs * 263168 }
+        ensures few { result.steps ≤ result.runs * most_steps }
         // Each port has its transmit list.
         ensures lists { length self.new.world.outboxes ≡ length self.new.setting.env.ports }
         ensures rest { self.new ≡ record self.old {
