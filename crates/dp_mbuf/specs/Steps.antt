@@ -1,4 +1,4 @@
--- The small steps that calls are made of.
+-- Internal, no public contract names it: the small steps that calls are made of.
 use Rattle.std.specs.Prelude.{◌≡◌, ℕ, suc, ◌+◌, ◌^◌, ◌<◌, ◌≤◌, true, false, List, length}
 use Rattle.dp_model.specs.Buffers.{Number, same_number}
 use Rattle.dp_mbuf.specs.declared.limits.TheConstants.{HEADROOM}
