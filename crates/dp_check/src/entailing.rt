@@ -7,7 +7,7 @@ ghost use Rattle.dp_model.specs.Rows.{entails_share, entails_holding, entails_fa
 use dp_model::{Fact, Holding, Row};
 
 /// Whether a share promises all that the other does.
-fn share_entails(share: u8, other: u8) -> bool
+pub(crate) fn share_entails(share: u8, other: u8) -> bool
     ensures { result ≡ entails_share share other }
 {
     other == 0 || share == other || (share == 2 && other == 1)

@@ -1,74 +1,103 @@
 //! What an instruction wants and does not get, for each rule that fails at it.
 
-ghost use Rattle.std.specs.Prelude.{◌≡◌, ℕ, ◌<◌, ◌≤◌, ◌∷◌, [], true, false, not, find, length, Some, IsTrue, IfSome, IfNone, nat_lt, nat_le, slice_get};
+ghost use Rattle.std.specs.Prelude.{◌≡◌, ℕ, ◌+◌, ◌<◌, ◌≤◌, ◌∷◌, [], true, false, not, find, length, Some, IsTrue, IfSome, IfNone, MatchOption, nat_lt, nat_le, slice_get};
 ghost use Rattle.std.specs.List.{list_all};
 ghost use Rattle.std.specs.Option.{option_map};
 ghost use Rattle.dp_model.specs.declared.env.Entry.{Entry};
 ghost use Rattle.dp_model.specs.declared.rule.Rule.TheVariants.{J3, J5, J6, J7, J8, J9, J10};
-ghost use Rattle.dp_model.specs.Rows.{entails, is_empty, is_well_formed_row};
+ghost use Rattle.dp_model.specs.Rows.{entails, entails_share, is_empty, is_well_formed_row};
 ghost use Rattle.dp_model.specs.Rules.{Question, places_exist, is_held, uses, targets_fit, bytes_fit, share_fits, segments_fit, may_leave, may_end};
 ghost use Rattle.dp_model.specs.Rules.{row_passes, holds_at, later_rules};
 ghost use Rattle.dp_cert.specs.declared.cert.Version.{Version};
 ghost use Rattle.dp_check.specs.Faults.{question};
 ghost use Rattle.dp_check.specs.Leads.{last_label, listed};
-ghost use Rattle.dp_check.specs.Diagnoses.{Is, IsUnmet, Says, SomeOf, measured, measured_at, rule_of, segs_in};
+ghost use Rattle.dp_check.specs.Diagnoses.{Is, IsUnmet, Says, SomeOf, measured, measured_at, rule_of, segs_in, share_in};
 
 use crate::after::{Leads, leads_of};
+use crate::entailing::{entails, fact_entails, share_entails};
 use crate::gap::gap;
 use crate::reason::{Measure, Reason};
-use crate::rules::{
-    all_entailed, all_exist, bytes_fit, is_entailed, is_held, may_end, may_leave, places_exist,
-    segments_fit, share_fits, targets_fit, uses_held,
-};
-use dp_model::{Env, Fact, Instr, Lead, PacketRegister, Row};
+use crate::rules::is_held;
+use dp_model::{Env, Fact, Instr, Lead, MOST_SEGMENTS, PacketRegister, Row};
 
-/// The pool, the table or the ring that is not there.
-fn missing_place(env: &Env, instr: Instr) -> Reason
-    requires { places_exist env.now instr ≡ false }
-    ensures rule { rule_of result ≡ J3 }
-    ensures says { (q : Question) → q.env ≡ env.now → (label : ℕ) (row : Row) → Says q label instr row result }
+/// The pool, the table or the ring that is not there, if the instruction names one.
+fn missing_place(env: &Env, instr: Instr) -> Option<Reason>
+    ensures none { IfNone result (places_exist env.now instr ≡ true) }
+    ensures some { IfSome result (λ reason. (places_exist env.now instr ≡ false) × (rule_of reason ≡ J3)) }
+    ensures says { (q : Question) → q.env ≡ env.now → (label : ℕ) (row : Row) → IfSome result (Says q label instr row) }
 {
     match instr {
-        Instr::Alloc { pool, .. } | Instr::Clone { pool, .. } => Reason::NoPool {
-            pool,
-            known: env.pools().len(),
-        },
-        Instr::Lookup { table, .. } => Reason::NoTable {
-            table,
-            known: env.tables(),
-        },
-        Instr::Enq { ring, .. } => Reason::NoRing {
-            ring,
-            known: env.rings().len(),
-        },
-        _ => unreachable!(),
-    }
-}
-
-/// The label behind the last instruction to which control goes.
-fn label_behind(leads: &Leads, count: usize) -> u16
-    requires { list_all (λ to. nat_lt to.to count) (listed leads.now) ≡ false }
-    ensures named { SomeOf (λ lead. lead.to ≡ result) (listed leads.now) }
-    ensures behind { count ≤ result }
-{
-    match leads {
-        Leads::Ends => unreachable!(),
-        Leads::One(lead) => lead.to,
-        Leads::Two(lead, other) => {
-            if (lead.to as usize) < count {
-                other.to
+        Instr::Alloc { pool, .. } | Instr::Clone { pool, .. } => {
+            let known = env.pools().len();
+            if (pool as usize) < known {
+                None
             } else {
-                lead.to
+                Some(Reason::NoPool { pool, known })
             }
         }
+        Instr::Lookup { table, .. } => {
+            let known = env.tables();
+            if table < known {
+                None
+            } else {
+                Some(Reason::NoTable { table, known })
+            }
+        }
+        Instr::Enq { ring, .. } => {
+            let known = env.rings().len();
+            if (ring as usize) < known {
+                None
+            } else {
+                Some(Reason::NoRing { ring, known })
+            }
+        }
+        _ => None,
     }
 }
 
-/// The packet register that is used and empty.
-fn empty_use(row: &Row, instr: Instr) -> PacketRegister
-    requires { list_all (is_held row.now) (uses instr) ≡ false }
-    ensures used { SomeOf (λ used. used ≡ result) (uses instr) }
-    ensures empty { is_held row.now result ≡ false }
+/// Where this leads, if that is behind the last instruction.
+fn behind(lead: &Lead, count: usize) -> Option<u16>
+    ensures { MatchOption result (lead.now.to < count) (λ to. (to ≡ lead.now.to) × (count ≤ to)) }
+{
+    if (lead.to as usize) < count {
+        None
+    } else {
+        Some(lead.to)
+    }
+}
+
+/// The label behind the last instruction to which control goes, if it goes there.
+fn label_behind(leads: &Leads, count: usize) -> Option<u16>
+    ensures none { IfNone result (list_all (λ to. nat_lt to.to count) (listed leads.now) ≡ true) }
+    ensures some { IfSome result (λ to. (list_all (λ to. nat_lt to.to count) (listed leads.now) ≡ false)
+        × SomeOf (λ lead. lead.to ≡ to) (listed leads.now) × (count ≤ to)) }
+{
+    match leads {
+        Leads::Ends => None,
+        Leads::One(lead) => behind(lead, count),
+        Leads::Two(lead, other) => match behind(lead, count) {
+            Some(to) => Some(to),
+            None => behind(other, count),
+        },
+    }
+}
+
+/// The packet register, if it is empty.
+fn not_held(row: &Row, packet: PacketRegister) -> Option<PacketRegister>
+    ensures { MatchOption result (is_held row.now packet ≡ true) (λ p. (p ≡ packet) × (is_held row.now packet ≡ false)) }
+{
+    if is_held(row, packet) {
+        None
+    } else {
+        Some(packet)
+    }
+}
+
+/// A packet register that is used and empty, if there is one.
+fn empty_use(row: &Row, instr: Instr) -> Option<PacketRegister>
+    ensures none { IfNone result (list_all (is_held row.now) (uses instr) ≡ true) }
+    ensures some { IfSome result (λ p. (list_all (is_held row.now) (uses instr) ≡ false)
+        × SomeOf (λ used. used ≡ p) (uses instr) × (is_held row.now p ≡ false)) }
 {
     match instr {
         Instr::Free { packet }
@@ -85,26 +114,42 @@ fn empty_use(row: &Row, instr: Instr) -> PacketRegister
         | Instr::LoadX { packet, .. }
         | Instr::StoreX { packet, .. }
         | Instr::Tx { packet, .. }
-        | Instr::Enq { packet, .. } => packet,
-        Instr::Clone { from, .. } => from,
-        Instr::Chain { front, back } => { if is_held(row, front) { back } else { front } }
-        _ => unreachable!(),
+        | Instr::Enq { packet, .. } => not_held(row, packet),
+        Instr::Clone { from, .. } => not_held(row, from),
+        Instr::Chain { front, back } => match not_held(row, front) {
+            Some(packet) => Some(packet),
+            None => not_held(row, back),
+        },
+        _ => None,
     }
 }
 
-/// The register that should be empty, or that is chained to itself.
-fn unfit_target(row: &Row, instr: Instr) -> Reason
-    requires { targets_fit row.now instr ≡ false }
-    ensures rule { rule_of result ≡ J5 }
-    ensures says { (q : Question) (label : ℕ) → Says q label instr row.now result }
+/// The register that should be empty, or that is chained to itself, if there is one.
+fn unfit_target(row: &Row, instr: Instr) -> Option<Reason>
+    ensures none { IfNone result (targets_fit row.now instr ≡ true) }
+    ensures some { IfSome result (λ reason. (targets_fit row.now instr ≡ false) × (rule_of reason ≡ J5)) }
+    ensures says { (q : Question) (label : ℕ) → IfSome result (Says q label instr row.now) }
 {
     match instr {
-        Instr::Alloc { into, .. } | Instr::Clone { into, .. } => Reason::NotEmpty {
-            packet: into,
-            known: row.fact(into),
-        },
-        Instr::Chain { front, .. } => Reason::OneRegister { packet: front },
-        _ => unreachable!(),
+        Instr::Alloc { into, .. } | Instr::Clone { into, .. } => {
+            let known = row.fact(into);
+            if known.is_empty() {
+                None
+            } else {
+                Some(Reason::NotEmpty {
+                    packet: into,
+                    known,
+                })
+            }
+        }
+        Instr::Chain { front, back } => {
+            if front.number() == back.number() {
+                Some(Reason::OneRegister { packet: front })
+            } else {
+                None
+            }
+        }
+        _ => None,
     }
 }
 
@@ -129,25 +174,36 @@ fn measured(part: Measure, fact: Fact) -> u16
     }
 }
 
-/// Too little of a part of a packet.
-fn too_little(row: &Row, packet: PacketRegister, part: Measure, start: u64, count: u32) -> Reason
-    ensures { result ≡ Reason.TooLittle packet part (measured_at row.now packet part) start count }
+/// Too little of a part of a packet, if it is too little.
+fn too_little(
+    row: &Row,
+    packet: PacketRegister,
+    part: Measure,
+    start: u64,
+    count: u32,
+) -> Option<Reason>
+    ensures { MatchOption result (start + count ≤ measured_at row.now packet part)
+        (λ reason. (measured_at row.now packet part < start + count) × (reason ≡ Reason.TooLittle packet part (measured_at row.now packet part) start count)) }
 {
-    Reason::TooLittle {
+    let known = measured(part, row.fact(packet));
+    if start <= known as u64 && start + count as u64 <= known as u64 {
+        return None;
+    }
+    Some(Reason::TooLittle {
         packet,
         part,
-        known: measured(part, row.fact(packet)),
+        known,
         start,
         count,
-    }
+    })
 }
 
-/// What is taken and is not there.
-fn unfit_bytes(row: &Row, instr: Instr) -> Reason
+/// What is taken and is not there, if it is not.
+fn unfit_bytes(row: &Row, instr: Instr) -> Option<Reason>
     requires held { list_all (is_held row.now) (uses instr) ≡ true }
-    requires unfit { bytes_fit row.now instr ≡ false }
-    ensures rule { rule_of result ≡ J6 }
-    ensures says { (q : Question) (label : ℕ) → Says q label instr row.now result }
+    ensures none { IfNone result (bytes_fit row.now instr ≡ true) }
+    ensures some { IfSome result (λ reason. (bytes_fit row.now instr ≡ false) × (rule_of reason ≡ J6)) }
+    ensures says { (q : Question) (label : ℕ) → IfSome result (Says q label instr row.now) }
 {
     match instr {
         Instr::Prepend { packet, count } => {
@@ -190,7 +246,7 @@ fn unfit_bytes(row: &Row, instr: Instr) -> Reason
             let count = offset as u32 + width.bytes() as u32;
             too_little(row, packet, Measure::First, row.bound_of(index), count)
         }
-        _ => unreachable!(),
+        _ => None,
     }
 }
 
@@ -204,74 +260,110 @@ fn segs_in(fact: Fact) -> u8
     }
 }
 
-/// The packet that is written though others may have it.
-fn unfit_share(row: &Row, instr: Instr) -> Reason
+/// The share that a fact promises.
+fn share_in(fact: Fact) -> u8
+    ensures { result ≡ share_in fact }
+{
+    match fact {
+        Fact::Held { share, .. } => share,
+        Fact::Empty => 0,
+    }
+}
+
+/// The packet that is written with less than the share that is wanted, if it is less.
+fn not_alone(packet: PacketRegister, known: Fact, wanted: u8) -> Option<Reason>
+    ensures { MatchOption result (entails_share (share_in known) wanted ≡ true)
+        (λ reason. (entails_share (share_in known) wanted ≡ false) × (reason ≡ Reason.NotAlone packet known wanted)) }
+{
+    if share_entails(share_in(known), wanted) {
+        return None;
+    }
+    Some(Reason::NotAlone {
+        packet,
+        known,
+        wanted,
+    })
+}
+
+/// The packet that is written though others may have it, if they may.
+fn unfit_share(row: &Row, instr: Instr) -> Option<Reason>
     requires held { list_all (is_held row.now) (uses instr) ≡ true }
-    requires unfit { share_fits row.now instr ≡ false }
-    ensures rule { rule_of result ≡ J7 }
-    ensures says { (q : Question) (label : ℕ) → Says q label instr row.now result }
+    ensures none { IfNone result (share_fits row.now instr ≡ true) }
+    ensures some { IfSome result (λ reason. (share_fits row.now instr ≡ false) × (rule_of reason ≡ J7)) }
+    ensures says { (q : Question) (label : ℕ) → IfSome result (Says q label instr row.now) }
 {
     match instr {
         Instr::Prepend { packet, .. }
         | Instr::Store { packet, .. }
-        | Instr::StoreX { packet, .. } => Reason::NotAlone {
-            packet,
-            known: row.fact(packet),
-            wanted: 1,
-        },
+        | Instr::StoreX { packet, .. } => not_alone(packet, row.fact(packet), 1),
         Instr::Append { packet, .. } => {
             let known = row.fact(packet);
-            Reason::NotAlone {
-                packet,
-                known,
-                wanted: if segs_in(known) == 1 { 1 } else { 2 },
-            }
+            let wanted = if segs_in(known) == 1 { 1 } else { 2 };
+            not_alone(packet, known, wanted)
         }
-        _ => unreachable!(),
+        _ => None,
     }
 }
 
-/// The packets that are too long together.
-fn unfit_segments(row: &Row, instr: Instr) -> Reason
+/// The packets that are too long together, if they are.
+fn unfit_segments(row: &Row, instr: Instr) -> Option<Reason>
     requires held { list_all (is_held row.now) (uses instr) ≡ true }
-    requires unfit { segments_fit row.now instr ≡ false }
-    ensures rule { rule_of result ≡ J8 }
-    ensures says { (q : Question) (label : ℕ) → Says q label instr row.now result }
+    ensures none { IfNone result (segments_fit row.now instr ≡ true) }
+    ensures some { IfSome result (λ reason. (segments_fit row.now instr ≡ false) × (rule_of reason ≡ J8)) }
+    ensures says { (q : Question) (label : ℕ) → IfSome result (Says q label instr row.now) }
 {
     match instr {
-        Instr::Chain { front, back } => Reason::TooLong {
-            front,
-            back,
-            known: segs_in(row.fact(front)),
-            more: segs_in(row.fact(back)),
-        },
-        _ => unreachable!(),
+        Instr::Chain { front, back } => {
+            let known = segs_in(row.fact(front));
+            let more = segs_in(row.fact(back));
+            if known as u16 + more as u16 <= u16::from(MOST_SEGMENTS) {
+                return None;
+            }
+            Some(Reason::TooLong {
+                front,
+                back,
+                known,
+                more,
+            })
+        }
+        _ => None,
     }
 }
 
-/// The port that is not there, or what the ring declares.
-fn unfit_exit(env: &Env, row: &Row, instr: Instr) -> Reason
+/// The port that is not there, or what the ring declares, if there is less.
+fn unfit_exit(env: &Env, row: &Row, instr: Instr) -> Option<Reason>
     requires places { places_exist env.now instr ≡ true }
-    requires unfit { may_leave env.now row.now instr ≡ false }
-    ensures rule { rule_of result ≡ J9 }
-    ensures says { (q : Question) → q.env ≡ env.now → (label : ℕ) → Says q label instr row.now result }
+    ensures none { IfNone result (may_leave env.now row.now instr ≡ true) }
+    ensures some { IfSome result (λ reason. (may_leave env.now row.now instr ≡ false) × (rule_of reason ≡ J9)) }
+    ensures says { (q : Question) → q.env ≡ env.now → (label : ℕ) → IfSome result (Says q label instr row.now) }
 {
     match instr {
-        Instr::Tx { port, .. } => Reason::NoPort {
-            register: port,
-            known: row.bound_of(port),
-            ports: env.ports().len(),
-        },
-        Instr::Enq { packet, ring, .. } => match env.fact_of_ring(ring) {
-            Some(wanted) => Reason::LessThanRing {
+        Instr::Tx { port, .. } => {
+            let known = row.bound_of(port);
+            let ports = env.ports().len();
+            if known < ports as u64 {
+                return None;
+            }
+            Some(Reason::NoPort {
+                register: port,
+                known,
+                ports,
+            })
+        }
+        Instr::Enq { packet, ring, .. } => {
+            let known = row.fact(packet);
+            let wanted = env.rings()[ring as usize].fact;
+            if fact_entails(known, wanted) {
+                return None;
+            }
+            Some(Reason::LessThanRing {
                 packet,
                 ring,
-                known: row.fact(packet),
+                known,
                 wanted,
-            },
-            None => unreachable!(),
-        },
-        _ => unreachable!(),
+            })
+        }
+        _ => None,
     }
 }
 
@@ -279,7 +371,8 @@ fn unfit_exit(env: &Env, row: &Row, instr: Instr) -> Reason
 #[tactic(auto, using(crate::proofs::GapLemmas::all_drop))]
 fn first_held(facts: &[Fact; 8]) -> Option<PacketRegister>
     ensures none { IfNone result (list_all is_empty facts.now ≡ true) }
-    ensures some { IfSome result (λ p. Is (slice_get facts.now p) (λ fact. is_empty fact ≡ false)) }
+    ensures some { IfSome result (λ p. list_all is_empty facts.now ≡ false) }
+    ensures held { IfSome result (λ p. Is (slice_get facts.now p) (λ fact. is_empty fact ≡ false)) }
 {
     for i in 0..8 {
         if !facts[i].is_empty() {
@@ -289,53 +382,55 @@ fn first_held(facts: &[Fact; 8]) -> Option<PacketRegister>
     None
 }
 
-/// The lead to a row that wants more than is known.
-fn unmet_lead(rows: &[Row], leads: &Leads, count: usize) -> Reason
+/// What the row at a label wants beyond what is known where control goes there, if it wants more.
+fn unmet(rows: &[Row], lead: &Lead) -> Option<Reason>
+    requires exist { lead.now.to < length rows.now }
+    ensures none { IfNone result (row_passes rows.now lead.now.to (entails lead.now.row) ≡ true) }
+    ensures some { IfSome result (λ reason. (row_passes rows.now lead.now.to (entails lead.now.row) ≡ false) × IsUnmet rows.now (lead.now ∷ []) reason) }
+{
+    let there = &rows[lead.to as usize];
+    if entails(&lead.row, there) {
+        return None;
+    }
+    Some(Reason::Successor {
+        to: lead.to,
+        gap: gap(&lead.row, there),
+    })
+}
+
+/// The lead to a row that wants more than is known, if there is one.
+fn unmet_lead(rows: &[Row], leads: &Leads, count: usize) -> Option<Reason>
     requires exist { list_all (λ to. nat_lt to.to count) (listed leads.now) ≡ true }
     requires rows { length rows.now ≡ count }
-    requires unmet { list_all (λ to. row_passes rows.now to.to (entails to.row)) (listed leads.now) ≡ false }
-    ensures { IsUnmet rows.now (listed leads.now) result }
+    ensures none { IfNone result (list_all (λ to. row_passes rows.now to.to (entails to.row)) (listed leads.now) ≡ true) }
+    ensures some { IfSome result (λ reason. (list_all (λ to. row_passes rows.now to.to (entails to.row)) (listed leads.now) ≡ false)
+        × IsUnmet rows.now (listed leads.now) reason) }
 {
     match leads {
-        Leads::Ends => unreachable!(),
+        Leads::Ends => None,
         Leads::One(lead) => unmet(rows, lead),
-        Leads::Two(lead, other) => {
-            if is_entailed(rows, &lead.row, lead.to) {
-                unmet(rows, other)
-            } else {
-                unmet(rows, lead)
-            }
-        }
+        Leads::Two(lead, other) => match unmet(rows, lead) {
+            Some(reason) => Some(reason),
+            None => unmet(rows, other),
+        },
     }
 }
 
-/// What the row at a label wants beyond what is known where control goes there.
-fn unmet(rows: &[Row], lead: &Lead) -> Reason
-    requires exist { lead.now.to < length rows.now }
-    requires unmet { row_passes rows.now lead.now.to (entails lead.now.row) ≡ false }
-    ensures { IsUnmet rows.now (lead.now ∷ []) result }
-{
-    Reason::Successor {
-        to: lead.to,
-        gap: gap(&lead.row, &rows[lead.to as usize]),
-    }
-}
-
-/// The packet that is held at the end.
-fn unfit_end(row: &Row, instr: Instr) -> Reason
-    requires { may_end row.now instr ≡ false }
-    ensures rule { rule_of result ≡ J10 }
-    ensures says { (q : Question) (label : ℕ) → Says q label instr row.now result }
+/// The packet that is held at the end, if one is.
+fn unfit_end(row: &Row, instr: Instr) -> Option<Reason>
+    ensures none { IfNone result (may_end row.now instr ≡ true) }
+    ensures some { IfSome result (λ reason. (may_end row.now instr ≡ false) × (rule_of reason ≡ J10)) }
+    ensures says { (q : Question) (label : ℕ) → IfSome result (Says q label instr row.now) }
 {
     match instr {
-        Instr::Exit => match first_held(&row.facts) {
-            Some(packet) => Reason::LeftOver {
+        Instr::Exit => {
+            let packet = first_held(&row.facts)?;
+            Some(Reason::LeftOver {
                 packet,
                 known: row.fact(packet),
-            },
-            None => unreachable!(),
-        },
-        _ => unreachable!(),
+            })
+        }
+        _ => None,
     }
 }
 
@@ -359,37 +454,32 @@ pub(crate) fn reason_in(
 {
     let ways = leads_of(*instr, env, label, row);
     let count = program.len();
-    if !places_exist(env, *instr) {
-        return Some(missing_place(env, *instr));
+    if let Some(reason) = missing_place(env, *instr) {
+        return Some(reason);
     }
-    if !all_exist(&ways, count) {
-        let to = label_behind(&ways, count);
+    if let Some(to) = label_behind(&ways, count) {
         return Some(Reason::NoInstruction { to, known: count });
     }
-    if !uses_held(row, *instr) {
-        let packet = empty_use(row, *instr);
+    if let Some(packet) = empty_use(row, *instr) {
         return Some(Reason::NotHeld { packet });
     }
-    if !targets_fit(row, *instr) {
-        return Some(unfit_target(row, *instr));
+    if let Some(reason) = unfit_target(row, *instr) {
+        return Some(reason);
     }
-    if !bytes_fit(row, *instr) {
-        return Some(unfit_bytes(row, *instr));
+    if let Some(reason) = unfit_bytes(row, *instr) {
+        return Some(reason);
     }
-    if !share_fits(row, *instr) {
-        return Some(unfit_share(row, *instr));
+    if let Some(reason) = unfit_share(row, *instr) {
+        return Some(reason);
     }
-    if !segments_fit(row, *instr) {
-        return Some(unfit_segments(row, *instr));
+    if let Some(reason) = unfit_segments(row, *instr) {
+        return Some(reason);
     }
-    if !may_leave(env, row, *instr) {
-        return Some(unfit_exit(env, row, *instr));
+    if let Some(reason) = unfit_exit(env, row, *instr) {
+        return Some(reason);
     }
-    if !may_end(row, *instr) {
-        return Some(unfit_end(row, *instr));
+    if let Some(reason) = unfit_end(row, *instr) {
+        return Some(reason);
     }
-    if !all_entailed(rows, &ways) {
-        return Some(unmet_lead(rows, &ways, count));
-    }
-    None
+    unmet_lead(rows, &ways, count)
 }
