@@ -1,34 +1,28 @@
 -- The elements before and behind in the list link to each other.
 use Rattle.std.proofs.Common.{sym, ◌∙◌, arith}
 use Rattle.dp_heap.proofs.Lent.{free_is}
-use Rattle.dp_heap.proofs.Leave.{own, u_header, v_header, long1, left_laid, left_first, left_later}
+use Rattle.dp_heap.proofs.Listing.{Header, header_of}
+use Rattle.dp_heap.proofs.Leave.{u_header, v_header, long1, left_laid, left_first, left_later}
 use Rattle.dp_heap.proofs.lists.Lists.leave.Goals as goal
+use Rattle.dp_heap.proofs.lists.Lists.leave.Goals.{Start}
+
+-- the header of the element that leaves
+own : (c : Start) → Header c.args.region.now c.args.e.now.offset
+own c = let l = c.requires.laid in header_of c.args.region.now l.0 l.1.0 c.args.e.now l.1.1 l.1.2
 
 pub overflow_add-e : goal.overflow_add-e
-overflow_add-e c =
-    let l = c.requires.laid in let most = l.0.0 in let w = c.requires.listed in
-    let o = (own c.args.region.now l.0 l.1.0 c.args.e.now l.1.1 l.1.2 (free_is c.args.e.now c.requires.free) c.args.self.now.heads w.0 w.1 w.2).room in
-    record { fits = omega arith }
+overflow_add-e c = record { fits = omega (arith, (own (goal.at.overflow_add-e c).Start).room, c.requires.laid.0.0) }
 
 pub overflow_add-e-2 : goal.overflow_add-e-2
-overflow_add-e-2 c =
-    let l = c.requires.laid in let most = l.0.0 in let w = c.requires.listed in
-    let o = (own c.args.region.now l.0 l.1.0 c.args.e.now l.1.1 l.1.2 (free_is c.args.e.now c.requires.free) c.args.self.now.heads w.0 w.1 w.2).room in
-    record { fits = omega arith }
+overflow_add-e-2 c = record { fits = omega (arith, (own (goal.at.overflow_add-e-2 c).Start).room, c.requires.laid.0.0) }
 
 pub load_u32-next-requires : goal.load_u32-next-requires
 load_u32-next-requires c =
-    let l = c.requires.laid in let w = c.requires.listed in
-    let o = own c.args.region.now l.0 l.1.0 c.args.e.now l.1.1 l.1.2 (free_is c.args.e.now c.requires.free) c.args.self.now.heads w.0 w.1 w.2 in
-    let room = o.room in
-    (omega arith, λ k p q. o.unlent k (omega arith) (omega arith))
+    let o = own (goal.at.load_u32-next-requires c).Start in let room = o.room in (omega arith, λ k p q. o.unlent k (omega arith) (omega arith))
 
 pub load_u32-before-requires : goal.load_u32-before-requires
 load_u32-before-requires c =
-    let l = c.requires.laid in let w = c.requires.listed in
-    let o = own c.args.region.now l.0 l.1.0 c.args.e.now l.1.1 l.1.2 (free_is c.args.e.now c.requires.free) c.args.self.now.heads w.0 w.1 w.2 in
-    let room = o.room in
-    (omega arith, λ k p q. o.unlent k (omega arith) (omega arith))
+    let o = own (goal.at.load_u32-before-requires c).Start in let room = o.room in (omega arith, λ k p q. o.unlent k (omega arith) (omega arith))
 
 pub write_link-requires : goal.write_link-requires
 write_link-requires c =
