@@ -10,16 +10,11 @@ use Rattle.dp_pipe.specs.declared.running.RunFault.{RunFault}
 use Rattle.dp_pipe.specs.Forwarding.{Input, Went, arrivals_of, capture_at, unit_for, units_of}
 use Rattle.dp_pipe.specs.Headline.{PacketRun, HasNumbers, AreGiven, capture_text, Forwarded}
 use Rattle.dp_pipe.specs.Pipelines.{Plan}
-use Rattle.dp_pipe.specs.Running.{RunAnswers, RanOn, GoesForward, HeadersWritten, IsReportOf}
+use Rattle.dp_pipe.specs.Running.{RunAnswers, RanOn, IsFirst, GoesForward, HeadersWritten, IsReportOf}
 use Rattle.dp_pipe.proofs.Loaded.{few}
 use Rattle.dp_pipe.proofs.Numbers.{numbers_reported}
-use Rattle.dp_pipe.proofs.PacketRuns.{IsReady, IsFirst, run_of, counted_run}
+use Rattle.dp_pipe.proofs.PacketRuns.{IsReady, run_of, counted_run}
 use Rattle.dp_pipe.proofs.Texts.{given_all}
-
--- the engine of a pipeline before its first turn
-pub is_first : (p : Plan) (pattern : List ℕ) (olds news held holds : List (Option (List ℕ))) (answer : Result Report RunFault) →
-    (r : RanOn p pattern olds news held holds answer) → IsFirst p pattern r.first
-is_first p pattern olds news held holds answer r = record { setting = r.setting; nodes = r.nodes; start = r.start; tallies = r.tallies; left = r.left }
 
 -- as many ports as the pipeline has
 pub ports_in : (p : Plan) (pattern : List ℕ) (first : EngineState) → IsFirst p pattern first → length first.setting.env.ports ≡ length p.env.ports
@@ -61,9 +56,9 @@ forwarded p pattern olds news held holds (Ok r) ready ran = go ran.went
     go (inr made) =
         let (inputs, states, went, over) = made.rounds in
         let done = went_on p pattern ran.first ran.last made.unit olds news held made.mids holds inputs ran.progress r ready
-        (is_first p pattern olds news held holds (Ok r) ran) made.mids_many made.headers went states ran.reported in
+        ran.is_first made.mids_many made.headers went states ran.reported in
         record {
-          room = ran.room;
+          room = ran.is_first.room;
           inputs = inputs;
           many = done.many;
           read = went.read;

@@ -17,9 +17,8 @@ use Rattle.dp_engine.specs.Reports.{port_report, IsWhole}
 use Rattle.dp_engine.specs.Tallies.{refused_of}
 use Rattle.dp_pipe.specs.declared.forwarding.Progress.{Progress}
 use Rattle.dp_pipe.specs.Pipelines.{Plan}
-use Rattle.dp_pipe.specs.Running.{IsBegun, IsIdle, IsReportOf, with_states}
+use Rattle.dp_pipe.specs.Running.{IsBegun, IsFirst, IsIdle, IsReportOf, with_states}
 use Rattle.dp_pipe.proofs.Numbers.{left_only}
-use Rattle.dp_pipe.proofs.PacketRuns.{IsFirst}
 
 -- inputs that are open leave the numbers of their ports as they are
 open_ports : (progress : List Progress) (specs : List PortSpec) (most : ℕ) → AllByRecursion IsBegun progress → length specs ≤ most

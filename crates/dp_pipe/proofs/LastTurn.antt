@@ -21,14 +21,14 @@ use Rattle.dp_engine.specs.Tallies.{counted}
 use Rattle.dp_pipe.specs.Forwarding.{Input, FailedAt, AreWritten, DrainsStopped, capture_at, capture_of, drained_at, records_text, tally_of}
 use Rattle.dp_pipe.specs.Headline.{PacketRun, GoesOnBy, WroteFront, capture_text, sent_until}
 use Rattle.dp_pipe.specs.Pipelines.{Plan}
-use Rattle.dp_pipe.specs.Running.{HeadersWritten, setting_in, programs_in}
+use Rattle.dp_pipe.specs.Running.{HeadersWritten, IsFirst, setting_in, programs_in}
 use Rattle.dp_pipe.proofs.Advancing.{joined_here, texts_append}
 use Rattle.dp_pipe.proofs.Indices.{element_at}
 use Rattle.std.proofs.KnownBytes.{Appends-trans}
 use Rattle.dp_pipe.proofs.Forwarded.{split, tallies_other, tallies_same}
 use Rattle.dp_pipe.proofs.Heading.{order}
 use Rattle.dp_pipe.proofs.Numbers.{IsCounted}
-use Rattle.dp_pipe.proofs.PacketRuns.{IsReady, IsFirst, packet_run, ran, run_of, counted_run, rings_there}
+use Rattle.dp_pipe.proofs.PacketRuns.{IsReady, packet_run, ran, run_of, counted_run, rings_there}
 use Rattle.dp_pipe.proofs.Indices.{behind}
 use Rattle.dp_pipe.proofs.RunOn.{counted_sent, outcomes_many, shown_in, tally_more, turn_tally}
 use Rattle.dp_pipe.proofs.Through.{stays_failed}

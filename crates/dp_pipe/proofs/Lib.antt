@@ -33,4 +33,3 @@ pub mod Rounding
 pub mod Through
 pub mod Regions
 pub mod Faring
-pub mod Halting

@@ -19,7 +19,7 @@ use Rattle.dp_engine.specs.Engines.{EngineState, no_tallies, tallies_at}
 use Rattle.dp_pipe.specs.Forwarding.{HasRun, capture_at, capture_of, tally_of}
 use Rattle.dp_pipe.specs.Headline.{PacketRun}
 use Rattle.dp_pipe.specs.Pipelines.{Plan}
-use Rattle.dp_pipe.specs.Running.{setting_in, programs_in}
+use Rattle.dp_pipe.specs.Running.{IsFirst, setting_in, programs_in}
 use Rattle.dp_pipe.proofs.Indices.{element_at}
 use Rattle.dp_pipe.proofs.RunOn.{shown_in}
 use Rattle.dp_pipe.proofs.Numbers.{IsCounted}
@@ -75,14 +75,6 @@ rings_there p pattern arrivals ready run =
     let rest = (safe_runs p pattern arrivals run.first ready run.start).rests
     (record { told = run.told; outcomes = run.outcomes; captures = run.captures }) run.last run.run in
     zip_length _ p.env.rings run.last.rings rest.ready.world.rings
-
--- an engine before its first turn
-pub record IsFirst (p : Plan) (pattern : List ℕ) (first : EngineState) : Type 0 where
-  pub setting : first.setting ≡ setting_in p pattern
-  pub nodes : first.nodes ≡ programs_in p
-  pub start : IsStart p.env first.world
-  pub tallies : first.tallies ≡ replicate 8 no_tallies
-  pub left : first.left ≡ replicate 8 0
 
 pub ran : (p : Plan) (pattern : List ℕ) (first last : EngineState) (arrivals : List (Arrival Time)) (captures : List (List (Time × List ℕ))) →
     IsFirst p pattern first → (r : HasRun first last arrivals captures)

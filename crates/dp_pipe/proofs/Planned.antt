@@ -99,18 +99,13 @@ all_checked env nodes h k q at = go (order k (length env.ports))
     go (inl less) = (h.ports k q less at).checked
     go (inr most) = (h.rings (k - length env.ports) q (ap (slice_get nodes) (omega (arith, most)) ∙ at)).checked
 
-is_ready : (p : Plan) (pattern : List ℕ) → fault_of p.env ≡ None → IsPlan p →
-    ((k : ℕ) (t : RouteTable) → slice_get p.tables k ≡ Some t → AllByRecursion (λ (route : Route). route.hop ≤ 16777215) t.routes) → AreLaws →
-    IsReady p pattern
-is_ready p pattern limits plan hops laws =
-    let engine = plan_of p.env p.tables p.nodes pattern limits (are_nodes p.env p.nodes plan.nodes) plan.tables (all_checked p.env p.nodes plan.nodes) hops in
-    record { limits = limits; pipeline = engine.pipeline; tables = engine.tables_fit; laws = laws }
-
--- the same of its parts
-pub is_ready_in : (p : Plan) (pattern : List ℕ) (env : Environment) (tables told : List RouteTable) → env ≡ p.env → tables ≡ p.tables → told ≡ tables →
-    fault_of env ≡ None → IsPlan p
-    → ((k : ℕ) (t : RouteTable) → slice_get told k ≡ Some t → AllByRecursion (λ (route : Route). route.hop ≤ 16777215) t.routes) → AreLaws → IsReady p pattern
-is_ready_in p pattern env tables told env_is tables_are told_are limits plan hops laws =
-    is_ready p pattern (subst (λ e. fault_of e ≡ None) env_is limits) plan
+-- as its environment and its tables are shown
+pub is_ready : (p : Plan) (pattern : List ℕ) (env : Environment) (tables : List RouteTable) → env ≡ p.env → tables ≡ p.tables → fault_of env ≡ None →
+    IsPlan p
+    → ((k : ℕ) (t : RouteTable) → slice_get tables k ≡ Some t → AllByRecursion (λ (route : Route). route.hop ≤ 16777215) t.routes) → AreLaws → IsReady p pattern
+is_ready p pattern env tables env_is tables_are limits plan hops laws =
+    let within = subst (λ e. fault_of e ≡ None) env_is limits in
+    let engine = plan_of p.env p.tables p.nodes pattern within (are_nodes p.env p.nodes plan.nodes) plan.tables (all_checked p.env p.nodes plan.nodes)
     (subst (λ (l : List RouteTable). (k : ℕ) (t : RouteTable) → slice_get l k ≡ Some t →
-    AllByRecursion (λ (route : Route). route.hop ≤ 16777215) t.routes) (told_are ∙ tables_are) hops) laws
+    AllByRecursion (λ (route : Route). route.hop ≤ 16777215) t.routes) tables_are hops) in
+    record { limits = within; pipeline = engine.pipeline; tables = engine.tables_fit; laws = laws }

@@ -1,5 +1,5 @@
 -- What an open engine did before a fault is what is promised of a run that stopped.
-use Rattle.std.proofs.Common.{◌≡◌, ℕ, ◌+◌, ◌<◌, ◌≤◌, ◌⊎◌, inl, inr, List, [], ◌∷◌, length, map, Option, Result, Ok, Err, refl, sym, ◌∙◌, ap, subst, arith}
+use Rattle.std.proofs.Common.{◌≡◌, ℕ, ◌+◌, ◌<◌, ◌⊎◌, inl, inr, List, [], ◌∷◌, length, map, Option, Result, Ok, Err, refl, sym, ◌∙◌, ap, subst, arith}
 use Rattle.std.specs.Prelude.{⊤, IfErr, ◌↔◌}
 use Rattle.std.specs.List.{AllByRecursion}
 use Rattle.std.specs.Io.KnownBytes.{Appends}
@@ -17,13 +17,13 @@ use Rattle.dp_pipe.specs.declared.running.RunFault.{RunFault}
 use Rattle.dp_pipe.specs.Forwarding.{Input, FailedAt, capture_at}
 use Rattle.dp_pipe.specs.Headline.{StoppedWriting, StoppedBy, WroteFront, capture_text}
 use Rattle.dp_pipe.specs.Pipelines.{Plan}
-use Rattle.dp_pipe.specs.Running.{RunAnswers, RanOn, GoesForward, HeadersWritten, IsBegun, IsIdle, IsUnopened, IsReportOf, all_begun, begun, answer_of}
-use Rattle.dp_pipe.proofs.Headline.{is_first, ports_in, went_on}
+use Rattle.dp_pipe.specs.Running.{RunAnswers, RanOn, IsFirst, GoesForward, HeadersWritten, IsBegun, IsIdle, IsUnopened, IsReportOf, all_begun, begun, answer_of}
+use Rattle.dp_pipe.proofs.Headline.{ports_in, went_on}
 use Rattle.dp_pipe.proofs.Idle.{idle_reported}
 use Rattle.dp_pipe.proofs.LastTurn.{records_long, captures_long, earlier, through, goes_on_by, own_sent, counted_failed, given_ahead, given_own, given_behind}
 use Rattle.dp_pipe.proofs.Loaded.{few}
 use Rattle.dp_pipe.proofs.Numbers.{numbers_reported}
-use Rattle.dp_pipe.proofs.PacketRuns.{IsReady, IsFirst}
+use Rattle.dp_pipe.proofs.PacketRuns.{IsReady}
 use Rattle.dp_pipe.proofs.Through.{not_before}
 
 -- an input of which no record was read
@@ -35,11 +35,11 @@ none_read (x ∷ progress) begun = ((refl, begun.0.state), none_read progress be
 -- a writer failed behind a turn
 stopped_writing : (p : Plan) (pattern : List ℕ) (first last : EngineState) (unit : TimeUnit) (olds news held hdr holds : List (Option (List ℕ)))
     (inputs : List Input) (progress : List Progress) (port : ℕ) (r : Report)
-    → IsReady p pattern → IsFirst p pattern first → bytes_needed p.env ≤ p.region → length held ≡ length p.env.ports → length hdr ≡ length held →
+    → IsReady p pattern → IsFirst p pattern first → length held ≡ length p.env.ports → length hdr ≡ length held →
     HeadersWritten unit held hdr → FailedAt unit first last olds news hdr holds inputs port
     → map (λ (i : Input). i.state) inputs ≡ map (λ (x : Progress). x.state) progress → IsReportOf last progress r →
     StoppedWriting p pattern olds news held holds port r
-stopped_writing p pattern first last unit olds news held hdr holds inputs progress port r ready is room held_many many headers f states reported =
+stopped_writing p pattern first last unit olds news held hdr holds inputs progress port r ready is held_many many headers f states reported =
     let (few_ports, few_rings, few_tables) = few p.env ready.limits in
     let ports = ports_in p pattern first is in
     let before = earlier p pattern first last unit olds news hdr holds inputs port ready is f few_ports in
@@ -48,7 +48,7 @@ stopped_writing p pattern first last unit olds news held hdr holds inputs progre
     let new_long : length (records_at f.last.time f.behind.world) ≡ length held =
     records_long p pattern first last unit olds news hdr holds inputs port ready is f few_ports ∙ sym held_many in
     record {
-      room = room;
+      room = is.room;
       inputs = inputs;
       many = f.inputs_many ∙ ports;
       read = f.read;
@@ -83,32 +83,41 @@ stopped_writing p pattern first last unit olds news held hdr holds inputs progre
 
 stopped_by : (p : Plan) (pattern : List ℕ) (first last : EngineState) (olds news held holds : List (Option (List ℕ))) (progress : List Progress)
     (cause : RunCause) (r : Report)
-    → IsReady p pattern → IsAscending 0 pattern → IsFirst p pattern first → bytes_needed p.env ≤ p.region → length held ≡ length p.env.ports →
+    → IsReady p pattern → IsAscending 0 pattern → IsFirst p pattern first → length held ≡ length p.env.ports →
     GoesForward first last olds news held holds progress (Err cause) → IsReportOf last progress r
     → StoppedBy p pattern olds news held holds cause r
-stopped_by p pattern first last olds news held holds progress Memory r ready ascends is room many (inl fails) reported = absurd fails
-stopped_by p pattern first last olds news held holds progress Memory r ready ascends is room many (inr made) reported = absurd made.rounds
-stopped_by p pattern first last olds news held holds progress NoRoom r ready ascends is room many (inl fails) reported = absurd fails
-stopped_by p pattern first last olds news held holds progress NoRoom r ready ascends is room many (inr made) reported = absurd made.rounds
-stopped_by p pattern first last olds news held holds progress (In port error) r ready ascends is room many (inl (fault, kept, begun, same)) reported =
+stopped_by p pattern first last olds news held holds progress Memory r ready ascends is many (inl fails) reported = absurd fails
+stopped_by p pattern first last olds news held holds progress Memory r ready ascends is many (inr made) reported = absurd made.rounds
+stopped_by p pattern first last olds news held holds progress NoRoom r ready ascends is many (inl fails) reported = absurd fails
+stopped_by p pattern first last olds news held holds progress NoRoom r ready ascends is many (inr made) reported = absurd made.rounds
+stopped_by p pattern first last olds news held holds progress (In port error) r ready ascends is many (inl (fault, kept, begun, same)) reported =
     let (few_ports, few_rings, few_tables) = few p.env ready.limits in
     inl (record {
-      room = room;
+      room = is.room;
       fault = fault;
       kept = kept;
       idle = idle_reported p pattern first progress r is ascends few_ports few_rings begun
           (subst (λ (e : EngineState). IsReportOf e progress r) same reported);
     })
-stopped_by p pattern first last olds news held holds progress (In port error) r ready ascends is room many (inr made) reported =
+stopped_by p pattern first last olds news held holds progress (In port error) r ready ascends is many (inr made) reported =
     let (inputs, states, went, fault) = made.rounds in
     let done = went_on p pattern first last made.unit olds news held made.mids holds inputs progress r ready is made.mids_many made.headers went states
     reported in
-    inr (record { room = room; inputs = inputs; many = done.many; read = went.read; fault = fault; run = done.run; wrote = done.wrote; numbers = done.numbers })
-stopped_by p pattern first last olds news held holds progress (Out port) r ready ascends is room many (inl (begun_many, read, stopped, begun_all, same))
+    inr (record {
+      room = is.room;
+      inputs = inputs;
+      many = done.many;
+      read = went.read;
+      fault = fault;
+      run = done.run;
+      wrote = done.wrote;
+      numbers = done.numbers;
+    })
+stopped_by p pattern first last olds news held holds progress (Out port) r ready ascends is many (inl (begun_many, read, stopped, begun_all, same))
     reported =
     let (few_ports, few_rings, few_tables) = few p.env ready.limits in
     inl (record {
-      room = room;
+      room = is.room;
       inputs = all_begun progress;
       many = length-map progress begun ∙ begun_many ∙ ports_in p pattern first is;
       read = read;
@@ -117,9 +126,9 @@ stopped_by p pattern first last olds news held holds progress (Out port) r ready
       idle = idle_reported p pattern first progress r is ascends few_ports few_rings begun_all
           (subst (λ (e : EngineState). IsReportOf e progress r) same reported);
     })
-stopped_by p pattern first last olds news held holds progress (Out port) r ready ascends is room many (inr made) reported =
+stopped_by p pattern first last olds news held holds progress (Out port) r ready ascends is many (inr made) reported =
     let (inputs, states, failed) = made.rounds in
-    inr (stopped_writing p pattern first last made.unit olds news held made.mids holds inputs progress port r ready is room many made.mids_many made.headers
+    inr (stopped_writing p pattern first last made.unit olds news held made.mids holds inputs progress port r ready is many made.mids_many made.headers
     failed states reported)
 
 pub stopped_so : (p : Plan) (pattern : List ℕ) (olds news held holds : List (Option (List ℕ))) (answer : Result Report RunFault) → IsReady p pattern →
@@ -128,7 +137,7 @@ pub stopped_so : (p : Plan) (pattern : List ℕ) (olds news held holds : List (O
 stopped_so p pattern olds news held holds (Ok r) ready ascends many ran = tt
 stopped_so p pattern olds news held holds (Err fault) ready ascends many ran =
     stopped_by p pattern ran.first ran.last olds news held holds ran.progress fault.cause fault.report ready ascends
-    (is_first p pattern olds news held holds (Err fault) ran) ran.room many ran.went ran.reported
+    ran.is_first many ran.went ran.reported
 
 -- no engine was opened
 pub unopened_so : (p : Plan) (pattern : List ℕ) (olds news held holds : List (Option (List ℕ))) (cause : RunCause) (r : Report) → IsUnopened p cause →
@@ -163,7 +172,7 @@ no_room_so p pattern olds news held holds answer (inl ran) =
     inr (
       λ e. absurd (not_before ran.first ran.last olds news held holds ran.progress NoRoom
           (subst (GoesForward ran.first ran.last olds news held holds ran.progress) e ran.went) (inr refl)),
-      λ less. absurd (omega (arith, less, ran.room)),
+      λ less. absurd (omega (arith, less, ran.is_first.room)),
     )
 no_room_so p pattern olds news held holds (Ok r) (inr unopened) = absurd unopened
 no_room_so p pattern olds news held holds (Err fault) (inr (why, idle)) = no_room_by p fault.cause why

@@ -155,17 +155,21 @@ answer_of (Err fault) = Err fault.cause
 
 -- ---- what is answered
 
--- A run of a pipeline that came to an open engine: the engine before its first turn, in a world in which no packet is, the engine
--- behind the last turn, how far each input was read, and the report.
-pub record RanOn (p : Plan) (pattern : List ℕ) (olds news held holds : List (Option (List ℕ))) (answer : Result Report RunFault) : Type 0 where
+-- an engine of a pipeline that was opened, before its first turn: in its world no packet is
+pub record IsFirst (p : Plan) (pattern : List ℕ) (first : EngineState) : Type 0 where
   pub room : bytes_needed p.env ≤ p.region
-  pub first : EngineState
   pub setting : first.setting ≡ setting_in p pattern
   pub nodes : first.nodes ≡ programs_in p
   pub start : starts.IsStart p.env first.world
   pub turns : first.turns ≡ 0
   pub tallies : first.tallies ≡ replicate 8 no_tallies
   pub left : first.left ≡ replicate 8 0
+
+-- A run of a pipeline that came to an open engine: the engine before its first turn and behind the last one, how far each input
+-- was read, and the report.
+pub record RanOn (p : Plan) (pattern : List ℕ) (olds news held holds : List (Option (List ℕ))) (answer : Result Report RunFault) : Type 0 where
+  pub first : EngineState
+  pub is_first : IsFirst p pattern first
   pub last : EngineState
   pub progress : List Progress
   pub went : GoesForward first last olds news held holds progress (answer_of answer)

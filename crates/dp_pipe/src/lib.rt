@@ -11,6 +11,7 @@ mod keys;
 mod listed;
 mod loading;
 mod nodes;
+mod opening;
 mod parts;
 mod pipeline;
 mod reader;

@@ -97,6 +97,13 @@ impl Pipeline {
         self.region
     }
 
+    /// Its tables of routes.
+    pub(crate) fn tables(&self) -> &[Lpm]
+        ensures { result.now ≡ self.now.tables }
+    {
+        self.tables.as_slice()
+    }
+
     /// How many ports it has, 1 to 8.
     pub fn ports(&self) -> usize
         ensures { result ≡ length self.now.env.ports }

@@ -18,14 +18,14 @@ ghost use Rattle.dp_pipe.specs.Headline.{Forwarded, StoppedBy};
 ghost use Rattle.dp_pipe.specs.Running as spec;
 
 use crate::forwarding::{Progress, RunCause, rounds};
+use crate::opening::opened;
 use crate::pipeline::Pipeline;
 use arrayvec::ArrayVec;
 use dp_copies::clones_are_copies;
-use dp_engine::{Engine, InputState, OpenFault, PoolReport, PortReport, Report};
+use dp_engine::{Engine, InputState, PoolReport, PortReport, Report};
 use dp_lpm::Lpm;
 use dp_model::{Env, PoolSpec, PortSpec, RingSpec, runs_keep_safe};
 use dp_pcap::{Feed, LARGEST_RECORD, Sink, Time, Unit, put_header, read_header};
-use dp_region::Region;
 use std::alloc::Global;
 
 /// A run that stopped.
@@ -244,22 +244,49 @@ fn idle_rings(specs: &[RingSpec]) -> ArrayVec<u64, 8>
     rings
 }
 
-// A run that stopped before its engine was opened.
-fn unopened(cause: RunCause, env: &Env) -> RunFault
-    ensures cause { result.cause ≡ cause }
-    ensures idle { spec.IsIdle env.now result.report }
+// The report of a run that reads nothing.
+fn idle_report(env: &Env) -> Report
+    ensures { spec.IsIdle env.now result }
 {
     env.within_limits();
-    RunFault {
-        cause,
-        report: Report {
-            ports: idle_ports(env.ports()),
-            rings: idle_rings(env.rings()),
-            pools: free_pools(env.pools()),
-            calls: 0,
-            refused: 0,
-            cut: 0,
-        },
+    Report {
+        ports: idle_ports(env.ports()),
+        rings: idle_rings(env.rings()),
+        pools: free_pools(env.pools()),
+        calls: 0,
+        refused: 0,
+        cut: 0,
+    }
+}
+
+// Opens the engine of a pipeline, and runs it to its end.
+fn answer<R: Feed, W: Sink>(
+    alloc: Global,
+    pipeline: Pipeline,
+    ins: &mut [R],
+    outs: &mut [W],
+    pattern: Vec<u64>,
+) -> Result<Report, RunFault>
+    requires readers { length ins.old ≡ length pipeline.env.ports }
+    requires writers { length outs.old ≡ length pipeline.env.ports }
+    requires pattern { IsAscending 0 pattern.items }
+    ensures answers { spec.RunAnswers pipeline pattern.items (map R.remaining ins.old) (map R.remaining ins.new) (map W.contents outs.old)
+        (map W.contents outs.new) result }
+    ensures free { spec.AllFree pipeline.env result }
+    ensures untouched { IfErr result (λ f. (f.cause ≡ RunCause.Memory) ⊎ (f.cause ≡ RunCause.NoRoom) → (ins.new ≡ ins.old) × (outs.new ≡ outs.old)) }
+    ensures sound { IsOk result → AllSound R.is_broken ins.new × AllSound W.is_broken outs.new }
+    ensures fared_readers { AllFared R.is_broken R.failures (failed_reader (spec.answer_of result)) ins.old ins.new }
+    ensures fared_writers { AllFared W.is_broken W.failures (failed_writer (spec.answer_of result)) outs.old outs.new }
+{
+    let idle = idle_report(pipeline.env());
+    match opened(alloc, pipeline, pattern) {
+        Ok((engine, mut inputs, mut buf)) => {
+            run_through(engine, &mut inputs, ins, outs, buf.as_mut_slice())
+        }
+        Err(cause) => Err(RunFault {
+            cause,
+            report: idle,
+        }),
     }
 }
 
@@ -317,34 +344,10 @@ pub fn run<R: Feed, W: Sink>(
     ensures fared_readers { AllFared R.is_broken R.failures (failed_reader (spec.answer_of result)) ins.old ins.new }
     ensures fared_writers { AllFared W.is_broken W.failures (failed_writer (spec.answer_of result)) outs.old outs.new }
 {
-    let Ok(mut inputs) = Vec::with_capacity(alloc, 8) else {
-        return Err(unopened(RunCause::Memory, pipeline.env()));
-    };
-    let Ok(mut buf) = vec![in alloc; 0u8; LARGEST_RECORD] else {
-        return Err(unopened(RunCause::Memory, pipeline.env()));
-    };
-    let Ok(region) = Region::new(alloc, pipeline.region()) else {
-        return Err(unopened(RunCause::Memory, pipeline.env()));
-    };
-    let (env, tables, nodes) = pipeline.into_parts();
-    env.within_limits();
-    hops_are_small(tables.as_slice());
+    pipeline.env().within_limits();
+    hops_are_small(pipeline.tables());
     // The laws of such runs.
     runs_keep_safe::<Time>();
     clones_are_copies::<Time>();
-    match Engine::open(region, &env, tables, nodes) {
-        Ok(mut engine) => {
-            engine.refuse(pattern);
-            run_through(engine, &mut inputs, ins, outs, buf.as_mut_slice())
-        }
-        Err(fault) => {
-            let OpenFault {
-                region,
-                tables: _,
-                nodes: _,
-            } = fault;
-            region.close();
-            Err(unopened(RunCause::NoRoom, &env))
-        }
-    }
+    answer(alloc, pipeline, ins, outs, pattern)
 }

@@ -7,11 +7,11 @@ ghost use Rattle.dp_engine.specs.Needs.{bytes_needed};
 ghost use Rattle.dp_pipe.specs.Tracing.{IsOfInput, one_if_some};
 
 use crate::forwarding::{MOST_TURNS, Progress, ROUNDS, RunCause, is_open};
+use crate::opening::opened;
 use crate::pipeline::Pipeline;
 use crate::running::read_headers;
-use dp_engine::{Engine, InputState, OpenFault, Turn, View, Watch};
+use dp_engine::{Engine, InputState, Turn, View, Watch};
 use dp_pcap::{Feed, LARGEST_RECORD, Next, OfWrite, PcapError, Time, Unit, next_record};
-use dp_region::Region;
 use std::alloc::Global;
 use std::io;
 
@@ -187,40 +187,16 @@ pub fn trace<R: Feed, T: Tracer>(
     ensures no_room { (result ≡ Err RunCause.Memory) ⊎ ((result ≡ Err RunCause.NoRoom) ↔ (pipeline.region < bytes_needed pipeline.env)) }
     ensures untouched { IfErr result (λ cause. (cause ≡ RunCause.Memory) ⊎ (cause ≡ RunCause.NoRoom) → (ins.new ≡ ins.old) × (tracer.new ≡ tracer.old)) }
 {
-    let Ok(mut inputs) = Vec::with_capacity(alloc, 8) else {
-        return Err(RunCause::Memory);
-    };
-    let Ok(mut buf) = vec![in alloc; 0u8; LARGEST_RECORD] else {
-        return Err(RunCause::Memory);
-    };
-    let Ok(region) = Region::new(alloc, pipeline.region()) else {
-        return Err(RunCause::Memory);
-    };
-    let (env, tables, nodes) = pipeline.into_parts();
-    env.within_limits();
-    match Engine::open(region, &env, tables, nodes) {
-        Ok(mut engine) => {
-            engine.refuse(pattern);
-            let outcome = trace_records(
-                &mut engine,
-                &mut inputs,
-                ins,
-                buf.as_mut_slice(),
-                which,
-                tracer,
-            );
-            let (_report, region) = engine.finish();
-            region.close();
-            outcome
-        }
-        Err(fault) => {
-            let OpenFault {
-                region,
-                tables: _,
-                nodes: _,
-            } = fault;
-            region.close();
-            Err(RunCause::NoRoom)
-        }
-    }
+    let (mut engine, mut inputs, mut buf) = opened(alloc, pipeline, pattern)?;
+    let outcome = trace_records(
+        &mut engine,
+        &mut inputs,
+        ins,
+        buf.as_mut_slice(),
+        which,
+        tracer,
+    );
+    let (_report, region) = engine.finish();
+    region.close();
+    outcome
 }

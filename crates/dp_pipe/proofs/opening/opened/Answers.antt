@@ -1,0 +1,53 @@
+-- `opened`: the engine that was opened is that of the pipeline.
+use Rattle.std.proofs.Common.{◌≡◌, ◌∙◌, ◌≤◌, sym, ap, subst, arith, length}
+use Rattle.std.proofs.lemmas.List.{length-replicate}
+use Rattle.dp_model.specs.Machine.{Setting}
+use Rattle.dp_model.specs.Starts.{IsStart}
+use Rattle.dp_engine.specs.Engines.{EngineState}
+use Rattle.dp_engine.specs.Needs.{bytes_needed}
+use Rattle.dp_engine.specs.Schemes.{nodes_of}
+use Rattle.dp_engine.specs.Steps.{setting_of}
+use Rattle.dp_pipe.proofs.Loaded.{few}
+use Rattle.dp_pipe.proofs.Planned.{are_nodes}
+use Rattle.dp_pipe.proofs.opening.opened.Goals as goal
+use Rattle.dp_pipe.proofs.opening.opened.Goals.{After-refuse}
+
+-- what it rests on, by the parts of the pipeline
+setting : (c : After-refuse) → c.refuse.new.self.setting ≡ setting_of c.into_parts-env.result.0 c.into_parts-env.result.1.items c.args.pattern.items
+setting c =
+    ap (λ (x : EngineState). x.setting) c.refuse.ensures
+    ∙ ap (λ (x : Setting). record x { pattern = c.args.pattern.items }) c.in-Ok-open.ensures.opened.setting
+
+pub open-requires-clause-nodes : goal.open-requires-clause-nodes
+open-requires-clause-nodes c = rw (c.into_parts-env.ensures.env, c.into_parts-env.ensures.nodes)
+    (are_nodes c.args.pipeline.env c.args.pipeline.nodes c.into_parts-env.ensures.plan.nodes)
+
+pub returns-in-Ok-open-clause-engine : goal.returns-in-Ok-open-clause-engine
+returns-in-Ok-open-clause-engine c =
+    let opened = c.in-Ok-open.ensures.opened in
+    let parts = c.into_parts-env.ensures in
+    record {
+      room = subst (λ n. bytes_needed c.args.pipeline.env ≤ n) (ap length c.in-Ok-new.ensures.0 ∙ length-replicate c.region.result 0 ∙ c.region.ensures.same)
+          (subst (λ e. bytes_needed e ≤ length c.in-Ok-new.region.bytes) parts.env c.in-Ok-open.ensures.room);
+      setting = setting (goal.at.returns-in-Ok-open-clause-engine c).After-refuse
+          ∙ ap (λ e. setting_of e c.into_parts-env.result.1.items c.args.pattern.items) parts.env
+          ∙ ap (λ t. setting_of c.args.pipeline.env t c.args.pattern.items) parts.tables;
+      nodes = ap (λ (x : EngineState). x.nodes) c.refuse.ensures ∙ opened.nodes ∙ ap (λ e. nodes_of e c.into_parts-env.result.2.items) parts.env
+          ∙ ap (λ q. nodes_of c.args.pipeline.env q) parts.nodes;
+      start = subst (λ e. IsStart e c.refuse.new.self.world) parts.env
+          (subst (IsStart c.into_parts-env.result.0) (sym (ap (λ (x : EngineState). x.world) c.refuse.ensures)) opened.start);
+      turns = ap (λ (x : EngineState). x.turns) c.refuse.ensures ∙ opened.turns;
+      tallies = ap (λ (x : EngineState). x.tallies) c.refuse.ensures ∙ opened.tallies;
+      left = ap (λ (x : EngineState). x.left) c.refuse.ensures ∙ opened.left;
+    }
+
+pub returns-in-Ok-open-clause-few : goal.returns-in-Ok-open-clause-few
+returns-in-Ok-open-clause-few c =
+    let same = ap (λ (x : Setting). length x.env.ports) (setting (goal.at.returns-in-Ok-open-clause-few c).After-refuse) in
+    omega (arith, same, (few c.into_parts-env.result.0 c.within_limits.ensures).0)
+
+pub returns-in-Ok-open-clause-none : goal.returns-in-Ok-open-clause-none
+returns-in-Ok-open-clause-none c = (c.in-Ok.ensures.items, c.in-Ok.ensures.len)
+
+pub returns-in-Ok-open-clause-room : goal.returns-in-Ok-open-clause-room
+returns-in-Ok-open-clause-room c = c.in-Ok.ensures.capacity
