@@ -12,7 +12,7 @@ use Rattle.dp_pcap.specs.Capture.{PacketRecord}
 use Rattle.dp_pcap.specs.Text.{record_text}
 use Rattle.dp_model.specs.Machine.{World}
 use Rattle.dp_model.specs.Runs.{records_at, joined, interleaved}
-use Rattle.dp_model.specs.Laws.Lists.{get_set_other}
+use Rattle.dp_model.specs.Laws.Lists.{get_set_other, get_within}
 use Rattle.dp_engine.specs.declared.report.InputState.{InputState}
 use Rattle.dp_engine.specs.declared.report.InputState.TheVariants.{Open, Whole, Cut}
 use Rattle.dp_engine.specs.Drains.{captured}
@@ -21,7 +21,7 @@ use Rattle.dp_pipe.specs.Forwarding.{drained_at}
 use Rattle.dp_pipe.proofs.Forwarded.{split}
 use Rattle.dp_pipe.proofs.Interleaving.{AreFew, interleaved_more}
 use Rattle.dp_pipe.proofs.RunOn.{arrival}
-use Rattle.dp_pipe.proofs.Indices.{element_at, set_itself}
+use Rattle.dp_pipe.proofs.Indices.{set_itself}
 use Rattle.std.proofs.KnownBytes.{Appends-trans}
 
 -- ---- what was written
@@ -53,7 +53,7 @@ pub wrote_more : (unit : TimeUnit) (time : Time) (w : World) (n : ℕ) (captures
     → AreWritten unit held holds (capture_at (joined captures (records_at time w)))
 wrote_more unit time w n captures held mids holds long boxes many mid_many before now q old new a b =
     let q_in : q < n = omega (arith, slice_get_within held q old a, many) in
-    let (mid, m) = element_at mids q (omega (arith, q_in, mid_many)) in
+    let (mid, m) = get_within mids q (omega (arith, q_in, mid_many)) in
     let (x, y, was, is, both) = joined_here captures (records_at time w) q (omega (arith, q_in, long)) (omega (arith, q_in, boxes)) in
     let first : Appends old mid (records_text unit (capture_of x)) = rw was at (before q old mid a m) in
     let second : Appends mid new (records_text unit (capture_of y)) = rw (lt-ltb q n q_in, is) at (now q mid new m b) in

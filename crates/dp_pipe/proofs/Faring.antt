@@ -2,9 +2,9 @@
 use Rattle.std.proofs.Common.{◌≡◌, ◌≢◌, ◌⊎◌, inl, inr, ◌↔◌, ℕ, ◌+◌, ◌<◌, ◌≤◌, ◌||◌, List, Option, Some, Bool, true, false, Result, Ok, Err, length, refl, ap}
 use Rattle.std.proofs.Common.{sym, ◌∙◌, subst, arith}
 use Rattle.std.specs.Prelude.{slice_get, slice_set, ◌==◌, if◌then◌else◌, IsTrue, IsOk, IsErrOf}
-use Rattle.std.proofs.lemmas.Bool.{eq-eqb, ne_eqb}
-use Rattle.std.proofs.lemmas.Option.{same_Some, slice_get_within}
-use Rattle.dp_model.specs.Laws.Lists.{get_set_other}
+use Rattle.std.proofs.lemmas.Bool.{eq-eqb, ne_eqb, cases_lt}
+use Rattle.std.proofs.lemmas.Option.{same_Some, slice_get_within, slice_get-get_or}
+use Rattle.dp_model.specs.Laws.Lists.{get_set_other, each_at}
 use Rattle.dp_pcap.specs.declared.error.PcapError.{PcapError}
 use Rattle.dp_pcap.specs.declared.error.PcapError.TheVariants.{Read}
 use Rattle.dp_pcap.specs.declared.time.Unit.{Unit as TimeUnit}
@@ -14,7 +14,7 @@ use Rattle.dp_pipe.specs.declared.forwarding.RunCause.TheVariants.{Memory, NoRoo
 use Rattle.dp_pipe.specs.Devices.{Fared, AllFared, FaredAlone, AllSound, is_read_of, is_write_of, failed_reader, failed_writer}
 use Rattle.dp_pipe.specs.Running.{IsHeaderCause, IsWriteCause}
 use Rattle.dp_pipe.proofs.Forwarded.{split}
-use Rattle.dp_pipe.proofs.Heading.{Changed, there_is, all_at, each_of, order, is_same, new_of}
+use Rattle.dp_pipe.proofs.Heading.{Changed, each_of, is_same, new_of}
 
 -- ---- one device
 
@@ -69,7 +69,7 @@ all_same is_broken failures failed ds none q d d' here there =
 pub all_then : {D : Type 0} (is_broken : D → Bool) (failures : D → ℕ) (failed : ℕ → Bool) (olds mids news : List D) → length mids ≡ length olds
     → AllFared is_broken failures (λ q. false) olds mids → AllFared is_broken failures failed mids news → AllFared is_broken failures failed olds news
 all_then is_broken failures failed olds mids news many first next q d d' here there =
-    let at = there_is mids q d (omega (arith, many, slice_get_within olds q d here)) in
+    let at = slice_get-get_or mids q d (omega (arith, many, slice_get_within olds q d here)) in
     fared_then is_broken failures (failed q) d _ d' (first q d _ here at) (next q _ d' at there)
 
 -- one of them was called
@@ -96,7 +96,7 @@ one_then is_broken failures failed n olds ds w w' many first at own others =
 -- none of them fails in a pass over the first so many
 pub all_well : {D : Type 0} (is_broken : D → Bool) (failures : D → ℕ) (R : D → D → Type 0) (n : ℕ) (olds news : List D) → Changed R n olds news
     → ((d d' : D) → R d d' → Fared is_broken failures false d d') → AllFared is_broken failures (λ q. false) olds news
-all_well is_broken failures R n olds news c well q d d' here there = go (order q n)
+all_well is_broken failures R n olds news c well q d d' here there = go (cases_lt q n)
   where
     go : (q < n) ⊎ (n ≤ q) → Fared is_broken failures false d d'
     go (inl below) = well d d' (c.done q d d' below here there)
@@ -106,8 +106,8 @@ all_well is_broken failures R n olds news c well q d d' here there = go (order q
 pub still_sound : {D : Type 0} (is_broken : D → Bool) (failures : D → ℕ) (olds news : List D) → length news ≡ length olds
     → AllFared is_broken failures (λ q. false) olds news → AllSound is_broken olds → AllSound is_broken news
 still_sound is_broken failures olds news many fared sound = each_of (λ d. is_broken d ≡ false) news (λ q d there.
-    let here = there_is olds q d (omega (arith, many, slice_get_within news q d there)) in
-    (fared q _ d here there).broken ∙ all_at (λ x. is_broken x ≡ false) olds q _ sound here)
+    let here = slice_get-get_or olds q d (omega (arith, many, slice_get_within news q d there)) in
+    (fared q _ d here there).broken ∙ each_at (λ x. is_broken x ≡ false) olds q _ sound here)
 
 -- one reader was called behind others that did not fail, or each was, and this was answered
 pub reader_then : {D A : Type 0} (is_broken : D → Bool) (failures : D → ℕ) (answer given : Result A RunCause) (n : ℕ) (olds ds : List D) (d d' : D) →

@@ -7,20 +7,20 @@ use Rattle.std.specs.List.{AllByRecursion}
 use Rattle.std.specs.Prelude.{Result, Ok, Err, IfOk, IfErr, is_err}
 use Rattle.std.specs.Option.{option_map_or}
 use Rattle.std.proofs.lemmas.Bool.{lt-ltb, le-ltb, ltb-true, ltb-false}
-use Rattle.std.proofs.lemmas.List.{length-map}
+use Rattle.std.proofs.lemmas.List.{length-map, length-set}
 use Rattle.std.proofs.lemmas.Option.{slice_get-map, same_Some, slice_get_within}
+use Rattle.std.proofs.KnownBytes.{Appends-trans}
 use Rattle.dp_pcap.specs.declared.time.Time.{Time}
 use Rattle.dp_pcap.specs.declared.time.Unit.{Unit as TimeUnit}
 use Rattle.dp_pcap.specs.Text.{record_text}
 use Rattle.dp_model.specs.Packets.{Packet, packet_bytes}
 use Rattle.dp_model.specs.Machine.{World}
 use Rattle.dp_model.specs.Runs.{records_at}
-use Rattle.dp_model.specs.Laws.Lists.{get_set_other, get_set_same}
+use Rattle.dp_model.specs.Laws.Lists.{get_set_other, get_set_same, get_within}
 use Rattle.dp_engine.specs.declared.report.Tallies.{Tallies}
 use Rattle.dp_engine.specs.Drains.{captured, WrotePart}
 use Rattle.dp_engine.specs.Engines.{EngineState, tallies_at, drained}
 use Rattle.dp_pipe.specs.Forwarding.{capture_of, records_text, drained_at, emptied, DrainedFirst, DrainsStopped}
-use Rattle.dp_pipe.proofs.Indices.{element_at, length_set}
 
 pub emptied_all : (lists : List (List Packet)) → emptied (length lists) lists ≡ map (λ _. []) lists
 emptied_all [] = refl
@@ -43,12 +43,6 @@ pub records_same : (time : Time) (w : World) (n : ℕ) → slice_get (records_at
 records_same time w n =
     let f : List Packet → List (Time × List ℕ) = λ packets. map (λ bytes. (time, bytes)) (map (packet_bytes w.buffers) packets) in
     slice_get-map f (emptied n w.outboxes) n ∙ ap (option_map f) (emptied_same n w.outboxes) ∙ sym (slice_get-map f w.outboxes n)
-
-appends_on : (a b c : Option (List ℕ)) (xs : List ℕ) → Appends a b [] → Appends b c xs → Appends a c xs
-appends_on None b c xs first next = tt
-appends_on (Some a) None c xs first next = absurd first
-appends_on (Some a) (Some b) None xs first next = absurd next
-appends_on (Some a) (Some b) (Some c) xs first next = next ∙ ap (λ l. l ++ xs) (first ∙ append-nil a)
 
 -- an index of a list is another one, or it is this one
 pub split : (q n : ℕ) → (q ≡ n) ⊎ (q ≢ n)
@@ -141,7 +135,7 @@ drained_next n unit time e e1 e2 held mids holds lt many first next =
     record {
       wrote = λ q old new a b. wrote q old new a b (split q n) here;
       is = drained_stays n unit time e e1 e2 held mids holds first next;
-      each = ap (λ (x : EngineState). length x.tallies) next.is ∙ length_set e1.tallies n
+      each = ap (λ (x : EngineState). length x.tallies) next.is ∙ length-set e1.tallies n
           (record (tallies_at e1.tallies n) { sent = (tallies_at e1.tallies n).sent + length next.records }) ∙ first.each;
       tallies = λ q less. tallied q less (split q n) count;
     }
@@ -155,9 +149,9 @@ drained_next n unit time e e1 e2 held mids holds lt many first next =
     wrote q old new a b (inl same) here =
         let a' : slice_get held n ≡ Some old = ap (slice_get held) (sym same) ∙ a in
         let b' : slice_get holds n ≡ Some new = ap (slice_get holds) (sym same) ∙ b in
-        let (mid, m) = element_at mids n (omega (arith, slice_get_within held n old a', many)) in
+        let (mid, m) = get_within mids n (omega (arith, slice_get_within held n old a', many)) in
         let before : Appends old mid [] = rw (not_below n) at (first.wrote n old mid a' m) in
-        let after : Appends old new (records_text unit (drained_at time e.world n)) = rw here (appends_on old mid new _ before (next.own mid new m b')) in
+        let after : Appends old new (records_text unit (drained_at time e.world n)) = rw here (Appends-trans old mid new [] _ before (next.own mid new m b')) in
         subst (λ x. Appends old new (if nat_lt x (suc n) then records_text unit (drained_at time e.world x) else [])) (sym same) (rw (below_next n) after)
 
     tallied : (q : ℕ) → q < length e.setting.env.ports → (q ≡ n) ⊎ (q ≢ n) → length (drained_at time e.world n) ≡ length next.records
@@ -196,11 +190,6 @@ pub all_set : {A : Type 0} (P : A → Type 0) (xs : List A) (i : ℕ) (x : A) �
 all_set P [] i x all is = tt
 all_set P (y ∷ xs) zero x (first, rest) is = (is, rest)
 all_set P (y ∷ xs) (suc i) x (first, rest) is = (first, all_set P xs i x rest is)
-
-pub all_at : {A : Type 0} (P : A → Type 0) (xs : List A) (i : ℕ) (x : A) → AllByRecursion P xs → slice_get xs i ≡ Some x → P x
-all_at P [] i x all e = cc
-all_at P (y ∷ xs) zero x (first, rest) e = subst P (same_Some y x e) first
-all_at P (y ∷ xs) (suc i) x (first, rest) e = all_at P xs i x rest e
 
 pub ok_some : {A E : Type 0} (r : Result A E) (P : A → Type 0) → false ≡ is_err r → IfOk r P → (x : A) × (r ≡ Ok x) × P x
 ok_some (Ok x) P e h = (x, refl, h)
@@ -261,5 +250,5 @@ stopped f n unit time e e1 e2 outs mids w w' whole records there first here at w
           next_is = wrote.next_is;
           bytes = wrote.bytes;
           part = wrote.part;
-          wrote = appends_on old (f w) (f w') _ before wrote.wrote;
+          wrote = Appends-trans old (f w) (f w') [] _ before wrote.wrote;
         })

@@ -3,7 +3,7 @@ use Rattle.std.proofs.Common.{◌*◌, ◌≡◌, ℕ, zero, suc, ◌+◌, ◌<�
 use Rattle.std.proofs.Common.{Result, Ok, Err, refl, sym, ◌∙◌, ap, subst, arith}
 use Rattle.std.specs.Prelude.{slice_get, slice_set, if◌then◌else◌}
 use Rattle.std.proofs.lemmas.Bool.{le-ltb}
-use Rattle.std.proofs.lemmas.List.{length-append, length-map}
+use Rattle.std.proofs.lemmas.List.{length-append, length-map, length-set}
 use Rattle.std.proofs.lemmas.Option.{same_Some}
 use Rattle.dp_pcap.specs.declared.time.Time.{Time}
 use Rattle.dp_pcap.specs.declared.time.Unit.{Unit as TimeUnit}
@@ -23,7 +23,6 @@ use Rattle.dp_engine.specs.Engines.{EngineState}
 use Rattle.dp_pipe.specs.declared.forwarding.Progress.{Progress}
 use Rattle.dp_pipe.specs.Forwarding.{Input, HasReadSo, Stands, ReadsTurn, TakesTurn, DrainedAll, DrainedFirst, Follows}
 use Rattle.dp_pipe.specs.Forwarding.{Advances, Along, AnswersSo, asked, arrivals_of, HasRun, records_many, unit_for}
-use Rattle.dp_pipe.proofs.Indices.{length_set}
 use Rattle.dp_pipe.proofs.RunOn.{run_on, arrival}
 use Rattle.dp_pipe.proofs.Advancing.{with_record, ended, arrivals_more, arrivals_ended, order_next, wrote_more, joined_many}
 use Rattle.dp_pipe.proofs.Units.{units_set}
@@ -126,7 +125,7 @@ module _ (unit : TimeUnit) (e0 e : EngineState) (olds news held mids : List (Opt
       record {
         first = along.first;
         held_many = along.held_many;
-        inputs_many = length_set inputs port i' ∙ along.inputs_many;
+        inputs_many = length-set inputs port i' ∙ along.inputs_many;
         unit_is = along.unit_is ∙ ap unit_for (sym (units_set inputs port i i' i_here refl));
         total = ap length (arrivals_more inputs round port i r along.order i_here i_open)
             ∙ length-append (arrivals_of inputs) (arrival port time (take len buf) ∷ [])
@@ -154,7 +153,7 @@ module _ (unit : TimeUnit) (e0 e : EngineState) (olds news held mids : List (Opt
   ended_on state closed more moved is = record {
     first = along.first;
     held_many = along.held_many;
-    inputs_many = length_set inputs port (ended state i) ∙ along.inputs_many;
+    inputs_many = length-set inputs port (ended state i) ∙ along.inputs_many;
     unit_is = along.unit_is ∙ ap unit_for (sym (units_set inputs port i (ended state i) i_here refl));
     total = ap length (arrivals_ended inputs port i state i_here) ∙ along.total ∙ sym (many_ended inputs port i state i_here);
     stand = all_stand olds news progress inputs port p' (ended state i) b along.stand (stands_ended p p' i state i_stands is moved closed) (λ old at.

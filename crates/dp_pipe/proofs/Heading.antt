@@ -2,14 +2,15 @@
 use Rattle.std.proofs.Common.{◌≡◌, ◌⊎◌, inl, inr, ℕ, zero, suc, ◌+◌, ◌<◌, ◌≤◌, List, [], ◌∷◌, ◌++◌, Option, Some, None, Bool, false, length, map, take}
 use Rattle.std.proofs.Common.{refl, ap, sym, ◌∙◌, subst, arith}
 use Rattle.std.specs.Prelude.{slice_get, slice_set, slice_index_or}
-use Rattle.std.proofs.lemmas.List.{length-map, length-append}
-use Rattle.std.proofs.lemmas.Option.{same_Some, slice_get_within}
-use Rattle.dp_model.specs.Laws.Lists.{get_set_other, get_set_same}
+use Rattle.std.proofs.lemmas.List.{length-map, length-append, length-set}
+use Rattle.std.proofs.lemmas.Option.{same_Some, slice_get_within, slice_get-get_or}
+use Rattle.dp_model.specs.Laws.Lists.{get_set_other, get_set_same, each_at}
 use Rattle.dp_pipe.proofs.Forwarded.{split}
 use Rattle.std.specs.List.{list_any, AllByRecursion}
 use Rattle.std.specs.Io.KnownBytes.{Appends, Keeps}
 use Rattle.dp_pcap.specs.declared.time.Unit.{Unit as TimeUnit}
 use Rattle.std.specs.Prelude.{Err}
+use Rattle.std.proofs.KnownBytes.{Keeps-refl}
 use Rattle.dp_pcap.specs.declared.error.PcapError.{PcapError}
 use Rattle.dp_pcap.specs.Source.{WhereKnown, HasRead, HeaderAnswers}
 use Rattle.dp_pcap.specs.Text.{header_text, AppendsPart}
@@ -19,18 +20,11 @@ use Rattle.dp_pipe.specs.declared.forwarding.Progress.{Progress}
 use Rattle.dp_pipe.specs.Devices.{Fared}
 use Rattle.dp_pipe.specs.Forwarding.{is_nano, units_of, Stands, IsGoingOn, AllStand, HasReadSo, AreRead, Gives, BeginsAs}
 use Rattle.dp_pipe.specs.Running.{all_begun, with_states, HeadersStopped, HasHeaderFault, IsBegun, begun}
-use Rattle.dp_pipe.proofs.Indices.{length_set}
 
 -- an input has nanoseconds where its source has
 pub any_nano : (inputs : List Progress) → list_any is_nano (units_of (all_begun inputs)) ≡ list_any (λ (p : Progress). is_nano p.source.unit) inputs
 any_nano [] = refl
 any_nano (p ∷ inputs) = rw (any_nano inputs) refl
-
--- an element that is there
-pub there_is : {A : Type 0} (xs : List A) (k : ℕ) (d : A) → k < length xs → slice_get xs k ≡ Some (slice_index_or xs k d)
-there_is [] k d l = absurd (omega (arith, l))
-there_is (x ∷ xs) zero d l = refl
-there_is (x ∷ xs) (suc k) d l = there_is xs k d (omega (arith, l))
 
 abbrev pub states_of : List Progress → List InputState
 states_of inputs = map (λ (p : Progress). p.state) inputs
@@ -64,16 +58,6 @@ pub no_place : {W A : Type 0} (f : W → A) (q : ℕ) (a : A) → slice_get (map
 no_place f zero a e = cc
 no_place f (suc q) a e = cc
 
--- which of two numbers is less
-pub order : (a b : ℕ) → (a < b) ⊎ (b ≤ a)
-order a zero = inr (omega arith)
-order zero (suc b) = inl (omega arith)
-order (suc a) (suc b) = go (order a b)
-  where
-    go : (a < b) ⊎ (b ≤ a) → (suc a < suc b) ⊎ (suc b ≤ suc a)
-    go (inl l) = inl (omega (arith, l))
-    go (inr l) = inr (omega (arith, l))
-
 -- the known bytes of a device, where the list of those of all has them
 pub told_at : {W A : Type 0} (f : W → A) (xs : List W) (q : ℕ) (a : A) → slice_get (map f xs) q ≡ Some a → (w : W) × (slice_get xs q ≡ Some w) × (a ≡ f w)
 told_at f [] zero a e = absurd (no_place f zero a e)
@@ -88,7 +72,7 @@ changed_none R olds = record { many = refl; done = λ q w w' l e e'. absurd (ome
 pub changed_more : {W : Type 0} (R : W → W → Type 0) (n : ℕ) (olds news : List W) (w w' : W) → Changed R n olds news
     → slice_get news n ≡ Some w → R w w' → Changed R (n + 1) olds (slice_set news n w')
 changed_more {W} R n olds news w w' c there is = record {
-  many = length_set news n w' ∙ c.many;
+  many = length-set news n w' ∙ c.many;
   done = done;
   rest = λ q l. get_set_other news n q w' (λ e. absurd (omega (arith, l, e))) ∙ c.rest q (omega (arith, l));
 }
@@ -137,7 +121,7 @@ new_all {W = W} R P n olds news c e implies = each_of P news each
     each : (q : ℕ) (w : W) → slice_get news q ≡ Some w → P w
     each q w there =
         let within : q < length olds = omega (arith, slice_get_within news q w there, c.many) in
-        implies _ w (c.done q (slice_index_or olds q w) w (omega (arith, within, e)) (there_is olds q w within) there)
+        implies _ w (c.done q (slice_index_or olds q w) w (omega (arith, within, e)) (slice_get-get_or olds q w within) there)
 
 -- where a device is changed another way, those before it were changed so
 pub before_of : {W : Type 0} (R : W → W → Type 0) (n : ℕ) (olds news : List W) (u : W) → Changed R n olds news
@@ -160,13 +144,8 @@ behind_of R n olds news u c q x x' l here there =
 
 -- ---- writers
 
--- what is held is kept where a writer is what it was
-pub keeps_it : (a : Option (List ℕ)) → Keeps a a
-keeps_it None = tt
-keeps_it (Some bytes) = refl
-
 pub kept_same : {W : Type 0} (contents : W → Option (List ℕ)) (w w' : W) → w' ≡ w → Keeps (contents w) (contents w')
-kept_same {W = W} contents w w' e = subst (λ (x : W). Keeps (contents w) (contents x)) (sym e) (keeps_it (contents w))
+kept_same {W = W} contents w w' e = subst (λ (x : W). Keeps (contents w) (contents x)) (sym e) (Keeps-refl (contents w))
 
 -- the header of a writer was written in part
 pub headers_stopped : {W : Type 0} (contents : W → Option (List ℕ)) (R : W → W → Type 0) (unit : TimeUnit) (n : ℕ) (olds news : List W) (w u : W) →
@@ -210,11 +189,6 @@ get_front (z ∷ xs) y (suc q) x e = go (get_front xs y q x e)
 pub each_more : {A : Type 0} (P : A → Type 0) (xs : List A) (y : A) → AllByRecursion P xs → P y → AllByRecursion P (xs ++ y ∷ [])
 each_more P [] y all is = (is, tt)
 each_more P (x ∷ xs) y (first, all) is = (first, each_more P xs y all is)
-
-pub all_at : {A : Type 0} (P : A → Type 0) (xs : List A) (q : ℕ) (x : A) → AllByRecursion P xs → slice_get xs q ≡ Some x → P x
-all_at {A = A} P [] q x all e = absurd (no_place {W = A} (λ (z : A). z) q x e)
-all_at P (y ∷ xs) zero x (first, all) e = subst P (same_Some _ _ e) first
-all_at P (y ∷ xs) (suc q) x (first, all) e = all_at P xs q x all e
 
 -- no header was read yet
 pub read_none : {R : Type 0} (remaining : R → Option (List ℕ)) (failures : R → ℕ) (is_broken : R → Bool) (olds : List R) →
@@ -268,10 +242,10 @@ all_stand {R = R} remaining failures is_broken n olds news inputs c = record {
   many = sym (length-map inputs begun);
   each = λ q p i at at'. let (w, there, is) = told_at begun inputs q i at' in
       let same : w ≡ p = same_Some w p (sym there ∙ at) in
-      rw (is, same) (stand_begun p (all_at IsBegun inputs q p c.begun at));
+      rw (is, same) (stand_begun p (each_at IsBegun inputs q p c.begun at));
   read = λ q p i old new at at' here there. let (w, there_w, is) = told_at begun inputs q i at' in
       let same : w ≡ p = same_Some w p (sym there_w ∙ at) in
-      let is_open = (all_at IsBegun inputs q p c.begun at).state in
+      let is_open = (each_at IsBegun inputs q p c.begun at).state in
       in_told remaining (λ a a'. WhereKnown a a' (λ bytes rest. HasReadSo i.state p.source i.records bytes rest)) olds news q
       (λ x x' here_x there_x. rw (is, same, is_open) (c.read q p x x' at here_x there_x)) old new here there;
 }
@@ -282,7 +256,7 @@ pub read_begun : {R : Type 0} (remaining : R → Option (List ℕ)) (failures : 
     → ReadFirst remaining failures is_broken n olds news inputs → AreRead (map remaining olds) (map remaining (slice_set news n u)) (all_begun inputs)
 read_begun {R = R} remaining failures is_broken n olds news inputs u c q i old new at here there =
     let (p, there_p, is) = told_at begun inputs q i at in
-    let is_open = (all_at IsBegun inputs q p c.begun there_p).state in
+    let is_open = (each_at IsBegun inputs q p c.begun there_p).state in
     let below : q < n = omega (arith, slice_get_within inputs q p there_p, c.many) in
     in_told remaining (λ a a'. WhereKnown a a' (λ bytes rest. Gives i.state i.unit i.records bytes)) olds (slice_set news n u) q
     (λ x x' here_x there_x. rw (is, is_open) (known_begun p (remaining x) (remaining x')

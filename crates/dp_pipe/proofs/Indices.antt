@@ -11,16 +11,6 @@ use Rattle.dp_pipe.specs.Nodes.{Node, numbered, node_of}
 
 -- ---- what is there, and what is set
 
-pub element_at : {A : Type 0} (xs : List A) (q : ℕ) → q < length xs → (x : A) × (slice_get xs q ≡ Some x)
-element_at [] q less = absurd (omega (arith, less))
-element_at (x ∷ xs) zero less = (x, refl)
-element_at (x ∷ xs) (suc q) less = element_at xs q (omega (arith, less))
-
-pub length_set : {A : Type 0} (xs : List A) (i : ℕ) (x : A) → length (slice_set xs i x) ≡ length xs
-length_set [] i x = refl
-length_set (y ∷ xs) zero x = refl
-length_set (y ∷ xs) (suc i) x = ap suc (length_set xs i x)
-
 pub set_here : {A : Type 0} (xs : List A) (n : ℕ) (x y : A) → slice_get (slice_set xs n x) n ≡ Some y → x ≡ y
 set_here [] n x y e = cc
 set_here (z ∷ xs) zero x y e = same_Some x y e

@@ -4,8 +4,8 @@ use Rattle.std.proofs.Common.{sym, ◌∙◌, ap, subst, arith, append-nil, zero
 use Rattle.std.specs.Prelude.{slice_get, nat_lt, ◌==◌, if◌then◌else◌}
 use Rattle.std.specs.Option.{option_map_or}
 use Rattle.std.specs.Io.KnownBytes.{Appends}
-use Rattle.std.proofs.lemmas.Bool.{lt-ltb, le-ltb, eq-eqb, ne_eqb}
-use Rattle.std.proofs.lemmas.List.{length-append, length-map, map-append, append_assoc}
+use Rattle.std.proofs.lemmas.Bool.{lt-ltb, le-ltb, eq-eqb, ne_eqb, cases_lt}
+use Rattle.std.proofs.lemmas.List.{length-append, length-map, map-append, append_assoc, length-set}
 use Rattle.std.proofs.lemmas.Option.{slice_get_within}
 use Rattle.dp_pcap.specs.declared.time.Time.{Time}
 use Rattle.dp_pcap.specs.declared.time.Unit.{Unit as TimeUnit}
@@ -23,16 +23,14 @@ use Rattle.dp_pipe.specs.Headline.{PacketRun, GoesOnBy, WroteFront, capture_text
 use Rattle.dp_pipe.specs.Pipelines.{Plan}
 use Rattle.dp_pipe.specs.Running.{HeadersWritten, IsFirst, setting_in, programs_in}
 use Rattle.dp_pipe.proofs.Advancing.{joined_here, texts_append}
-use Rattle.dp_pipe.proofs.Indices.{element_at}
 use Rattle.std.proofs.KnownBytes.{Appends-trans}
+use Rattle.dp_model.specs.Laws.Lists.{get_within}
 use Rattle.dp_pipe.proofs.Forwarded.{split, tallies_other, tallies_same}
-use Rattle.dp_pipe.proofs.Heading.{order}
 use Rattle.dp_pipe.proofs.Numbers.{IsCounted}
 use Rattle.dp_pipe.proofs.PacketRuns.{IsReady, packet_run, ran, run_of, counted_run, rings_there}
 use Rattle.dp_pipe.proofs.Indices.{behind}
 use Rattle.dp_pipe.proofs.RunOn.{counted_sent, outcomes_many, shown_in, tally_more, turn_tally}
 use Rattle.dp_pipe.proofs.Through.{stays_failed}
-use Rattle.dp_pipe.proofs.Indices.{length_set}
 
 -- ---- captures with one more
 
@@ -64,8 +62,8 @@ given_before : (unit : TimeUnit) (captures : List (List (Time × List ℕ))) (he
     × Appends old mid (text unit (capture_at captures q))
 given_before unit captures held hdr mids many mids_many headers wrote q old here =
     let within = slice_get_within held q old here in
-    let (h, at_h) = element_at hdr q (omega (arith, within, many)) in
-    let (m, at_m) = element_at mids q (omega (arith, within, many, mids_many)) in
+    let (h, at_h) = get_within hdr q (omega (arith, within, many)) in
+    let (m, at_m) = get_within mids q (omega (arith, within, many, mids_many)) in
     (m, at_m, Appends-trans old h m (header_text unit) (records_text unit (capture_at captures q)) (headers q old h here at_h) (wrote q h m at_h at_m))
 
 module _ (unit : TimeUnit) (captures : List (List (Time × List ℕ))) (time : Time) (e e' : EngineState) (held hdr mids holds : List (Option (List ℕ))) (port : ℕ)
@@ -157,7 +155,7 @@ drained_tally q port whole tallies less = go (split q port)
 sent_is : (q port own : ℕ) (before all : List (List (Time × List ℕ))) (newest : ℕ) (whole : ℕ) → length (capture_at all q)
     ≡ length (capture_at before q) + newest → own ≡ length (capture_at before port) + whole
     → length (capture_at before q) + (if nat_lt q port then newest else 0) + (if q == port then whole else 0) ≡ sent_until port own all before q
-sent_is q port own before all newest whole long mine = go (split q port) (order q port)
+sent_is q port own before all newest whole long mine = go (split q port) (cases_lt q port)
   where
     go : (q ≡ port) ⊎ (q ≢ port) → (q < port) ⊎ (port ≤ q) → length (capture_at before q) + (if nat_lt q port then newest else 0)
         + (if q == port then whole else 0) ≡ sent_until port own all before q
@@ -268,7 +266,7 @@ module _ (p : Plan) (pattern : List ℕ) (first last : EngineState) (unit : Time
     where
       many_behind : length f.behind.tallies ≡ length f.engine.tallies
       many_behind = ap (λ (e : EngineState). length e.tallies) f.turn.is
-          ∙ length_set f.engine.tallies f.last.port (counted f.turn.outcome (tallies_at f.engine.tallies f.last.port))
+          ∙ length-set f.engine.tallies f.last.port (counted f.turn.outcome (tallies_at f.engine.tallies f.last.port))
 
   pub counted_failed : IsCounted p pattern (f.before ++ f.last ∷ []) through last (sent_until port own_sent through.captures f.captures)
   counted_failed =

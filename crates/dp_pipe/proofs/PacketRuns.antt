@@ -4,6 +4,7 @@ use Rattle.std.specs.Prelude.{slice_get}
 use Rattle.std.specs.Option.{option_map_or}
 use Rattle.std.specs.List.{AllZip}
 use Rattle.std.proofs.lemmas.List.{length-map}
+use Rattle.dp_model.specs.Laws.Lists.{get_within}
 use Rattle.dp_pcap.specs.declared.time.Time.{Time}
 use Rattle.dp_model.specs.Environments.{fault_of}
 use Rattle.dp_model.specs.Machine.{Setting, World}
@@ -20,7 +21,6 @@ use Rattle.dp_pipe.specs.Forwarding.{HasRun, capture_at, capture_of, tally_of}
 use Rattle.dp_pipe.specs.Headline.{PacketRun}
 use Rattle.dp_pipe.specs.Pipelines.{Plan}
 use Rattle.dp_pipe.specs.Running.{IsFirst, setting_in, programs_in}
-use Rattle.dp_pipe.proofs.Indices.{element_at}
 use Rattle.dp_pipe.proofs.RunOn.{shown_in}
 use Rattle.dp_pipe.proofs.Numbers.{IsCounted}
 
@@ -111,7 +111,7 @@ counted_run p pattern first last arrivals captures ready is r many = record {
   setting = ap (λ (e : EngineState). e.setting) r.stays ∙ is.setting;
   tallies_many = r.each ∙ ap length is.tallies;
   tallies = λ q less.
-      let (sent, at) = element_at captures q (omega (arith, less, many)) in
+      let (sent, at) = get_within captures q (omega (arith, less, many)) in
       r.tallies q sent at
       ∙ ap (λ (t : Tallies). record (tally_of q arrivals r.outcomes t) { sent = t.sent + length sent }) (none_at first.tallies q is.tallies)
       ∙ ap (λ n. record (tally_of q arrivals r.outcomes no_tallies) { sent = n }) (zero-add (length sent) ∙ sym (sent_many captures q sent at));

@@ -9,10 +9,10 @@ use Rattle.dp_model.specs.Environments.{Environment, fault_of}
 use Rattle.dp_model.specs.Prefixes.{Route}
 use Rattle.dp_model.specs.Rules.{Question}
 use Rattle.std.specs.List.{AllByRecursion}
+use Rattle.std.proofs.lemmas.Bool.{cases_lt}
 use Rattle.dp_lpm.specs.Routes.{RouteTable}
 use Rattle.dp_check.specs.Faults.{IsChecked}
 use Rattle.dp_engine.specs.Laws.{plan_of}
-use Rattle.dp_pipe.proofs.Heading.{order}
 use Rattle.dp_pipe.proofs.PacketRuns.{IsReady, AreLaws}
 use Rattle.dp_pipe.specs.declared.nodes.How.{How}
 use Rattle.dp_pipe.specs.Setup.{NodeFiles}
@@ -93,7 +93,7 @@ are_nodes env nodes h = record {
 
 -- each of its programs is checked
 all_checked : (env : Environment) (nodes : List Question) → HasNodes env nodes → (k : ℕ) (q : Question) → slice_get nodes k ≡ Some q → IsChecked q
-all_checked env nodes h k q at = go (order k (length env.ports))
+all_checked env nodes h k q at = go (cases_lt k (length env.ports))
   where
     go : (k < length env.ports) ⊎ (length env.ports ≤ k) → IsChecked q
     go (inl less) = (h.ports k q less at).checked

@@ -4,8 +4,9 @@ use Rattle.std.proofs.Common.{sym, ◌∙◌, ap, subst, arith, ◌⊎◌, inl, 
 use Rattle.std.specs.Prelude.{slice_get, slice_set, ⊤, if◌then◌else◌}
 use Rattle.std.specs.List.{AllByRecursion}
 use Rattle.std.proofs.lemmas.Bool.{le-ltb}
-use Rattle.std.proofs.lemmas.List.{length-map}
+use Rattle.std.proofs.lemmas.List.{length-map, map-set}
 use Rattle.std.proofs.lemmas.Option.{slice_get_within}
+use Rattle.dp_model.specs.Laws.Lists.{get_within}
 use Rattle.dp_pcap.specs.declared.time.Unit.{Unit as TimeUnit}
 use Rattle.dp_engine.specs.declared.report.InputState.{InputState}
 use Rattle.dp_engine.specs.declared.report.InputState.TheVariants.{Open, Whole, Cut}
@@ -18,7 +19,7 @@ use Rattle.dp_pipe.proofs.Advancing.{order_ended, order_round}
 use Rattle.dp_pipe.proofs.Stepping.{input_at, open_going}
 use Rattle.dp_pipe.proofs.GoingOn.{goes_on, many_least}
 use Rattle.dp_pipe.proofs.Stopping.{stops_at, states_same, are_read}
-use Rattle.dp_pipe.proofs.Indices.{element_at, set_itself}
+use Rattle.dp_pipe.proofs.Indices.{set_itself}
 
 -- open or ended
 decide : (state : InputState) → (state ≡ Open) ⊎ (state ≡ Open → ⊥)
@@ -47,15 +48,10 @@ module _ (unit : TimeUnit) (e0 e : EngineState) (olds news held mids : List (Opt
       omega (arith, along.run.turns, along.first, along.total, least, open_source.1, few, along.stand.many)
     where
       at_progress : (q : ℕ) (j : Input) → slice_get inputs q ≡ Some j → (x : Progress) × (slice_get progress q ≡ Some x)
-      at_progress q j at = element_at progress q (omega (arith, slice_get_within inputs q j at, along.stand.many))
+      at_progress q j at = get_within progress q (omega (arith, slice_get_within inputs q j at, along.stand.many))
 
       small : (q : ℕ) (j : Input) → slice_get inputs q ≡ Some j → length j.records ≤ 16777216
       small q j at = let (x, there) = at_progress q j at in (along.stand.each q x j there at).few
-
-map_set : {A B : Type 0} (f : A → B) (xs : List A) (n : ℕ) (x : A) → map f (slice_set xs n x) ≡ slice_set (map f xs) n (f x)
-map_set f [] n x = refl
-map_set f (y ∷ xs) zero x = refl
-map_set f (y ∷ xs) (suc n) x = ap (λ l. f y ∷ l) (map_set f xs n x)
 
 -- an input that has ended is passed over
 over_on : (unit : TimeUnit) (e0 e : EngineState) (olds news held mids : List (Option (List ℕ))) (progress : List Progress) (inputs : List Input)
@@ -133,7 +129,7 @@ module _ {R W : Type 0} {remaining : R → Option (List ℕ)} {contents : W → 
       go : (p.state ≡ Open) ⊎ (p.state ≡ Open → ⊥) → (now : List Input) × Along unit e0 e' olds (map remaining (slice_set ins port r')) held
           (map contents outs') (slice_set progress port p') now round (port + 1)
       go (inl open_p) =
-          rw (map_set remaining ins port r') (goes_on unit e0 e e' olds (map remaining ins) held (map contents outs) (map contents outs') progress c.inputs
+          rw (map-set remaining ins port r') (goes_on unit e0 e e' olds (map remaining ins) held (map contents outs) (map contents outs') progress c.inputs
           round port p p' (remaining r) (remaining r') c.along
           (record { counted = c.counted; few = c.few; mids_many = length-map outs contents ∙ c.many }) c.input open_p c.there
           (map_at remaining ins port r c.reader) (answers (Ok tt) ok open_p))
@@ -152,7 +148,7 @@ module _ {R W : Type 0} {remaining : R → Option (List ℕ)} {contents : W → 
       go : (p.state ≡ Open) ⊎ (p.state ≡ Open → ⊥) → Stops unit e0 e' olds (map remaining (slice_set ins port r')) held (map contents outs')
           (slice_set progress port p') cause
       go (inl open_p) =
-          rw (map_set remaining ins port r') (stops_at unit e0 e e' olds (map remaining ins) held (map contents outs) (map contents outs') progress c.inputs
+          rw (map-set remaining ins port r') (stops_at unit e0 e e' olds (map remaining ins) held (map contents outs) (map contents outs') progress c.inputs
           round port p p' (remaining r) (remaining r') cause c.along (length-map outs contents ∙ c.many) c.input open_p
           (map_at remaining ins port r c.reader) (answers (Err cause) err open_p))
       go (inr closed) = let bad : Err cause ≡ Ok tt = sym err ∙ (over closed).0 in cc

@@ -4,7 +4,7 @@ use Rattle.std.proofs.Common.{ap, subst, arith, ◌⊎◌, inl, inr}
 use Rattle.std.specs.Prelude.{slice_get, ◌==◌, if◌then◌else◌, replicate}
 use Rattle.std.specs.Option.{option_map_or}
 use Rattle.std.proofs.lemmas.Bool.{lt-ltb, eq-eqb, ne_eqb}
-use Rattle.std.proofs.lemmas.List.{length-append, length-map}
+use Rattle.std.proofs.lemmas.List.{length-append, length-map, length-set}
 use Rattle.std.proofs.lemmas.Option.{same_Some, slice_get_within}
 use Rattle.dp_pcap.specs.declared.time.Time.{Time}
 use Rattle.dp_pcap.specs.declared.time.Unit.{Unit as TimeUnit}
@@ -16,7 +16,6 @@ use Rattle.dp_engine.specs.Drains.{captured}
 use Rattle.dp_engine.specs.Tallies.{counted}
 use Rattle.dp_engine.specs.Engines.{EngineState, tallies_at, counted_at}
 use Rattle.dp_pipe.specs.Forwarding.{capture_of, drained_at, emptied, tally_of, HasRun, TakesTurn, DrainedFirst}
-use Rattle.dp_pipe.proofs.Indices.{length_set}
 use Rattle.dp_pipe.proofs.Forwarded.{emptied_all, tallies_other, tallies_same, split}
 
 abbrev pub arrival : ℕ → Time → List ℕ → Arrival Time
@@ -132,7 +131,7 @@ run_on e e1 e2 e3 port time bytes arrivals captures unit mids holds there boxes 
       run = subst (Run e.setting e.nodes (arrivals ++ arrival port time bytes ∷ []) e.world
           (with_turn time turn.outcome turn.told e2.world (shown_in run))) (sym world3) pushed;
       turns = omega (arith, turns3, run.turns, length-append arrivals (arrival port time bytes ∷ []));
-      each = all.each ∙ ap (λ (x : EngineState). length x.tallies) turn.is ∙ length_set e1.tallies port (counted turn.outcome (tallies_at e1.tallies port))
+      each = all.each ∙ ap (λ (x : EngineState). length x.tallies) turn.is ∙ length-set e1.tallies port (counted turn.outcome (tallies_at e1.tallies port))
           ∙ run.each;
       tallies = λ q sent at. tallied q sent (joined_at captures (records_at time e2.world) q sent at) many;
       stays = stays3 ∙ ap (λ m. record e { world = e3.world; turns = m; tallies = e3.tallies }) (sym turns3);

@@ -2,19 +2,19 @@
 use Rattle.std.proofs.Common.{◌≡◌, ◌≢◌, ℕ, ◌<◌, true, List, [], ◌∷◌, length, take, Option, Some, None}
 use Rattle.std.proofs.Common.{refl, sym, ◌∙◌, ap, arith, ◌⊎◌, inl, inr}
 use Rattle.std.specs.Prelude.{slice_get, slice_set}
-use Rattle.std.proofs.lemmas.List.{length-append}
+use Rattle.std.proofs.lemmas.List.{length-append, length-set}
 use Rattle.std.proofs.lemmas.Option.{slice_get_within}
 use Rattle.dp_pcap.specs.declared.time.Time.{Time}
 use Rattle.dp_pcap.specs.Standing.{Standing}
 use Rattle.dp_pcap.specs.Capture.{PacketRecord}
 use Rattle.dp_pcap.specs.Source.{WhereKnown, HasRead, advanced, over}
-use Rattle.dp_model.specs.Laws.Lists.{get_set_other}
+use Rattle.dp_model.specs.Laws.Lists.{get_set_other, get_within}
 use Rattle.dp_engine.specs.declared.report.InputState.{InputState}
 use Rattle.dp_engine.specs.declared.report.InputState.TheVariants.{Open, Whole, Cut}
 use Rattle.dp_pipe.specs.declared.forwarding.Progress.{Progress}
 use Rattle.dp_pipe.specs.Forwarding.{Input, HasReadSo, IsGoingOn, Stands, AllStand}
 use Rattle.dp_pipe.proofs.Forwarded.{split}
-use Rattle.dp_pipe.proofs.Indices.{element_at, length_set, set_here}
+use Rattle.dp_pipe.proofs.Indices.{set_here}
 use Rattle.dp_pipe.proofs.Advancing.{with_record, ended}
 
 -- ---- inputs and the sources that read them
@@ -23,7 +23,7 @@ use Rattle.dp_pipe.proofs.Advancing.{with_record, ended}
 pub input_at : (olds news : List (Option (List ℕ))) (progress : List Progress) (inputs : List Input) (q : ℕ) (p : Progress) →
     AllStand olds news progress inputs → slice_get progress q ≡ Some p → (i : Input) × (slice_get inputs q ≡ Some i) × Stands p i
 input_at olds news progress inputs q p stand at =
-    let (i, here) = element_at inputs q (omega (arith, slice_get_within progress q p at, stand.many)) in
+    let (i, here) = get_within inputs q (omega (arith, slice_get_within progress q p at, stand.many)) in
     (i, here, stand.each q p i at here)
 
 -- one input, its source and what its reader has left have changed
@@ -32,7 +32,7 @@ pub all_stand : (olds news : List (Option (List ℕ))) (progress : List Progress
     WhereKnown old b (λ bytes rest. HasReadSo i'.state p'.source i'.records bytes rest))
     → AllStand olds (slice_set news n b) (slice_set progress n p') (slice_set inputs n i')
 all_stand olds news progress inputs n p' i' b stand stands read = record {
-  many = length_set progress n p' ∙ stand.many ∙ sym (length_set inputs n i');
+  many = length-set progress n p' ∙ stand.many ∙ sym (length-set inputs n i');
   each = λ q p i a c. each q p i a c (split q n);
   read = λ q p i old new a c d e. reads q p i old new a c d e (split q n);
 }

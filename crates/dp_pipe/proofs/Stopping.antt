@@ -2,7 +2,7 @@
 use Rattle.std.proofs.Common.{◌≡◌, ◌≢◌, ℕ, zero, suc, ◌+◌, ◌<◌, List, [], ◌∷◌, length, map, take, Option, Some, Result}
 use Rattle.std.proofs.Common.{Ok, Err, refl, sym, ◌∙◌, ap, subst, arith, ◌⊎◌, inl, inr}
 use Rattle.std.specs.Prelude.{slice_get, slice_set, ⊤}
-use Rattle.std.proofs.lemmas.List.{length-append}
+use Rattle.std.proofs.lemmas.List.{length-append, length-set}
 use Rattle.std.proofs.lemmas.Option.{same_Some, slice_get_within}
 use Rattle.dp_pcap.specs.declared.time.Time.{Time}
 use Rattle.dp_pcap.specs.declared.time.Unit.{Unit as TimeUnit}
@@ -14,7 +14,7 @@ use Rattle.dp_pcap.specs.declared.source.Next.TheVariants as next
 use Rattle.dp_pcap.specs.Standing.{Standing}
 use Rattle.dp_pcap.specs.Capture.{PacketRecord}
 use Rattle.dp_pcap.specs.Source.{WhereKnown, HasRead, Continues, ReadsOn, IsInRange, Moves, advanced}
-use Rattle.dp_model.specs.Laws.Lists.{get_set_other}
+use Rattle.dp_model.specs.Laws.Lists.{get_set_other, get_within}
 use Rattle.dp_engine.specs.declared.report.InputState.{InputState}
 use Rattle.dp_engine.specs.declared.report.InputState.TheVariants.{Open, Whole, Cut}
 use Rattle.dp_engine.specs.Engines.{EngineState}
@@ -25,7 +25,7 @@ use Rattle.dp_pipe.specs.Forwarding.{Input, HasReadSo, Gives, AreRead, Refuses, 
 use Rattle.dp_pipe.specs.Forwarding.{TakesTurn, DrainsStopped}
 use Rattle.dp_pipe.specs.Forwarding.{unit_for}
 use Rattle.dp_pipe.proofs.Forwarded.{split}
-use Rattle.dp_pipe.proofs.Indices.{element_at, length_set, set_here, set_itself}
+use Rattle.dp_pipe.proofs.Indices.{set_here, set_itself}
 use Rattle.dp_pipe.proofs.RunOn.{arrival}
 use Rattle.dp_pipe.proofs.Advancing.{with_record, arrivals_more, order_next}
 use Rattle.dp_pipe.proofs.GoingOn.{known_map, wanted}
@@ -74,7 +74,7 @@ gives_of (Cut byte) s unit records bytes rest same has = rw (← same) has
 
 progress_at : (progress : List Progress) (inputs : List Input) (q : ℕ) (i : Input) → length progress ≡ length inputs → slice_get inputs q ≡ Some i →
     (p : Progress) × (slice_get progress q ≡ Some p)
-progress_at progress inputs q i many at = element_at progress q (omega (arith, slice_get_within inputs q i at, many))
+progress_at progress inputs q i many at = get_within progress q (omega (arith, slice_get_within inputs q i at, many))
 
 pub are_read : (olds news : List (Option (List ℕ))) (progress : List Progress) (inputs : List Input) → AllStand olds news progress inputs →
     AreRead olds news inputs
@@ -142,7 +142,7 @@ module _ (unit : TimeUnit) (e0 e : EngineState) (olds news held mids : List (Opt
         slice_set inputs port i',
         states_same olds (slice_set news port b) (slice_set progress port p') (slice_set inputs port i') stand,
         record {
-          inputs_many = length_set inputs port i' ∙ along.inputs_many;
+          inputs_many = length-set inputs port i' ∙ along.inputs_many;
           unit_is = along.unit_is ∙ ap unit_for (sym (units_set inputs port i i' i_here refl));
           read = are_read olds (slice_set news port b) (slice_set progress port p') (slice_set inputs port i') stand;
           before = arrivals_of inputs;

@@ -5,13 +5,15 @@ use Rattle.std.specs.Prelude.{slice_get, ⊤, IfErr}
 use Rattle.std.specs.List.{AllByRecursion}
 use Rattle.std.specs.Io.KnownBytes.{Appends, Keeps}
 use Rattle.std.proofs.lemmas.Option.{same_Some}
-use Rattle.std.proofs.lemmas.List.{length-replicate, length-map, append-nil}
+use Rattle.std.proofs.lemmas.List.{length-replicate, length-map, append-nil, length-set}
 use Rattle.dp_pcap.specs.declared.time.Time.{Time}
 use Rattle.dp_pcap.specs.declared.time.Unit.{Unit as TimeUnit}
 use Rattle.dp_model.specs.Runs.{Arrival, longest}
 use Rattle.dp_engine.specs.Engines.{EngineState, tallies_at}
 use Rattle.dp_engine.specs.declared.report.Tallies.{Tallies}
 use Rattle.std.proofs.lemmas.Bool.{le-ltb}
+use Rattle.std.proofs.KnownBytes.{Appends-nil, Keeps-refl}
+use Rattle.dp_model.specs.Laws.Lists.{each_at}
 use Rattle.dp_engine.specs.declared.report.Report.{Report}
 use Rattle.dp_pipe.specs.declared.running.RunFault.{RunFault}
 use Rattle.dp_pipe.specs.declared.forwarding.Progress.{Progress}
@@ -20,8 +22,7 @@ use Rattle.dp_pipe.specs.declared.forwarding.RunCause.TheVariants.{Memory, NoRoo
 use Rattle.dp_pipe.specs.Forwarding.{Input, AllStand, asked, Along, HasRun, AreRounds, FailedAt, arrivals_of}
 use Rattle.dp_pipe.specs.Forwarding.{records_in, records_many, capture_at, tally_of, AreRead, unit_for, units_of}
 use Rattle.dp_pipe.specs.Running.{all_begun, begun, IsBegun, GoesForward, answer_of, HeadersFail, IsHeaderCause, IsWriteCause}
-use Rattle.dp_pipe.proofs.Heading.{told_at, all_at, keeps_it}
-use Rattle.dp_pipe.proofs.Indices.{length_set}
+use Rattle.dp_pipe.proofs.Heading.{told_at}
 
 -- ---- before the first round
 
@@ -47,10 +48,6 @@ no_capture zero zero = refl
 no_capture zero (suc q) = refl
 no_capture (suc n) zero = refl
 no_capture (suc n) (suc q) = no_capture n q
-
-appends_none : (a : Option (List ℕ)) → Appends a a []
-appends_none None = tt
-appends_none (Some bytes) = sym (append-nil bytes)
 
 run_none : (e : EngineState) → HasRun e e [] (replicate (length e.setting.env.ports) [])
 run_none e = record {
@@ -85,13 +82,13 @@ along_none unit e olds news mids progress first many inputs_many unit_is stand b
   unit_is = unit_is;
   stand = stand;
   order = λ q i at. let (p, there, is) = told_at begun progress q i at in
-      let is_open = (all_at IsBegun progress q p begins there).state in
+      let is_open = (each_at IsBegun progress q p begins there).state in
       rw (is, is_open) (sym (asked_none q));
   total = rw (no_arrivals progress) (sym (many_none progress));
   captures = replicate (length e.setting.env.ports) [];
   many = length-replicate (length e.setting.env.ports) [];
   run = subst (λ arrivals. HasRun e e arrivals (replicate (length e.setting.env.ports) [])) (sym (no_arrivals progress)) (run_none e);
-  wrote = λ port old new here there. rw (no_capture (length e.setting.env.ports) port, same_Some new old (sym there ∙ here)) (appends_none old);
+  wrote = λ port old new here there. rw (no_capture (length e.setting.env.ports) port, same_Some new old (sym there ∙ here)) (Appends-nil old);
 }
 
 -- what a list is behind a writing back
@@ -112,7 +109,7 @@ fail_read e olds news held progress (Out port) begins is = absurd is
 fail_read e olds news held progress (In port error) begins is = (is, kept, begins, refl)
   where
     kept : (q : ℕ) (old new : Option (List ℕ)) → slice_get held q ≡ Some old → slice_get held q ≡ Some new → Keeps old new
-    kept q old new here there = subst (Keeps old) (same_Some old new (sym here ∙ there)) (keeps_it old)
+    kept q old new here there = subst (Keeps old) (same_Some old new (sym here ∙ there)) (Keeps-refl old)
 
 pub fail_write : (e : EngineState) (olds news held holds : List (Option (List ℕ))) (progress : List Progress) (cause : RunCause) →
     length progress ≡ length e.setting.env.ports → AreRead olds news (all_begun progress) → AllByRecursion IsBegun progress
@@ -142,8 +139,8 @@ stays_failed unit e e' olds news held holds inputs port f =
     record {
       setting = ap (λ (x : EngineState). x.setting) last ∙ ap (λ (x : EngineState). x.setting) first.is ∙ ap (λ (x : EngineState). x.setting) turn
           ∙ ran.setting;
-      each = ap (λ (x : EngineState). length x.tallies) last ∙ length_set f.stopped.engine.tallies port _ ∙ first.each
-          ∙ ap (λ (x : EngineState). length x.tallies) turn ∙ length_set f.engine.tallies f.last.port _ ∙ ran.each;
+      each = ap (λ (x : EngineState). length x.tallies) last ∙ length-set f.stopped.engine.tallies port _ ∙ first.each
+          ∙ ap (λ (x : EngineState). length x.tallies) turn ∙ length-set f.engine.tallies f.last.port _ ∙ ran.each;
     }
 
 pub stays_rounds : (unit : TimeUnit) (e e' : EngineState) (olds news held holds : List (Option (List ℕ))) (progress : List Progress)

@@ -2,23 +2,21 @@
 use Rattle.std.proofs.Common.{ℕ, suc, ◌≡◌, ◌+◌, false, Err, map, refl, sym, ap, ◌∙◌, subst, arith}
 use Rattle.std.specs.Prelude.{slice_get, slice_set, slice_index_or, Some, IsTrue, ⊤}
 use Rattle.std.proofs.lemmas.Bool.{ne_eqb}
-use Rattle.std.proofs.lemmas.List.{length-map}
-use Rattle.std.proofs.lemmas.Option.{same_Some}
-use Rattle.dp_model.specs.Laws.Lists.{get_set_same}
+use Rattle.std.proofs.lemmas.List.{length-map, length-set}
+use Rattle.std.proofs.lemmas.Option.{same_Some, slice_get-get_or}
+use Rattle.dp_model.specs.Laws.Lists.{get_set_same, each_at}
 use Rattle.dp_engine.specs.Engines.{drained}
 use Rattle.dp_engine.specs.Outcomes.{sent_of}
 use Rattle.dp_pipe.specs.Devices.{failed_drain}
 use Rattle.dp_pipe.specs.Forwarding.{DrainedFirst}
 use Rattle.dp_pipe.proofs.Forwarded.{drained_next, drain_on, stopped, ok_some, err_some}
-use Rattle.dp_pipe.proofs.Heading.{there_is, all_at}
-use Rattle.dp_pipe.proofs.Indices.{length_set}
 use Rattle.dp_pipe.proofs.Faring.{fared_sound, failed_here, one_then, still_sound}
 use Rattle.dp_pipe.proofs.forwarding.drain_all.Goals as goal
 use Rattle.dp_pipe.proofs.forwarding.drain_all.Goals.{After-drain}
 
 writer : (g : _) (c : After-drain g) → slice_get c.loop-port.outs c.loop-port.port
     ≡ Some (slice_index_or c.loop-port.outs c.loop-port.port c.index-outs-port.result)
-writer g c = there_is c.loop-port.outs c.loop-port.port c.index-outs-port.result (omega (arith, c.loop-port.invariant.many, c.loop-port-test.true))
+writer g c = slice_get-get_or c.loop-port.outs c.loop-port.port c.index-outs-port.result (omega (arith, c.loop-port.invariant.many, c.loop-port-test.true))
 
 pub returns-then-is_err-clause-broken : goal.returns-then-is_err-clause-broken
 returns-then-is_err-clause-broken g c w at =
@@ -39,9 +37,9 @@ loop-port-preserved g c =
           (length-map c.loop-port.outs g.W.Sink.contents ∙ inv.many ∙ sym (length-map c.args.outs.now g.W.Sink.contents)) inv.first
           (drain_on g.W.Sink.contents c.loop-port.port c.args.unit c.args.time c.loop-port.engine c.drain.new.self c.loop-port.outs _ c.drain.new.w sent records
           here at count wrote (c.drain.ensures.empty ∙ ap (λ n. drained c.loop-port.port n c.loop-port.engine) (ap sent_of ok))));
-      many = length_set c.loop-port.outs c.loop-port.port c.drain.new.w ∙ inv.many;
+      many = length-set c.loop-port.outs c.loop-port.port c.drain.new.w ∙ inv.many;
       fared = λ sound.
-          let was = all_at (λ x. g.W.Sink.is_broken x ≡ false) c.loop-port.outs c.loop-port.port _
+          let was = each_at (λ x. g.W.Sink.is_broken x ≡ false) c.loop-port.outs c.loop-port.port _
           (still_sound g.W.Sink.is_broken g.W.Sink.failures c.args.outs.now c.loop-port.outs inv.many (inv.fared sound) sound) here in
           one_then g.W.Sink.is_broken g.W.Sink.failures (λ q. false) c.loop-port.port c.args.outs.now c.loop-port.outs _ c.drain.new.w inv.many
           (inv.fared sound) here

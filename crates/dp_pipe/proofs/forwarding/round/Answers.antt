@@ -1,12 +1,12 @@
 -- `round`: one input more, and the first at which the run stops. Each call is opened once, at the input that is asked.
 use Rattle.std.proofs.Common.{rules, ◌≡◌, ℕ, List, Option, Result, Ok, Err, length, map, sym, ap, ◌∙◌, arith}
 use Rattle.std.specs.Prelude.{slice_index_or, slice_set, ⊤}
+use Rattle.std.proofs.lemmas.Option.{slice_get-get_or}
+use Rattle.std.proofs.lemmas.List.{length-set}
 use Rattle.dp_engine.specs.Engines.{EngineState}
 use Rattle.dp_pipe.specs.declared.forwarding.RunCause.{RunCause}
 use Rattle.dp_pipe.specs.Devices.{AllFared, AllSound, failed_reader, failed_writer}
 use Rattle.dp_pipe.specs.Forwarding.{Input, Along}
-use Rattle.dp_pipe.proofs.Heading.{there_is}
-use Rattle.dp_pipe.proofs.Indices.{length_set}
 use Rattle.dp_pipe.proofs.Faring.{reader_then, writers_then}
 use Rattle.dp_pipe.proofs.Rounding.{Comes, there_now, many_now, counted_now, open_now, limit_now, asked_on, asked_stops, round_over}
 use Rattle.dp_pipe.proofs.forwarding.round.Goals as goal
@@ -25,8 +25,8 @@ opened g c e0 olds held read k start =
     record {
       inputs = now;
       along = along;
-      input = there_is c.loop-port.inputs c.loop-port.port c.index-inputs-k.result (omega (arith, inv.inputs, c.loop-port-test.true));
-      reader = there_is c.loop-port.ins c.loop-port.port c.index-ins-k.result
+      input = slice_get-get_or c.loop-port.inputs c.loop-port.port c.index-inputs-k.result (omega (arith, inv.inputs, c.loop-port-test.true));
+      reader = slice_get-get_or c.loop-port.ins c.loop-port.port c.index-ins-k.result
           (omega (arith, inv.ins, c.loop-port-test.true, c.requires.inputs, c.requires.ins));
       there = omega (arith, ports, c.loop-port-test.true, c.requires.inputs);
       few = omega (arith, ports, c.requires.outs, c.requires.few);
@@ -46,7 +46,7 @@ readers : (g : _) (c : After-ask g) (given : Result ⊤ RunCause) → c.ask.resu
 readers g c given is =
     let inv = c.loop-port.invariant in
     reader_then g.R.Feed.is_broken g.R.Feed.failures c.ask.result given c.loop-port.port c.args.ins.now c.loop-port.ins _ c.ask.new.r inv.ins inv.readers
-    (there_is c.loop-port.ins c.loop-port.port c.index-ins-k.result (omega (arith, inv.ins, c.loop-port-test.true, c.requires.inputs, c.requires.ins)))
+    (slice_get-get_or c.loop-port.ins c.loop-port.port c.index-ins-k.result (omega (arith, inv.ins, c.loop-port-test.true, c.requires.inputs, c.requires.ins)))
     c.ask.ensures.fared_reader is
 
 writers : (g : _) (c : After-ask g) (given : Result ⊤ RunCause) → c.ask.result ≡ given → AllSound g.W.Sink.is_broken c.args.outs.now
@@ -79,8 +79,8 @@ pub loop-port-preserved : goal.loop-port-preserved
 loop-port-preserved g c =
     let inv = c.loop-port.invariant in
     record {
-      inputs = length_set c.loop-port.inputs c.loop-port.port c.ask.new.input ∙ inv.inputs;
-      ins = length_set c.loop-port.ins c.loop-port.port c.ask.new.r ∙ inv.ins;
+      inputs = length-set c.loop-port.inputs c.loop-port.port c.ask.new.input ∙ inv.inputs;
+      ins = length-set c.loop-port.ins c.loop-port.port c.ask.new.r ∙ inv.ins;
       outs = c.ask.ensures.many ∙ inv.outs;
       buf = c.ask.ensures.buf ∙ inv.buf;
       goes = λ e0 olds held read k start.

@@ -5,8 +5,9 @@ use Rattle.std.proofs.lemmas.Bool.{ne_eqb}
 use Rattle.dp_pipe.specs.declared.forwarding.RunCause.TheVariants.{Out}
 use Rattle.dp_pipe.specs.Devices.{failed_writer}
 use Rattle.std.specs.Io.KnownBytes.{Appends}
+use Rattle.std.proofs.lemmas.Option.{slice_get-get_or}
 use Rattle.dp_pcap.specs.Text.{header_text}
-use Rattle.dp_pipe.proofs.Heading.{changed_more, there_is, all_changed, in_told, new_all, headers_stopped}
+use Rattle.dp_pipe.proofs.Heading.{changed_more, all_changed, in_told, new_all, headers_stopped}
 use Rattle.dp_pipe.proofs.Faring.{fared_well, failed_here, all_well, one_then}
 use Rattle.dp_pipe.proofs.running.put_headers.Goals as goal
 
@@ -15,7 +16,7 @@ loop-port-preserved g c =
     let within : c.loop-port.port < length c.loop-port.outs = omega (arith, c.loop-port-test.true, c.loop-port.invariant.many) in
     changed_more _ c.loop-port.port c.args.outs.now c.loop-port.outs (slice_index_or c.loop-port.outs c.loop-port.port c.index-outs-port.result)
     c.put_header.new.w c.loop-port.invariant
-    (there_is c.loop-port.outs c.loop-port.port c.index-outs-port.result within) (
+    (slice_get-get_or c.loop-port.outs c.loop-port.port c.index-outs-port.result within) (
       search rules,
       fared_well g.W.Sink.is_broken g.W.Sink.failures (slice_index_or c.loop-port.outs c.loop-port.port c.index-outs-port.result) c.put_header.new.w
           (search rules) (search rules) (search rules),
@@ -40,7 +41,7 @@ returns-then-is_err-clause-err g c =
     let within : c.loop-port.port < length c.loop-port.outs = omega (arith, c.loop-port-test.true, c.loop-port.invariant.many) in
     headers_stopped g.W.Sink.contents _ c.args.unit c.loop-port.port c.args.outs.now c.loop-port.outs
     (slice_index_or c.loop-port.outs c.loop-port.port c.index-outs-port.result) c.put_header.new.w
-    c.loop-port.invariant (λ x x' changed. changed.0) (there_is c.loop-port.outs c.loop-port.port c.index-outs-port.result within) (search rules)
+    c.loop-port.invariant (λ x x' changed. changed.0) (slice_get-get_or c.loop-port.outs c.loop-port.port c.index-outs-port.result within) (search rules)
 
 pub returns-then-is_err-clause-fared : goal.returns-then-is_err-clause-fared
 returns-then-is_err-clause-fared g c =
@@ -49,6 +50,6 @@ returns-then-is_err-clause-fared g c =
     one_then g.W.Sink.is_broken g.W.Sink.failures (failed_writer {A = ⊤} (Err (Out c.loop-port.port))) c.loop-port.port c.args.outs.now c.loop-port.outs w
     c.put_header.new.w c.loop-port.invariant.many
     (all_well g.W.Sink.is_broken g.W.Sink.failures _ c.loop-port.port c.args.outs.now c.loop-port.outs c.loop-port.invariant (λ x x' changed. changed.1))
-    (there_is c.loop-port.outs c.loop-port.port c.index-outs-port.result within)
+    (slice_get-get_or c.loop-port.outs c.loop-port.port c.index-outs-port.result within)
     (failed_here g.W.Sink.is_broken g.W.Sink.failures c.loop-port.port w c.put_header.new.w (search rules) (search rules))
     (λ q other. ne_eqb q c.loop-port.port other)

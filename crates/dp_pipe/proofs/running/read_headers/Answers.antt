@@ -1,10 +1,11 @@
 -- `read_headers`: one header more, and the first at fault.
 use Rattle.std.proofs.Common.{rules, ◌<◌, ◌+◌, sym, arith, length, slice_index_or, subst}
 use Rattle.std.specs.Prelude.{Err, ⊤}
+use Rattle.std.proofs.lemmas.Option.{slice_get-get_or}
 use Rattle.dp_pipe.specs.declared.forwarding.RunCause.TheVariants.{In}
 use Rattle.dp_pipe.specs.Devices.{failed_reader}
 use Rattle.dp_pipe.proofs.Faring.{fared_well, all_well, one_then, refused, not_other}
-use Rattle.dp_pipe.proofs.Heading.{ReadFirst, read_more, all_stand, there_is, new_all, header_fault}
+use Rattle.dp_pipe.proofs.Heading.{ReadFirst, read_more, all_stand, new_all, header_fault}
 use Rattle.dp_pipe.proofs.running.read_headers.Goals as goal
 
 pub loop-port-preserved : goal.loop-port-preserved
@@ -14,7 +15,7 @@ loop-port-preserved g c =
       read = subst (ReadFirst g.R.Feed.remaining g.R.Feed.failures g.R.Feed.is_broken (c.loop-port.port + 1) c.args.ins.now _) (sym c.keep.ensures.items)
           (read_more g.R.Feed.remaining g.R.Feed.failures g.R.Feed.is_broken c.loop-port.port c.args.ins.now c.loop-port.ins c.loop-port.inputs.items
           (slice_index_or c.loop-port.ins c.loop-port.port c.index-ins-port.result)
-          c.read_header.new.r _ c.loop-port.invariant.read (there_is c.loop-port.ins c.loop-port.port c.index-ins-port.result within)
+          c.read_header.new.r _ c.loop-port.invariant.read (slice_get-get_or c.loop-port.ins c.loop-port.port c.index-ins-port.result within)
           (fared_well g.R.Feed.is_broken g.R.Feed.failures (slice_index_or c.loop-port.ins c.loop-port.port c.index-ins-port.result) c.read_header.new.r
           (search rules) (search rules) (search rules)) (search rules) (search rules) (search rules));
       len = omega (arith, c.keep.ensures.len, c.loop-port.invariant.len);
@@ -34,7 +35,7 @@ returns-in-Err-clause-err g c =
     let within : c.loop-port.port < length c.loop-port.ins = omega (arith, c.loop-port-test.true, c.loop-port.invariant.read.changed.many) in
     header_fault g.R.Feed.remaining g.R.Feed.failures g.R.Feed.is_broken c.loop-port.port c.args.ins.now c.loop-port.ins c.loop-port.inputs.items
     (slice_index_or c.loop-port.ins c.loop-port.port c.index-ins-port.result) c.read_header.new.r c.in-Err.error c.loop-port.invariant.read
-    (there_is c.loop-port.ins c.loop-port.port c.index-ins-port.result within) c.in-Err.ensures.answer
+    (slice_get-get_or c.loop-port.ins c.loop-port.port c.index-ins-port.result within) c.in-Err.ensures.answer
 
 pub returns-clause-most : goal.returns-clause-most
 returns-clause-most g c = omega (arith, c.loop-port.invariant.read.many, c.loop-port.auto.port-end)
@@ -53,7 +54,7 @@ returns-in-Err-clause-fared g c =
     one_then g.R.Feed.is_broken g.R.Feed.failures (failed_reader {A = ⊤} (Err (In c.loop-port.port c.in-Err.error))) c.loop-port.port c.args.ins.now
     c.loop-port.ins r c.read_header.new.r c.loop-port.invariant.read.changed.many
     (all_well g.R.Feed.is_broken g.R.Feed.failures _ c.loop-port.port c.args.ins.now c.loop-port.ins c.loop-port.invariant.read.changed
-    (λ x x' changed. changed.0)) (there_is c.loop-port.ins c.loop-port.port c.index-ins-port.result within)
+    (λ x x' changed. changed.0)) (slice_get-get_or c.loop-port.ins c.loop-port.port c.index-ins-port.result within)
     (refused g.R.Feed.is_broken g.R.Feed.failures c.read_header.result c.in-Err.error c.loop-port.port r c.read_header.new.r c.in-Err.is
     c.read_header.ensures.failed c.read_header.ensures.stays c.read_header.ensures.failures)
     (λ q other. not_other c.in-Err.error c.loop-port.port q other)
