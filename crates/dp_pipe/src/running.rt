@@ -7,12 +7,13 @@ ghost use Rattle.std.specs.Vec.{vec_capacity};
 ghost use Rattle.dp_pcap.specs.Source.{IsStart};
 ghost use Rattle.dp_engine.specs.Engines.{EngineState, IsAscending, no_tallies};
 ghost use Rattle.dp_engine.specs.Needs.{bytes_needed};
-ghost use Rattle.dp_engine.specs.Reports.{port_report};
+ghost use Rattle.dp_engine.specs.Reports.{port_report, IsWhole};
 ghost use Rattle.dp_pipe.specs.Devices.{AllSound, AllFared, failed_reader, failed_writer};
 ghost use Rattle.dp_pipe.specs.Forwarding as forwarding;
 ghost use Rattle.dp_pipe.specs.Forwarding.{AllStand, units_of};
 ghost use Rattle.dp_lpm.specs.Routes.{RouteTable};
 ghost use Rattle.dp_lpm.specs.declared.limits.TheConstants.{MAX_HOP};
+ghost use Rattle.dp_model.specs.Environments.{Environment};
 ghost use Rattle.dp_model.specs.Prefixes.{Route};
 ghost use Rattle.dp_pipe.specs.Headline.{Forwarded, StoppedBy};
 ghost use Rattle.dp_pipe.specs.Running as spec;
@@ -167,6 +168,19 @@ fn set_states(ports: &mut [PortReport], inputs: &[Progress])
     }
 }
 
+// The answer of a run that came to this outcome, with its report.
+fn answer_with(outcome: Result<(), RunCause>, report: Report) -> Result<Report, RunFault>
+    ensures outcome { spec.answer_of result ≡ outcome }
+    ensures report { spec.report_of result ≡ report }
+    ensures ok { IsOk result → IsOk outcome }
+    ensures free { (env : Environment) → IsWhole env report → spec.AllFree env result }
+{
+    match outcome {
+        Ok(()) => Ok(report),
+        Err(cause) => Err(RunFault { cause, report }),
+    }
+}
+
 // Runs an engine to its end.
 fn run_through<R: Feed, W: Sink>(
     engine: Engine,
@@ -195,10 +209,7 @@ fn run_through<R: Feed, W: Sink>(
     let (mut report, region) = engine.finish();
     region.close();
     set_states(report.ports.as_mut_slice(), inputs.as_slice());
-    match outcome {
-        Ok(()) => Ok(report),
-        Err(cause) => Err(RunFault { cause, report }),
-    }
+    answer_with(outcome, report)
 }
 
 // The numbers of pools of which every buffer is free.
