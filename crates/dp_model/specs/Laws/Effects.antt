@@ -42,37 +42,37 @@ pub data Effect (c : Setting) (s : State) (m : Move) : Type 0 where
 abbrev state_of_move : Move → State
 state_of_move m = m.state
 
-abbrev told_of_move : Move → List Bool
-told_of_move m = m.told
+abbrev answers_of : Move → List Bool
+answers_of m = m.told
 
 module _ (c : Setting) (s : State) (m : Move) where
   -- a test leaves all as it is, wherever it leads
   tested : (b : Bool) (label l : ℕ) → m ≡ branches b label l s → Effect c s m
-  tested true label l is = Kept (ap state_of_move is) (ap told_of_move is)
-  tested false label l is = Kept (ap state_of_move is) (ap told_of_move is)
+  tested true label l is = Kept (ap state_of_move is) (ap answers_of is)
+  tested false label l is = Kept (ap state_of_move is) (ap answers_of is)
 
   -- a packet leaves, or stays where the list is full
   left : (b : Bool) (label l : ℕ) (s' : State) → m ≡ cond b (goes_on label s') (moves_to l s) → (m.state ≡ s' → m.told ≡ [] → Effect c s m) → Effect c s m
-  left true label l s' is f = f (ap state_of_move is) (ap told_of_move is)
-  left false label l s' is f = Kept (ap state_of_move is) (ap told_of_move is)
+  left true label l s' is f = f (ap state_of_move is) (ap answers_of is)
+  left false label l s' is f = Kept (ap state_of_move is) (ap answers_of is)
 
   counted : (numbers : List ℕ) (label : ℕ) → m ≡ moves_to label (record s { numbers = numbers }) → Effect c s m
-  counted numbers label is = Calculated numbers (ap state_of_move is) (ap told_of_move is)
+  counted numbers label is = Calculated numbers (ap state_of_move is) (ap answers_of is)
 
 -- each instruction has one of them
 pub effect_of : (c : Setting) (label : ℕ) (s : State) (i : Instr) (m : Move) → Acts c label s i m → Effect c s m
 effect_of c label s (Alloc p pool l) m (empty, there, call) = matched (is_denied c s pool 1) _ _ call
-    (λ is. Refused (ap state_of_move is) (ap told_of_move is))
-    (λ (ns, buffers, fresh, changes, is). Allocated p pool ns buffers empty fresh changes (ap state_of_move is) (ap told_of_move is))
+    (λ is. Refused (ap state_of_move is) (ap answers_of is))
+    (λ (ns, buffers, fresh, changes, is). Allocated p pool ns buffers empty fresh changes (ap state_of_move is) (ap answers_of is))
 effect_of c label s (Clone p q pool l) m (k, holds, empty, there, call) = matched (is_denied c s pool (length k)) _ _ call
-    (λ is. Refused (ap state_of_move is) (ap told_of_move is))
-    (λ (ns, fresh, is). Cloned p q pool k ns holds empty fresh (ap state_of_move is) (ap told_of_move is))
-effect_of c label s (Free p) m (k, holds, is) = Freed p k holds (ap state_of_move is) (ap told_of_move is)
-effect_of c label s (Prepend p n) m (k, holds, le, sole, is) = Prepended p n k holds le sole (ap state_of_move is) (ap told_of_move is)
-effect_of c label s (Append p n) m (k, holds, le, sole, is) = Appended p n k holds le sole (ap state_of_move is) (ap told_of_move is)
-effect_of c label s (Adj p n) m (k, holds, le, is) = Adjusted p n k holds le (ap state_of_move is) (ap told_of_move is)
-effect_of c label s (Trim p n) m (k, holds, le, is) = Trimmed p n k holds le (ap state_of_move is) (ap told_of_move is)
-effect_of c label s (Chain p q) m (k, t, hk, ht, apart, few, is) = Chained p q k t hk ht apart few (ap state_of_move is) (ap told_of_move is)
+    (λ is. Refused (ap state_of_move is) (ap answers_of is))
+    (λ (ns, fresh, is). Cloned p q pool k ns holds empty fresh (ap state_of_move is) (ap answers_of is))
+effect_of c label s (Free p) m (k, holds, is) = Freed p k holds (ap state_of_move is) (ap answers_of is)
+effect_of c label s (Prepend p n) m (k, holds, le, sole, is) = Prepended p n k holds le sole (ap state_of_move is) (ap answers_of is)
+effect_of c label s (Append p n) m (k, holds, le, sole, is) = Appended p n k holds le sole (ap state_of_move is) (ap answers_of is)
+effect_of c label s (Adj p n) m (k, holds, le, is) = Adjusted p n k holds le (ap state_of_move is) (ap answers_of is)
+effect_of c label s (Trim p n) m (k, holds, le, is) = Trimmed p n k holds le (ap state_of_move is) (ap answers_of is)
+effect_of c label s (Chain p q) m (k, t, hk, ht, apart, few, is) = Chained p q k t hk ht apart few (ap state_of_move is) (ap answers_of is)
 effect_of c label s (IfHead p n l) m (k, holds, is) = tested c s m (nat_lt (headroom k) n) label l is
 effect_of c label s (IfTail p n l) m (k, holds, is) = tested c s m (nat_lt (tailroom c.env.pools k) n) label l is
 effect_of c label s (IfLen p n l) m (k, holds, is) = tested c s m (nat_lt (first_len k) n) label l is
@@ -80,14 +80,14 @@ effect_of c label s (IfLast p n l) m (k, holds, is) = tested c s m (nat_lt (last
 effect_of c label s (Load r p off w) m (k, holds, le, is) = counted c s m _ (label + 1) is
 effect_of c label s (LoadX r p x off w) m (k, holds, le, is) = counted c s m _ (label + 1) is
 effect_of c label s (Store p off w r) m (k, holds, le, sole, is) =
-    Stored p off (bytes_in w) (slice_index s.numbers r) k holds le sole (ap state_of_move is) (ap told_of_move is)
+    Stored p off (bytes_in w) (slice_index s.numbers r) k holds le sole (ap state_of_move is) (ap answers_of is)
 effect_of c label s (StoreX p x off w r) m (k, holds, le, sole, is) =
-    Stored p (slice_index s.numbers x + off) (bytes_in w) (slice_index s.numbers r) k holds le sole (ap state_of_move is) (ap told_of_move is)
+    Stored p (slice_index s.numbers x + off) (bytes_in w) (slice_index s.numbers r) k holds le sole (ap state_of_move is) (ap answers_of is)
 effect_of c label s (Tx p r l) m (k, port, packets, holds, is_port, there, is) =
     left c s m (nat_lt (length packets + 1) port.queue) label l _ is (Sent p (slice_index s.numbers r) k packets holds there)
 effect_of c label s (Enq p ring l) m (k, spec, packets, holds, is_ring, there, is) =
     left c s m (nat_lt (length packets + 1) spec.count) label l _ is (Queued p ring k packets holds there)
-effect_of c label s Exit m (gone, is) = Kept (ap state_of_move is) (ap told_of_move is)
+effect_of c label s Exit m (gone, is) = Kept (ap state_of_move is) (ap answers_of is)
 effect_of c label s (Set r n) m (after, e, is) = counted c s m after.1 after.0 is
 effect_of c label s (Mov r x) m (after, e, is) = counted c s m after.1 after.0 is
 effect_of c label s (Add r x) m (after, e, is) = counted c s m after.1 after.0 is
