@@ -1,3 +1,4 @@
+-- Two words that are written one behind the other are written at once.
 use Rattle.std.proofs.Common.{◌+◌, ◌∙◌, [], ap}
 use Rattle.dp_model.specs.Buffers.{overwritten}
 use Rattle.dp_mbuf.specs.Headers.{then_word}

@@ -1,3 +1,4 @@
+-- Each link leads to the next segment's mbuf.
 use Rattle.std.proofs.Common.{◌≡◌, arith}
 use Rattle.dp_mbuf.specs.Objects.{header_at}
 use Rattle.dp_mbuf.proofs.Reading.{walk_object, walk_next}

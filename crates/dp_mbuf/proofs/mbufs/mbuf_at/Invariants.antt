@@ -1,3 +1,4 @@
+-- The segments from here on are linked from this mbuf.
 use Rattle.std.proofs.Common.{◌<◌, length, drop}
 use Rattle.dp_model.specs.Packets.{Packet}
 use Rattle.dp_mbuf.specs.Objects.{header_at}

@@ -1,3 +1,4 @@
+-- A buffer that has other references has one fewer.
 use Rattle.std.proofs.Common.{◌-◌, ap}
 use Rattle.dp_mbuf.specs.Objects.{header_at}
 use Rattle.dp_mbuf.proofs.InHand.{less_set, one_reference_less}

@@ -1,3 +1,4 @@
+-- One more pool is unhooked with each step, and all are at the end.
 use Rattle.std.proofs.Common.{◌≡◌, ◌+◌, ◌<◌, arith}
 use Rattle.dp_mbuf.proofs.Unhooking.{unhooked_none, unhooked_both, unhooked_rest, next_pool, each_pool}
 use Rattle.dp_mbuf.proofs.steps.unhook_all.Goals as goal

@@ -1,3 +1,4 @@
+-- The mbufs of the pools so far are unhooked.
 use Rattle.std.proofs.Common.{◌<◌}
 use Rattle.dp_mbuf.specs.Objects.{Unhooked}
 use Rattle.dp_mbuf.proofs.steps.unhook_all.Given as goal

@@ -1,3 +1,4 @@
+-- One more mbuf is unhooked with each step, and all of the pool are at the end.
 use Rattle.std.proofs.Common.{◌≡◌, ◌+◌, ◌<◌, refl, arith}
 use Rattle.dp_mbuf.proofs.Unhooking.{count_kept, unhooked_none, unhooked_more, unhooked_rest, next_index, each_object}
 use Rattle.dp_mbuf.proofs.steps.unhook_pool.Goals as goal

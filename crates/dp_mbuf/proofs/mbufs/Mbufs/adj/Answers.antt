@@ -1,3 +1,4 @@
+-- Bytes are cut at the front of the first segment, which has as many.
 use Rattle.std.proofs.Common.{arith}
 use Rattle.dp_mbuf.proofs.Live.{same_store}
 use Rattle.dp_mbuf.proofs.Live.{live_object, first_fits, adj_done}

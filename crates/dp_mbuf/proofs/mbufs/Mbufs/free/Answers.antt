@@ -1,3 +1,4 @@
+-- The mbufs of a packet are given back one by one, along their links.
 use Rattle.std.proofs.Common.{◌∙◌}
 use Rattle.dp_mbuf.proofs.InHand.{released_zones}
 use Rattle.dp_mbuf.proofs.Live.{same_store, same_zones}

@@ -1,3 +1,4 @@
+-- So many mbufs of the packet are given back.
 use Rattle.std.proofs.Common.{◌≡◌}
 use Rattle.dp_mbuf.specs.Objects.{zones_of}
 use Rattle.dp_mbuf.proofs.Freeing.{Freeing}

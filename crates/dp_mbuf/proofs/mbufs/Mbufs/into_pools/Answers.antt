@@ -1,3 +1,4 @@
+-- With no packet left all objects are in their pools.
 use Rattle.dp_mbuf.proofs.Starting.{back_is}
 use Rattle.dp_mbuf.proofs.mbufs.Mbufs.into_pools.Goals as goal
 

@@ -1,3 +1,4 @@
+-- No packet is left where all objects are in their pools.
 use Rattle.dp_mbuf.proofs.Live.{same_store}
 use Rattle.dp_mbuf.proofs.Starting.{empty_iff}
 use Rattle.dp_mbuf.proofs.mbufs.Mbufs.is_empty.Goals as goal

@@ -1,3 +1,4 @@
+-- The packet is sole if the segments from here on are.
 use Rattle.std.proofs.Common.{drop}
 use Rattle.dp_model.specs.Packets.{Packet, IsSole}
 use Rattle.dp_model.specs.Stores.{Has, segments_of}

@@ -1,3 +1,4 @@
+-- The sum so far and the bytes of the segments from here on are the packet's.
 use Rattle.std.proofs.Common.{◌≡◌, ◌+◌, length, drop}
 use Rattle.dp_model.specs.Packets.{Packet, packet_bytes}
 use Rattle.dp_model.specs.Stores.{Has}

@@ -1,3 +1,4 @@
+-- The number is read from the first segment, which has its bytes.
 use Rattle.std.proofs.Common.{ap, arith, ◌∙◌}
 use Rattle.dp_model.specs.Arithmetic.{bytes_in, spelled}
 use Rattle.dp_mbuf.proofs.Live.{same_store}

@@ -1,3 +1,4 @@
+-- Objects that are all in their pools and unhooked are a store without packets.
 use Rattle.dp_mbuf.proofs.Starting.{new_is}
 use Rattle.dp_mbuf.proofs.mbufs.Mbufs.over.Goals as goal
 

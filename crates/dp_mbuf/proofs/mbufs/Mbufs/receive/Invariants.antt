@@ -1,3 +1,4 @@
+-- The bytes so far stand in so many segments, all full.
 use Rattle.std.proofs.Common.{◌≡◌}
 use Rattle.dp_mbuf.specs.Objects.{zones_of}
 use Rattle.dp_mbuf.proofs.Receiving.{Receiving}

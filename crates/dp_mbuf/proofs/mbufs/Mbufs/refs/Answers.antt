@@ -1,3 +1,4 @@
+-- The header of the segment's buffer has its references.
 use Rattle.std.proofs.Common.{◌<◌, length, ap, ◌∙◌}
 use Rattle.dp_model.specs.Packets.{refs}
 use Rattle.dp_model.specs.Stores.{segments_of}

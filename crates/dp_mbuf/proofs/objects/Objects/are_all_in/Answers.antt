@@ -1,3 +1,4 @@
+-- All objects are in where each pool is whole.
 use Rattle.dp_mbuf.proofs.Starting.{whole_iff}
 use Rattle.dp_mbuf.proofs.objects.Objects.are_all_in.Goals as goal
 

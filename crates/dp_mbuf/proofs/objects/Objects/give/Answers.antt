@@ -1,3 +1,4 @@
+-- An object that is out goes back to its pool.
 use Rattle.std.proofs.Common.{arith}
 use Rattle.dp_mbuf.proofs.ObjectCalls.{out_pool, listed as pool_listed, is_out_there, give_done}
 use Rattle.dp_mbuf.proofs.objects.Objects.give.Goals as goal

@@ -1,3 +1,4 @@
+-- Two words are written in an object's header.
 use Rattle.std.proofs.Common.{arith, []}
 use Rattle.dp_mbuf.specs.Headers.{then_word}
 use Rattle.dp_mbuf.proofs.HeaderFields.{small_words}
