@@ -1,6 +1,6 @@
 //! What the loads and stores answer, on bytes and numbers worked out by hand.
 ghost use Rattle.std.specs.Prelude.{◌≡◌, ◌≤◌, [], length};
-ghost use Rattle.dp_region.specs.Region.{IsRegionSize};
+ghost use Rattle.dp_region.specs.Region.{IsRegionSize, least_region};
 
 use dp_region::{Block, Memory, Region};
 use std::alloc::Global;
@@ -26,8 +26,8 @@ fn write_high(high: &mut Block)
 
 // Two blocks are out at once, are written, and come back. What they began with.
 fn visit(region: &mut Region) -> (u8, u8, u32, u32, u32)
-    requires { (region.old.lent ≡ []) × (4096 ≤ length region.old.bytes) }
-    ensures { (region.new.lent ≡ []) × (4096 ≤ length region.new.bytes) }
+    requires { (region.old.lent ≡ []) × (least_region ≤ length region.old.bytes) }
+    ensures { (region.new.lent ≡ []) × (least_region ≤ length region.new.bytes) }
 {
     let mut low = region.lend(61, 3);
     let mut high = region.lend(64, 64);
@@ -46,7 +46,7 @@ fn visit(region: &mut Region) -> (u8, u8, u32, u32, u32)
 }
 
 fn numbers(region: &Region) -> (u32, u64, u32)
-    requires { (region.now.lent ≡ []) × (4096 ≤ length region.now.bytes) }
+    requires { (region.now.lent ≡ []) × (least_region ≤ length region.now.bytes) }
 {
     (
         region.load_u32(60),
@@ -57,7 +57,7 @@ fn numbers(region: &Region) -> (u32, u64, u32)
 
 // The upper half of a number of 8 bytes.
 fn overlaid(region: &mut Region) -> u32
-    requires { (region.old.lent ≡ []) × (4096 ≤ length region.old.bytes) }
+    requires { (region.old.lent ≡ []) × (least_region ≤ length region.old.bytes) }
     ensures { region.new.lent ≡ [] }
 {
     region.store_u64(1, 0x0102_0304_0506_0708);
