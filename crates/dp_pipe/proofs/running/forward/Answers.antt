@@ -5,14 +5,28 @@ use Rattle.dp_pipe.specs.Forwarding.{AreRounds}
 use Rattle.dp_pipe.specs.Running.{all_begun}
 use Rattle.dp_pipe.proofs.Stopping.{are_read}
 use Rattle.dp_pipe.proofs.Through.{along_none, back, fail_read, fail_write, stays_rounds}
-use Rattle.std.proofs.Common.{refl}
+use Rattle.std.proofs.Common.{refl, false}
 use Rattle.dp_pipe.specs.Devices.{AllFared, failed_reader, failed_writer}
 use Rattle.dp_pipe.proofs.Faring.{all_same, all_then, no_writer, no_reader, sound_readers, sound_writers}
 use Rattle.dp_pipe.proofs.running.forward.Goals as goal
+use Rattle.dp_pipe.proofs.running.forward.Goals.{After-from_residual, After-from_residual-in_err-put_headers, In_ok-read_headers}
+
+-- what is answered where a header is at fault, and where one is not written
+not_read : (g : _) (c : After-from_residual g) → c.from_residual.result ≡ Err c.in_err-read_headers.field-0.0
+not_read g c = search rules
+
+not_written : (g : _) (c : After-from_residual-in_err-put_headers g) → c.from_residual-in_err-put_headers.result ≡ Err c.in_err-put_headers.field-0.0
+not_written g c = search rules
+
+-- how the readers fared where all headers were read
+read : (g : _) (c : In_ok-read_headers g) → AllFared g.R.Feed.is_broken g.R.Feed.failures (λ q. false) c.args.ins.now c.read_headers.new.ins
+read g c =
+    subst (λ x. AllFared g.R.Feed.is_broken g.R.Feed.failures (failed_reader x) c.args.ins.now c.read_headers.new.ins) c.in_ok-read_headers.was
+    c.read_headers.ensures.fared
 
 pub returns-in_err-read_headers-clause-forward : goal.returns-in_err-read_headers-clause-forward
 returns-in_err-read_headers-clause-forward g c =
-    let gone : c.from_residual.result ≡ Err c.in_err-read_headers.field-0.0 = search rules in
+    let gone = not_read g (goal.at.returns-in_err-read_headers-clause-forward g c).After-from_residual in
     rw gone (inl (fail_read c.args.engine.now (map g.R.Feed.remaining c.args.ins.now) (map g.R.Feed.remaining c.read_headers.new.ins)
     (map g.W.Sink.contents c.args.outs.now) c.read_headers.new.inputs.items
     c.in_err-read_headers.field-0.0 c.in_err-read_headers.ensures.begun c.in_err-read_headers.ensures.err))
@@ -22,7 +36,7 @@ returns-in_err-read_headers-clause-many g c = omega (arith, c.read_headers.ensur
 
 pub returns-in_err-put_headers-clause-forward : goal.returns-in_err-put_headers-clause-forward
 returns-in_err-put_headers-clause-forward g c =
-    let gone : c.from_residual-in_err-put_headers.result ≡ Err c.in_err-put_headers.field-0.0 = search rules in
+    let gone = not_written g (goal.at.returns-in_err-put_headers-clause-forward g c).After-from_residual-in_err-put_headers in
     let here : c.as_slice.result.now ≡ c.read_headers.new.inputs.items = search rules in
     let stand = c.in_ok-read_headers.ensures.ok in
     let cause = rw (c.unit_for-unit.ensures, here) at c.in_err-put_headers.ensures.err in
@@ -92,26 +106,25 @@ returns-clause-counted g c =
 
 pub returns-in_err-read_headers-clause-fared_readers : goal.returns-in_err-read_headers-clause-fared_readers
 returns-in_err-read_headers-clause-fared_readers g c =
-    let gone : c.from_residual.result ≡ Err c.in_err-read_headers.field-0.0 = search rules in
+    let gone = not_read g (goal.at.returns-in_err-read_headers-clause-fared_readers g c).After-from_residual in
     subst (λ x. AllFared g.R.Feed.is_broken g.R.Feed.failures (failed_reader x) c.args.ins.now c.read_headers.new.ins) (c.in_err-read_headers.was
     ∙ sym gone) c.read_headers.ensures.fared
 
 pub returns-in_err-read_headers-clause-fared_writers : goal.returns-in_err-read_headers-clause-fared_writers
 returns-in_err-read_headers-clause-fared_writers g c =
-    let gone : c.from_residual.result ≡ Err c.in_err-read_headers.field-0.0 = search rules in
+    let gone = not_read g (goal.at.returns-in_err-read_headers-clause-fared_writers g c).After-from_residual in
     rw gone (all_same g.W.Sink.is_broken g.W.Sink.failures _ c.args.outs.now (no_writer _ _ c.in_err-read_headers.field-0.0 c.in_err-read_headers.ensures.err))
 
 pub returns-in_err-put_headers-clause-fared_readers : goal.returns-in_err-put_headers-clause-fared_readers
 returns-in_err-put_headers-clause-fared_readers g c =
-    let gone : c.from_residual-in_err-put_headers.result ≡ Err c.in_err-put_headers.field-0.0 = search rules in
-    let read = subst (λ x. AllFared g.R.Feed.is_broken g.R.Feed.failures (failed_reader x) c.args.ins.now c.read_headers.new.ins) c.in_ok-read_headers.was
-    c.read_headers.ensures.fared in
+    let gone = not_written g (goal.at.returns-in_err-put_headers-clause-fared_readers g c).After-from_residual-in_err-put_headers in
+    let read = read g (goal.at.returns-in_err-put_headers-clause-fared_readers g c).In_ok-read_headers in
     rw gone (all_then g.R.Feed.is_broken g.R.Feed.failures _ c.args.ins.now c.read_headers.new.ins c.read_headers.new.ins c.read_headers.ensures.many read
     (all_same g.R.Feed.is_broken g.R.Feed.failures _ c.read_headers.new.ins (no_reader _ _ _ c.in_err-put_headers.field-0.0 c.in_err-put_headers.ensures.err)))
 
 pub returns-in_err-put_headers-clause-fared_writers : goal.returns-in_err-put_headers-clause-fared_writers
 returns-in_err-put_headers-clause-fared_writers g c =
-    let gone : c.from_residual-in_err-put_headers.result ≡ Err c.in_err-put_headers.field-0.0 = search rules in
+    let gone = not_written g (goal.at.returns-in_err-put_headers-clause-fared_writers g c).After-from_residual-in_err-put_headers in
     subst (λ x. AllFared g.W.Sink.is_broken g.W.Sink.failures (failed_writer x) c.args.outs.now c.put_headers.new.outs) (c.in_err-put_headers.was
     ∙ sym gone) c.put_headers.ensures.fared
 
@@ -128,8 +141,7 @@ returns-clause-sound g c ok =
 
 pub returns-clause-fared_readers : goal.returns-clause-fared_readers
 returns-clause-fared_readers g c =
-    let read = subst (λ x. AllFared g.R.Feed.is_broken g.R.Feed.failures (failed_reader x) c.args.ins.now c.read_headers.new.ins) c.in_ok-read_headers.was
-    c.read_headers.ensures.fared in
+    let read = read g (goal.at.returns-clause-fared_readers g c).In_ok-read_headers in
     all_then g.R.Feed.is_broken g.R.Feed.failures (failed_reader c.rounds.result) c.args.ins.now c.read_headers.new.ins c.rounds.new.ins
     c.read_headers.ensures.many read c.rounds.ensures.fared_readers
 
