@@ -224,31 +224,43 @@ head_written came k n xs ys bytes full within there long same =
     ∙ take-put_mid came k xs ys 16 (omega (arith, full, within, ap length same, length-take n bytes)) there
     ∙ ap (λ l. take came xs ++ l) same
 
--- a head is whole, with the numbers that a call leaves: of a record without bytes
+-- the bytes `ys` were written behind the first `came` of `xs`, and now that is a whole head, of a record with so many bytes
+pub record IsHead (o : Order) (came k n left : ℕ) (xs ys bytes : List ℕ) : Type 0 where
+  pub full : came + n ≡ 16
+  pub within : n ≤ length bytes
+  pub there : came ≤ length xs
+  pub long : length (put_mid came k xs ys) ≡ 16
+  pub written : ys ≡ take n bytes
+  pub is_long : left ≡ captured o (put_mid came k xs ys)
+
+head_size : (o : Order) (came k n left : ℕ) (xs ys bytes : List ℕ) → IsHead o came k n left xs ys bytes →
+    length (take came xs) + length (take n bytes) ≡ 16
+head_size o came k n left xs ys bytes h = omega (arith, h.full, h.within, h.there, length-take came xs, length-take n bytes)
+
+captured_size : (o : Order) (came k n left : ℕ) (xs ys bytes : List ℕ) → IsHead o came k n left xs ys bytes → left ≡ captured o (take came xs ++ take n bytes)
+captured_size o came k n left xs ys bytes h = h.is_long ∙ ap (captured o) (head_written came k n xs ys bytes h.full h.within h.there h.long h.written)
+
+-- with the numbers that a call leaves: of a record without bytes
 pub head_ends : (o : Order) (pieces none came k n pieces' left : ℕ) (head' xs ys bytes before : List ℕ) → none ≡ 0 → pieces' ≡ suc pieces → left ≡ 0 →
-    head' ≡ []
-    → left ≡ captured o (put_mid came k xs ys) → came + n ≡ 16 → n ≤ length bytes → came ≤ length xs → length (put_mid came k xs ys) ≡ 16 → ys ≡ take n bytes
+    head' ≡ [] → IsHead o came k n left xs ys bytes
     → IsBehind (record { order = o; pieces = pieces; left = none; head = take came xs }) before →
     IsBehind (record { order = o; pieces = pieces'; left = left; head = head' }) (before ++ take n bytes)
-head_ends o pieces none came k n pieces' left head' xs ys bytes before was more zero_left empty is_long full within there long same b =
-    let whole = head_written came k n xs ys bytes full within there long same in
-    let size : length (take came xs) + length (take n bytes) ≡ 16 = omega (arith, full, within, there, length-take came xs, length-take n bytes) in
+head_ends o pieces none came k n pieces' left head' xs ys bytes before was more zero_left empty h b =
     subst (λ m. IsBehind (record { order = o; pieces = m; left = left; head = head' }) (before ++ take n bytes)) (sym more)
     (subst (λ m. IsBehind (record { order = o; pieces = suc pieces; left = m; head = head' }) (before ++ take n bytes)) (sym zero_left)
-    (subst (λ h. IsBehind (record { order = o; pieces = suc pieces; left = 0; head = h }) (before ++ take n bytes)) (sym empty)
-    (head_alone o pieces (take came xs) before (take n bytes) size (sym zero_left ∙ is_long ∙ ap (captured o) whole)
+    (subst (λ l. IsBehind (record { order = o; pieces = suc pieces; left = 0; head = l }) (before ++ take n bytes)) (sym empty)
+    (head_alone o pieces (take came xs) before (take n bytes) (head_size o came k n left xs ys bytes h)
+    (sym zero_left ∙ captured_size o came k n left xs ys bytes h)
     (subst (λ m. IsBehind (record { order = o; pieces = pieces; left = m; head = take came xs }) before) was b))))
 
 -- and of one with bytes
 pub head_goes_on : (o : Order) (pieces none came k n left : ℕ) (head' xs ys bytes before : List ℕ) → none ≡ 0 → 0 < left → head' ≡ []
-    → left ≡ captured o (put_mid came k xs ys) → came + n ≡ 16 → n ≤ length bytes → came ≤ length xs → length (put_mid came k xs ys) ≡ 16 → ys ≡ take n bytes
+    → IsHead o came k n left xs ys bytes
     → IsBehind (record { order = o; pieces = pieces; left = none; head = take came xs }) before →
     IsBehind (record { order = o; pieces = pieces; left = left; head = head' }) (before ++ take n bytes)
-head_goes_on o pieces none came k n left head' xs ys bytes before was any empty is_long full within there long same b =
-    let whole = head_written came k n xs ys bytes full within there long same in
-    let size : length (take came xs) + length (take n bytes) ≡ 16 = omega (arith, full, within, there, length-take came xs, length-take n bytes) in
-    subst (λ h. IsBehind (record { order = o; pieces = pieces; left = left; head = h }) (before ++ take n bytes)) (sym empty)
-    (head_whole o pieces left (take came xs) before (take n bytes) size (is_long ∙ ap (captured o) whole) any
+head_goes_on o pieces none came k n left head' xs ys bytes before was any empty h b =
+    subst (λ l. IsBehind (record { order = o; pieces = pieces; left = left; head = l }) (before ++ take n bytes)) (sym empty)
+    (head_whole o pieces left (take came xs) before (take n bytes) (head_size o came k n left xs ys bytes h) (captured_size o came k n left xs ys bytes h) any
     (subst (λ m. IsBehind (record { order = o; pieces = pieces; left = m; head = take came xs }) before) was b))
 
 -- ---- piece by piece
