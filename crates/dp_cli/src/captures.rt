@@ -138,6 +138,14 @@ struct Failed {
     failure: Error,
 }
 
+/// Of the port that failed so far, if one did, and one more: the first, or the one at which the run stopped.
+fn first_or_stopped(failed: Option<Failed>, more: Failed, stopped: Option<u8>) -> Failed {
+    match failed {
+        Some(first) if stopped != Some(more.port) => first,
+        _ => more,
+    }
+}
+
 /// Writes out what stands in the buffers of all outputs, in port order. A port whose file does not take it all has sent the records
 /// that the file took whole, and no more. Answers the first such port, or that at which the run stopped where that is one of them.
 #[tactic(auto, using(crate::proofs::Lowering::lowered_none, crate::proofs::Lowering::lowered_more))]
@@ -154,9 +162,7 @@ fn write_out_all<F: Write + Drop>(
     for (port, output) in (0..8u8).zip(outputs) {
         if let Some(Unwritten { whole, failure }) = write_out(output) {
             lower(ports, usize::from(port), whole);
-            if failed.is_none() || stopped == Some(port) {
-                failed = Some(Failed { port, failure });
-            }
+            failed = Some(first_or_stopped(failed, Failed { port, failure }, stopped));
         }
     }
     failed

@@ -206,6 +206,7 @@ pub fn tell_unloaded<O: Write, E: Write>(error: PipeError, out: &mut O, err: &mu
     ensures status { IsTold (status_of error) result }
     ensures refused { result ≡ REFUSED → err.new ≡ err.old }
     ensures fault { status_of error ≢ REFUSED → out.new ≡ out.old }
+    ensures fails { result ≢ DONE }
     ensures memory { result ≡ MEMORY → TellsMemory (E.contents err.old) (E.contents err.new) }
 {
     match error {

@@ -1,6 +1,6 @@
 //! `dpv run`: a pipeline, from captures to captures.
 
-ghost use Rattle.std.specs.Prelude.{◌≡◌, length, map, None, IfOk, IfSome};
+ghost use Rattle.std.specs.Prelude.{◌≡◌, ◌≢◌, length, map, None, IfOk, IfSome};
 ghost use Rattle.std.specs.Io.KnownBytes.{Appends};
 ghost use Rattle.dp_engine.specs.Engines.{IsAscending};
 ghost use Rattle.dp_cli.specs.Report.{report_text};
@@ -67,6 +67,7 @@ fn tell_stopped<O: Write, E: Write>(
     err: &mut E,
 ) -> u8
     ensures status { IsTold (status_of_cause fault.cause) result }
+    ensures fails { result ≢ DONE }
     ensures memory { result ≡ MEMORY → TellsMemory (E.contents err.old) (E.contents err.new) }
 {
     let RunFault { cause, report } = fault;
