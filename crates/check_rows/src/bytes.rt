@@ -44,15 +44,15 @@ fn harmful(
     let env = environment(1)?;
     let mut bytes = text.as_bytes().to_vec(rt.alloc())?;
     let mut count = 0u64;
-    for place in from..to {
+    for offset in from..to {
         for value in 0..=255u8 {
-            if place < bytes.len() {
-                let old = bytes[place];
-                bytes[place] = value;
+            if offset < bytes.len() {
+                let old = bytes[offset];
+                bytes[offset] = value;
                 if !is_harmless(rt, node, bytes.as_slice(), rows, &env)? {
                     count = count.saturating_add(1);
                 }
-                bytes[place] = old;
+                bytes[offset] = old;
             }
         }
     }

@@ -1,7 +1,7 @@
 -- What is read is spelled so.
 use Rattle.std.proofs.Common.{◌≡◌, ℕ, zero, suc, ◌+◌, ◌&&◌, Bool, true, false, cond, List, [], ◌∷◌, ◌++◌, length, take, drop, Result, Ok, Err, refl, sym, ap}
 use Rattle.std.proofs.Common.{subst, ◌∙◌}
-use Rattle.std.specs.Prelude.{IfOk, IsTrue, nat_eq}
+use Rattle.std.specs.Prelude.{IfOk, IsTrue, nat_eq, Option, Some, None}
 use Rattle.std.specs.Global.{Vec}
 use Rattle.std.specs.List.{flat_map, list_all, AllByRecursion, starts_with}
 use Rattle.std.specs.Str.{bytes_eq}
@@ -19,7 +19,6 @@ use Rattle.dp_cert.specs.Spelling.{Certificate, is_row_of, row_line, head_line, 
 use Rattle.dp_cert.specs.declared.cert.Version.{Version}
 use Rattle.dp_cert.specs.declared.cert.Version.TheVariants.{One, Two}
 use Rattle.std.proofs.lemmas.Option.{same_Some}
-use Rattle.std.specs.Prelude.{Option, Some, None}
 use Rattle.dp_cert.specs.Reading.{◌>>=◌, at_line, onto, is_line, digits_in, of_bytes, spelled_row, row_in, row_of, rows_of, version_in, certified, cert_of}
 use Rattle.dp_cert.specs.Reading.{Gives}
 

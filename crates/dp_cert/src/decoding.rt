@@ -1,13 +1,11 @@
 //! From text to rows.
 
-ghost use Rattle.std.specs.Prelude.{◌≡◌, ◌<◌, length, IsTrue, IfOk, IfErr, MatchResult, Some, None};
-ghost use Rattle.std.specs.List.{list_all};
+ghost use Rattle.std.specs.Prelude.{◌≡◌, ◌<◌, length, IsTrue, IfOk, IfErr, MatchResult, Some, None, List, Ok};
+ghost use Rattle.std.specs.List.{list_all, AllByRecursion};
 ghost use Rattle.dp_model.specs.Rows.{is_well_formed_row};
 ghost use Rattle.hex.specs.Hex.{decode_sized};
 ghost use Rattle.dp_cert.specs.Spelling.{Certificate, CertText, IsCertificate, is_row_of, spelling};
 ghost use Rattle.dp_cert.specs.Faults.{IsFaultOf};
-ghost use Rattle.std.specs.Prelude.{List, Ok};
-ghost use Rattle.std.specs.List.{AllByRecursion};
 ghost use Rattle.dp_model.specs.declared.row.Row.{Row};
 ghost use Rattle.dp_cert.specs.Reading as spec;
 

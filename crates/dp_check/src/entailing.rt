@@ -1,7 +1,7 @@
 //! What follows from what: whether one fact, or one row, says all that another does.
 
 ghost use Rattle.std.specs.Prelude.{◌≡◌, nat_le};
-ghost use Rattle.dp_model.specs.Groups.{at_each_place, same_registers, keeps_groups};
+ghost use Rattle.dp_model.specs.Groups.{at_each_index, same_registers, keeps_groups};
 ghost use Rattle.dp_model.specs.Rows.{entails_share, entails_holding, entails_fact, entails};
 
 use dp_model::{Fact, Holding, Row};
@@ -40,9 +40,9 @@ pub fn fact_entails(fact: Fact, other: Fact) -> bool
 }
 
 /// Whether each fact says all that the other's at its place does.
-#[tactic(auto, using(dp_model::specs::Laws::Lists::each_place_drop))]
+#[tactic(auto, using(dp_model::specs::Laws::Lists::each_index_drop))]
 fn facts_entail(facts: &[Fact; 8], others: &[Fact; 8]) -> bool
-    ensures { result ≡ at_each_place entails_fact facts.now others.now }
+    ensures { result ≡ at_each_index entails_fact facts.now others.now }
 {
     for i in 0..8 {
         if !fact_entails(facts[i], others[i]) {
@@ -53,9 +53,9 @@ fn facts_entail(facts: &[Fact; 8], others: &[Fact; 8]) -> bool
 }
 
 /// Whether each bound is at most the other's at its place.
-#[tactic(auto, using(dp_model::specs::Laws::Lists::each_place_drop))]
+#[tactic(auto, using(dp_model::specs::Laws::Lists::each_index_drop))]
 fn bounds_entail(bounds: &[u64; 8], others: &[u64; 8]) -> bool
-    ensures { result ≡ at_each_place nat_le bounds.now others.now }
+    ensures { result ≡ at_each_index nat_le bounds.now others.now }
 {
     for i in 0..8 {
         if bounds[i] > others[i] {
@@ -66,7 +66,7 @@ fn bounds_entail(bounds: &[u64; 8], others: &[u64; 8]) -> bool
 }
 
 /// Whether the group has the same registers in both.
-#[tactic(auto, using(dp_model::specs::Laws::Lists::each_place_drop))]
+#[tactic(auto, using(dp_model::specs::Laws::Lists::each_index_drop))]
 pub(crate) fn same_registers(facts: &[Fact; 8], others: &[Fact; 8], group: u8) -> bool
     ensures { result ≡ same_registers facts.now others.now group }
 {

@@ -2,7 +2,7 @@
 
 ghost use Rattle.std.specs.Prelude.{◌≡◌, ◌<◌, true, false, Some, nat_le, slice_get, IfSome, IfNone};
 ghost use Rattle.std.proofs.Math.Bool.{beq};
-ghost use Rattle.dp_model.specs.Groups.{at_each_place, group_of, is_in, keeps_groups, same_registers};
+ghost use Rattle.dp_model.specs.Groups.{at_each_index, group_of, is_in, keeps_groups, same_registers};
 ghost use Rattle.dp_model.specs.Rows.{entails, entails_fact};
 ghost use Rattle.std.specs.Option.{option_map_or};
 ghost use Rattle.dp_check.specs.Diagnoses.{Is, IsGap, SomeOf};
@@ -12,9 +12,9 @@ use crate::reason::Gap;
 use dp_model::{Fact, NumberRegister, PacketRegister, Row};
 
 /// The first register of which the first facts do not say all that the second do.
-#[tactic(auto, using(dp_model::specs::Laws::Lists::each_place_drop))]
+#[tactic(auto, using(dp_model::specs::Laws::Lists::each_index_drop))]
 fn fact_gap(facts: &[Fact; 8], others: &[Fact; 8]) -> Option<PacketRegister>
-    ensures none { IfNone result (at_each_place entails_fact facts.now others.now ≡ true) }
+    ensures none { IfNone result (at_each_index entails_fact facts.now others.now ≡ true) }
     ensures some { IfSome result (λ p. Is (slice_get facts.now p) (λ known. Is (slice_get others.now p) (λ wanted. entails_fact known wanted ≡ false))) }
 {
     for i in 0..8 {
@@ -26,7 +26,7 @@ fn fact_gap(facts: &[Fact; 8], others: &[Fact; 8]) -> Option<PacketRegister>
 }
 
 /// The first register that belongs to the group in one of the two alone.
-#[tactic(auto, using(dp_model::specs::Laws::Lists::each_place_drop))]
+#[tactic(auto, using(dp_model::specs::Laws::Lists::each_index_drop))]
 fn member_gap(facts: &[Fact; 8], others: &[Fact; 8], group: u8) -> Option<PacketRegister>
     ensures none { IfNone result (same_registers facts.now others.now group ≡ true) }
     ensures some { IfSome result (λ p. Is (slice_get facts.now p) (λ known.
@@ -41,9 +41,9 @@ fn member_gap(facts: &[Fact; 8], others: &[Fact; 8], group: u8) -> Option<Packet
 }
 
 /// The first number that the first bounds let be greater than the second.
-#[tactic(auto, using(dp_model::specs::Laws::Lists::each_place_drop))]
+#[tactic(auto, using(dp_model::specs::Laws::Lists::each_index_drop))]
 fn bound_gap(bounds: &[u64; 8], others: &[u64; 8]) -> Option<NumberRegister>
-    ensures none { IfNone result (at_each_place nat_le bounds.now others.now ≡ true) }
+    ensures none { IfNone result (at_each_index nat_le bounds.now others.now ≡ true) }
     ensures some { IfSome result (λ r. Is (slice_get bounds.now r) (λ known. Is (slice_get others.now r) (λ wanted. wanted < known))) }
 {
     for i in 0..8 {

@@ -6,7 +6,7 @@ ghost use Rattle.std.specs.Option.{option_map};
 ghost use Rattle.dp_model.specs.declared.env.Entry.{Entry};
 ghost use Rattle.dp_model.specs.declared.rule.Rule.TheVariants.{J3, J5, J6, J7, J8, J9, J10};
 ghost use Rattle.dp_model.specs.Rows.{entails, entails_share, is_empty, is_well_formed_row};
-ghost use Rattle.dp_model.specs.Rules.{Question, places_exist, is_held, uses, targets_fit, bytes_fit, share_fits, segments_fit, may_leave, may_end};
+ghost use Rattle.dp_model.specs.Rules.{Question, indices_exist, is_held, uses, targets_fit, bytes_fit, share_fits, segments_fit, may_leave, may_end};
 ghost use Rattle.dp_model.specs.Rules.{row_passes, holds_at, later_rules};
 ghost use Rattle.dp_cert.specs.declared.cert.Version.{Version};
 ghost use Rattle.dp_check.specs.Faults.{question};
@@ -21,9 +21,9 @@ use crate::rules::is_held;
 use dp_model::{Env, Fact, Instr, Lead, MOST_SEGMENTS, PacketRegister, Row};
 
 /// The pool, the table or the ring that is not there, if the instruction names one.
-fn missing_place(env: &Env, instr: Instr) -> Option<Reason>
-    ensures none { IfNone result (places_exist env.now instr ≡ true) }
-    ensures some { IfSome result (λ reason. (places_exist env.now instr ≡ false) × (rule_of reason ≡ J3)) }
+fn missing_index(env: &Env, instr: Instr) -> Option<Reason>
+    ensures none { IfNone result (indices_exist env.now instr ≡ true) }
+    ensures some { IfSome result (λ reason. (indices_exist env.now instr ≡ false) × (rule_of reason ≡ J3)) }
     ensures says { (q : Question) → q.env ≡ env.now → (label : ℕ) (row : Row) → IfSome result (Says q label instr row) }
 {
     match instr {
@@ -332,7 +332,7 @@ fn unfit_segments(row: &Row, instr: Instr) -> Option<Reason>
 
 /// The port that is not there, or what the ring declares, if there is less.
 fn unfit_exit(env: &Env, row: &Row, instr: Instr) -> Option<Reason>
-    requires places { places_exist env.now instr ≡ true }
+    requires places { indices_exist env.now instr ≡ true }
     ensures none { IfNone result (may_leave env.now row.now instr ≡ true) }
     ensures some { IfSome result (λ reason. (may_leave env.now row.now instr ≡ false) × (rule_of reason ≡ J9)) }
     ensures says { (q : Question) → q.env ≡ env.now → (label : ℕ) → IfSome result (Says q label instr row.now) }
@@ -454,7 +454,7 @@ pub(crate) fn reason_in(
 {
     let ways = leads_of(*instr, env, label, row);
     let count = program.len();
-    if let Some(reason) = missing_place(env, *instr) {
+    if let Some(reason) = missing_index(env, *instr) {
         return Some(reason);
     }
     if let Some(to) = label_behind(&ways, count) {

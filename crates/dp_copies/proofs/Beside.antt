@@ -10,22 +10,22 @@ use Rattle.dp_copies.specs.Seen.{written_register, IsListed, IsQueued, IsBeside}
 
 -- the references of a packet of a list
 refs_contained : (packets : List Packet) (k : Packet) (b : Number) → Contains packets k → refs k b ≤ refs (flat_map (λ k. k) packets) b
-refs_contained [] k b (place, there, is) = absurd (omega (arith, there))
+refs_contained [] k b (index, there, is) = absurd (omega (arith, there))
 refs_contained (x ∷ packets) k b (zero, there, is) =
     let e : refs x b ≡ refs k b = ap (λ k. refs k b) is in
     omega (arith, e, refs-append x (flat_map (λ k. k) packets) b)
-refs_contained (x ∷ packets) k b (suc place, there, is) =
-    omega (arith, refs_contained packets k b (place, omega (arith, there), is), refs-append x (flat_map (λ k. k) packets) b)
+refs_contained (x ∷ packets) k b (suc index, there, is) =
+    omega (arith, refs_contained packets k b (index, omega (arith, there), is), refs-append x (flat_map (λ k. k) packets) b)
 
 -- the references of a list among lists
 refs_in_list : (lists : List (List Packet)) (packets : List Packet) (b : Number) → Contains lists packets →
     refs (flat_map (λ k. k) packets) b ≤ refs (segments_listed lists) b
-refs_in_list [] packets b (place, there, is) = absurd (omega (arith, there))
+refs_in_list [] packets b (index, there, is) = absurd (omega (arith, there))
 refs_in_list (x ∷ lists) packets b (zero, there, is) =
     let e : refs (flat_map (λ k. k) x) b ≡ refs (flat_map (λ k. k) packets) b = ap (λ (l : List Packet). refs (flat_map (λ k. k) l) b) is in
     omega (arith, e, refs-append (flat_map (λ k. k) x) (segments_listed lists) b)
-refs_in_list (x ∷ lists) packets b (suc place, there, is) =
-    omega (arith, refs_in_list lists packets b (place, omega (arith, there), is), refs-append (flat_map (λ k. k) x) (segments_listed lists) b)
+refs_in_list (x ∷ lists) packets b (suc index, there, is) =
+    omega (arith, refs_in_list lists packets b (index, omega (arith, there), is), refs-append (flat_map (λ k. k) x) (segments_listed lists) b)
 
 -- the references of a packet of a list among lists
 refs_listed : (lists : List (List Packet)) (k : Packet) (b : Number) → IsListed lists k → refs k b ≤ refs (segments_listed lists) b

@@ -11,13 +11,13 @@ use Rattle.dp_copies.proofs.States.{copied}
 use Rattle.dp_copies.proofs.Steps.{StepsCopy}
 
 -- what the budget makes of a move
-budget_copies : (pools : List PoolSpec) (label : ℕ) (m : Move) (told : List Bool) → copy_budgeted label (m.next, copied pools m.state told)
-    ≡ ((budgeted label m).next, copied pools (budgeted label m).state told)
-budget_copies pools label m told = go (is_backward label m.next) (nat_lt m.state.jumps jump_budget)
+budget_copies : (pools : List PoolSpec) (label : ℕ) (m : Move) (answers : List Bool) → copy_budgeted label (m.next, copied pools m.state answers)
+    ≡ ((budgeted label m).next, copied pools (budgeted label m).state answers)
+budget_copies pools label m answers = go (is_backward label m.next) (nat_lt m.state.jumps jump_budget)
   where
-    go : (b d : Bool) → cond {A = CopyMove} b (cond d (m.next, record (copied pools m.state told) { jumps = m.state.jumps + 1 })
-        (copy_cut_off (copied pools m.state told))) (m.next, copied pools m.state told)
-        ≡ ((cond b (cond d (with_jump m) (cut_off m)) m).next, copied pools (cond b (cond d (with_jump m) (cut_off m)) m).state told)
+    go : (b d : Bool) → cond {A = CopyMove} b (cond d (m.next, record (copied pools m.state answers) { jumps = m.state.jumps + 1 })
+        (copy_cut_off (copied pools m.state answers))) (m.next, copied pools m.state answers)
+        ≡ ((cond b (cond d (with_jump m) (cut_off m)) m).next, copied pools (cond b (cond d (with_jump m) (cut_off m)) m).state answers)
     go true true = refl
     go true false = refl
     go false d = refl
@@ -25,16 +25,16 @@ budget_copies pools label m told = go (is_backward label m.next) (nat_lt m.state
 -- a step of a program is that of the copies
 pub step_copies : (c : Setting) → StepsCopy c → (program : List Instr) (label : ℕ) (s : State) (m : Move) (later : List Bool) →
     IsWithin c.env.pools s.world.buffers (live s) → Step c program label s m →
-    option_map (copy_budgeted label) (option_and_then (copy_step c.env c.tables label (copied c.env.pools s (m.told ++ later))) (slice_get program label))
+    option_map (copy_budgeted label) (option_and_then (copy_step c.env c.tables label (copied c.env.pools s (m.answers ++ later))) (slice_get program label))
     ≡ Some (m.next, copied c.env.pools m.state later)
 step_copies c steps program label s m later well st =
     let pools = c.env.pools in
     let e = st.effect in
-    let told : (budgeted label e).told ≡ e.told = budget_keeps (λ m. m.told ≡ e.told) label e refl refl refl in
-    subst (λ m. option_map (copy_budgeted label) (option_and_then (copy_step c.env c.tables label (copied pools s (m.told ++ later)))
+    let answers : (budgeted label e).answers ≡ e.answers = budget_keeps (λ m. m.answers ≡ e.answers) label e refl refl refl in
+    subst (λ m. option_map (copy_budgeted label) (option_and_then (copy_step c.env c.tables label (copied pools s (m.answers ++ later)))
     (slice_get program label)) ≡ Some (m.next, copied pools m.state later)) (sym st.is)
     (ap (λ ts. option_map (copy_budgeted label) (option_and_then (copy_step c.env c.tables label (copied pools s (ts ++ later))) (slice_get program label)))
-    told
-    ∙ (ap (λ o. option_map (copy_budgeted label) (option_and_then (copy_step c.env c.tables label (copied pools s (e.told ++ later))) o)) st.here
+    answers
+    ∙ (ap (λ o. option_map (copy_budgeted label) (option_and_then (copy_step c.env c.tables label (copied pools s (e.answers ++ later))) o)) st.here
     ∙ (ap (option_map (copy_budgeted label)) (steps label (with_step s) st.instr e later well st.acts)
     ∙ ap Some (budget_copies pools label e later))))

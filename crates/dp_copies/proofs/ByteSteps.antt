@@ -25,35 +25,35 @@ some_bytes Four = omega arith
 some_bytes Eight = omega arith
 
 -- the same bytes are loaded
-loads_step : (c : Setting) (st : State) (told : List Bool) (p label place w r : ℕ) (k : Packet) → IsInside c st → Holds st p k → 0 < w →
-    place + w ≤ first_len k → copy_loads (copied c.env.pools st told) p label place w r
-    ≡ Some (At (label + 1), copied c.env.pools (with_number r (loaded place w k st.world.buffers) st) told)
-loads_step c st told p label place w r k well holds some le =
+loads_step : (c : Setting) (st : State) (answers : List Bool) (p label offset w r : ℕ) (k : Packet) → IsInside c st → Holds st p k → 0 < w →
+    offset + w ≤ first_len k → copy_loads (copied c.env.pools st answers) p label offset w r
+    ≡ Some (At (label + 1), copied c.env.pools (with_number r (loaded offset w k st.world.buffers) st) answers)
+loads_step c st answers p label offset w r k well holds some le =
     let pools = c.env.pools in
-    let s = copied pools st told in
-    held_step pools st told p k (λ k. provided (nat_le (place + w) (length (first_piece k).bytes))
-    (copy_on label (record s { numbers = slice_set s.numbers r (spelled (slice_range (first_piece k).bytes place (place + w))) }))) holds
+    let s = copied pools st answers in
+    held_step pools st answers p k (λ k. provided (nat_le (offset + w) (length (first_piece k).bytes))
+    (copy_on label (record s { numbers = slice_set s.numbers r (spelled (slice_range (first_piece k).bytes offset (offset + w))) }))) holds
     ∙ (ap (λ b. provided b (copy_on label (record s {
       numbers = slice_set s.numbers r
-          (spelled (slice_range (first_piece (copy_of pools st.world.buffers k)).bytes place (place + w)));
+          (spelled (slice_range (first_piece (copy_of pools st.world.buffers k)).bytes offset (offset + w)));
     })))
-    (le-leb (place + w) _ (omega (arith, le, first_length pools st.world.buffers k (there c st p k well holds))))
+    (le-leb (offset + w) _ (omega (arith, le, first_length pools st.world.buffers k (there c st p k well holds))))
     ∙ ap (λ n. Some (At (label + 1), record s { numbers = slice_set s.numbers r n })) (value k (omega (arith, le, some))))
   where
-    value : (k : Packet) → 0 < first_len k → spelled (slice_range (first_piece (copy_of c.env.pools st.world.buffers k)).bytes place (place + w))
-        ≡ loaded place w k st.world.buffers
+    value : (k : Packet) → 0 < first_len k → spelled (slice_range (first_piece (copy_of c.env.pools st.world.buffers k)).bytes offset (offset + w))
+        ≡ loaded offset w k st.world.buffers
     value [] one = absurd (omega arith)
     value (s ∷ rest) one = refl
 
 -- the same bytes are stored
-stores_step : (c : Setting) (st : State) (told : List Bool) (p label place w n : ℕ) (k : Packet) → IsInside c st → Holds st p k → 0 < w →
-    place + w ≤ first_len k → IsHeadSole (live st) k → copy_stores (copied c.env.pools st told) p label place w n
-    ≡ Some (At (label + 1), copied c.env.pools (with_buffers (stored place w n k st.world.buffers) st) told)
-stores_step c st told p label place w n k well holds some le sole =
-    edits_step c.env.pools st (with_buffers (stored place w n k st.world.buffers) st) told p label (λ k. nat_le (place + w) (length (first_piece k).bytes))
-    (at_front (with_stored place (big_endian w n))) k holds
-    (le-leb (place + w) _ (omega (arith, le, first_length c.env.pools st.world.buffers k (there c st p k well holds))))
-    (store_copies c.env.pools st p k place w n told holds some le sole well)
+stores_step : (c : Setting) (st : State) (answers : List Bool) (p label offset w n : ℕ) (k : Packet) → IsInside c st → Holds st p k → 0 < w →
+    offset + w ≤ first_len k → IsHeadSole (live st) k → copy_stores (copied c.env.pools st answers) p label offset w n
+    ≡ Some (At (label + 1), copied c.env.pools (with_buffers (stored offset w n k st.world.buffers) st) answers)
+stores_step c st answers p label offset w n k well holds some le sole =
+    edits_step c.env.pools st (with_buffers (stored offset w n k st.world.buffers) st) answers p label (λ k. nat_le (offset + w) (length (first_piece k).bytes))
+    (at_front (with_stored offset (big_endian w n))) k holds
+    (le-leb (offset + w) _ (omega (arith, le, first_length c.env.pools st.world.buffers k (there c st p k well holds))))
+    (store_copies c.env.pools st p k offset w n answers holds some le sole well)
 
 -- ---- each instruction
 

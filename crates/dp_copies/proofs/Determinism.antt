@@ -59,17 +59,17 @@ module _ (env : Environment) (tables : List (List Route)) (fuel more : ℕ) (le 
           (slice_get programs next.ring) (λ program. node_less program next.packet next.ring (record x { rings = next.rings })) (λ r e. e)) t e
 
   -- a record that is small enough
-  receives_less : (program : List Instr) (port : ℕ) (spec : PortSpec) (bytes : List ℕ) (x : CopyState) (told : List Bool) →
-      Less (copy_receives env tables fuel program port spec bytes x told) (copy_receives env tables more program port spec bytes x told)
+  receives_less : (program : List Instr) (port : ℕ) (spec : PortSpec) (bytes : List ℕ) (x : CopyState) (answers : List Bool) →
+      Less (copy_receives env tables fuel program port spec bytes x answers) (copy_receives env tables more program port spec bytes x answers)
   receives_less program port spec bytes x [] t e = cc
   receives_less program port spec bytes x (false ∷ later) t e = e
   receives_less program port spec bytes x (true ∷ later) t e =
       map_less (λ t. (Got, t))
       (copy_node_run env tables fuel program (copy_received (room_at env.pools spec.pool) (needed env.pools spec.pool (length bytes)) bytes) port
-      (record x { to_tell = later }))
+      (record x { to_answer = later }))
       (copy_node_run env tables more program (copy_received (room_at env.pools spec.pool) (needed env.pools spec.pool (length bytes)) bytes) port
-      (record x { to_tell = later }))
-      (node_less program (copy_received (room_at env.pools spec.pool) (needed env.pools spec.pool (length bytes)) bytes) port (record x { to_tell = later }))
+      (record x { to_answer = later }))
+      (node_less program (copy_received (room_at env.pools spec.pool) (needed env.pools spec.pool (length bytes)) bytes) port (record x { to_answer = later }))
       t e
 
   -- a choice
@@ -86,8 +86,8 @@ module _ (env : Environment) (tables : List (List Route)) (fuel more : ℕ) (le 
       (λ m. map_less (λ t. (m.0, t)) (copy_serves env tables fuel nodes.rings 32 m.1) (copy_serves env tables more nodes.rings 32 m.1)
       (serves_less nodes.rings 32 m.1))
       (either_less (nat_lt spec.segs (needed env.pools spec.pool (length bytes))) (Some (Oversize, x))
-      (copy_receives env tables fuel program port spec bytes x x.to_tell) (copy_receives env tables more program port spec bytes x x.to_tell)
-      (receives_less program port spec bytes x x.to_tell)))
+      (copy_receives env tables fuel program port spec bytes x x.to_answer) (copy_receives env tables more program port spec bytes x x.to_answer)
+      (receives_less program port spec bytes x x.to_answer)))
       (λ r e. e))
       (λ r e. e)
 
@@ -102,12 +102,12 @@ module _ (env : Environment) (tables : List (List Route)) (fuel more : ℕ) (le 
       (turn_less nodes a.port a.bytes x) r e
 
 -- there is one list of captures, and one number of cuts
-pub captures_once : {T : Type 0} (env : Environment) (tables : List (List Route)) (nodes : Nodes) (arrivals : List (Arrival T)) (told : List Bool)
-    (captures captures' : List (List (T × List ℕ))) (cuts cuts' : ℕ) → Captures env tables nodes arrivals told captures cuts →
-    Captures env tables nodes arrivals told captures' cuts' → (captures ≡ captures') × (cuts ≡ cuts')
-captures_once {T} env tables nodes arrivals told captures captures' cuts cuts' (fuel, x, e, _, is) (fuel', x', e', _, is') =
-    let one = run_less env tables fuel (fuel + fuel') (omega arith) nodes arrivals (copy_start env told) (captures, x) e in
-    let other = run_less env tables fuel' (fuel + fuel') (omega arith) nodes arrivals (copy_start env told) (captures', x') e' in
+pub captures_once : {T : Type 0} (env : Environment) (tables : List (List Route)) (nodes : Nodes) (arrivals : List (Arrival T)) (answers : List Bool)
+    (captures captures' : List (List (T × List ℕ))) (cuts cuts' : ℕ) → Captures env tables nodes arrivals answers captures cuts →
+    Captures env tables nodes arrivals answers captures' cuts' → (captures ≡ captures') × (cuts ≡ cuts')
+captures_once {T} env tables nodes arrivals answers captures captures' cuts cuts' (fuel, x, e, _, is) (fuel', x', e', _, is') =
+    let one = run_less env tables fuel (fuel + fuel') (omega arith) nodes arrivals (copy_start env answers) (captures, x) e in
+    let other = run_less env tables fuel' (fuel + fuel') (omega arith) nodes arrivals (copy_start env answers) (captures', x') e' in
     let r : List (List (T × List ℕ)) × CopyState = (captures, x) in
     let r' : List (List (T × List ℕ)) × CopyState = (captures', x') in
     let same : r ≡ r' = same_Some r r' (sym one ∙ other) in

@@ -19,13 +19,13 @@ use Rattle.dp_copies.proofs.Lengthening.{prepend_copies, append_copies}
 use Rattle.dp_copies.proofs.Moves.{Does, by, held_step, put_copies}
 
 -- an edit that is allowed and gives the same copy
-pub edits_step : (pools : List PoolSpec) (st st' : State) (told : List Bool) (p label : ℕ) (test : Copy → Bool) (f : Copy → Copy) (k : Packet) →
-    Holds st p k → test (copy_of pools st.world.buffers k) ≡ true → copied pools st' told
-    ≡ copy_put p (Some (f (copy_of pools st.world.buffers k))) (copied pools st told) → copy_edits (copied pools st told) p label test f
-    ≡ Some (At (label + 1), copied pools st' told)
-edits_step pools st st' told p label test f k holds passes same =
-    held_step pools st told p k (λ k. provided (test k) (copy_on label (copy_put p (Some (f k)) (copied pools st told)))) holds
-    ∙ (ap (λ b. provided b (copy_on label (copy_put p (Some (f (copy_of pools st.world.buffers k))) (copied pools st told)))) passes
+pub edits_step : (pools : List PoolSpec) (st st' : State) (answers : List Bool) (p label : ℕ) (test : Copy → Bool) (f : Copy → Copy) (k : Packet) →
+    Holds st p k → test (copy_of pools st.world.buffers k) ≡ true → copied pools st' answers
+    ≡ copy_put p (Some (f (copy_of pools st.world.buffers k))) (copied pools st answers) → copy_edits (copied pools st answers) p label test f
+    ≡ Some (At (label + 1), copied pools st' answers)
+edits_step pools st st' answers p label test f k holds passes same =
+    held_step pools st answers p k (λ k. provided (test k) (copy_on label (copy_put p (Some (f k)) (copied pools st answers)))) holds
+    ∙ (ap (λ b. provided b (copy_on label (copy_put p (Some (f (copy_of pools st.world.buffers k))) (copied pools st answers)))) passes
     ∙ ap (λ t. Some (At (label + 1), t)) (sym same))
 
 -- ---- each instruction

@@ -13,11 +13,11 @@ use Rattle.dp_copies.proofs.States.{copied}
 use Rattle.dp_copies.proofs.Steps.{steps_copy}
 use Rattle.dp_copies.proofs.NodeRuns.{goes_more, goes_copies, goes_within}
 
--- a state of the copies shows a world, before calls that are told this
-pub record Shows (pools : List PoolSpec) (w : World) (told : List Bool) (x : CopyState) : Type 0 where
+-- a state of the copies shows a world, before calls with these answers
+pub record Shows (pools : List PoolSpec) (w : World) (answers : List Bool) (x : CopyState) : Type 0 where
   pub rings : x.rings ≡ map (map (copy_of pools w.buffers)) w.rings
   pub outboxes : x.outboxes ≡ map (map (copy_of pools w.buffers)) w.outboxes
-  pub to_tell : x.to_tell ≡ told
+  pub to_answer : x.to_answer ≡ answers
   pub cuts : x.cuts ≡ w.cuts
 
 -- with enough steps the copies make this of a state that shows the world
@@ -29,9 +29,9 @@ pub record Lands {R : Type 0} (c : Setting) (w : World) (later : List Bool) (go 
   pub within : IsInside c (between w)
 
 -- nothing happens
-pub stays : {R : Type 0} (c : Setting) (w w' : World) (told later : List Bool) (x : CopyState) (go : ℕ → Option R) (made : CopyState → R) →
-    IsInside c (between w) → Shows c.env.pools w (told ++ later) x → told ≡ [] → w' ≡ w → ((fuel : ℕ) → go fuel ≡ Some (made x)) → Lands c w' later go made
-stays c w w' told later x go made well shows none is e =
+pub stays : {R : Type 0} (c : Setting) (w w' : World) (answers later : List Bool) (x : CopyState) (go : ℕ → Option R) (made : CopyState → R) →
+    IsInside c (between w) → Shows c.env.pools w (answers ++ later) x → answers ≡ [] → w' ≡ w → ((fuel : ℕ) → go fuel ≡ Some (made x)) → Lands c w' later go made
+stays c w w' answers later x go made well shows none is e =
     subst (λ v. Lands c v later go made) (sym is) (record {
       state = x;
       shows = subst (λ ts. Shows c.env.pools w (ts ++ later) x) none shows;
@@ -41,30 +41,30 @@ stays c w w' told later x go made well shows none is e =
     })
 
 -- a node run
-pub node_lands : (c : Setting) (program : List Instr) (k : Packet) (number : ℕ) (w w' : World) (told later : List Bool) (x : CopyState) →
-    IsInside c (first_state k number w) → Shows c.env.pools w (told ++ later) x → NodeRun c program k number w told w' →
+pub node_lands : (c : Setting) (program : List Instr) (k : Packet) (number : ℕ) (w w' : World) (answers later : List Bool) (x : CopyState) →
+    IsInside c (first_state k number w) → Shows c.env.pools w (answers ++ later) x → NodeRun c program k number w answers w' →
     Lands c w' later (λ fuel. copy_node_run c.env c.tables fuel program (copy_of c.env.pools w.buffers k) number x) (λ t. t)
-node_lands c program k number w w' told later x well shows (n, s, goes, is) =
+node_lands c program k number w w' answers later x well shows (n, s, goes, is) =
     let pools = c.env.pools in
     let begins : record x { packets = Some (copy_of pools w.buffers k) ∷ replicate 7 None; numbers = number ∷ replicate 7 0; jumps = 0 }
-    ≡ copied pools (first_state k number w) (told ++ later) =
+    ≡ copied pools (first_state k number w) (answers ++ later) =
     λ i. record {
       packets = Some (copy_of pools w.buffers k) ∷ replicate 7 None;
       numbers = number ∷ replicate 7 0;
       jumps = 0;
       rings = shows.rings i;
       outboxes = shows.outboxes i;
-      to_tell = shows.to_tell i;
+      to_answer = shows.to_answer i;
       cuts = shows.cuts i;
     } in
-    let inside = goes_within c program n 0 (first_state k number w) s told Ended well goes in
+    let inside = goes_within c program n 0 (first_state k number w) s answers Ended well goes in
     subst (λ w'. Lands c w' later (λ fuel. copy_node_run c.env c.tables fuel program (copy_of pools w.buffers k) number x) (λ t. t)) (sym is) (record {
       state = copied pools s later;
-      shows = record { rings = refl; outboxes = refl; to_tell = refl; cuts = refl };
+      shows = record { rings = refl; outboxes = refl; to_answer = refl; cuts = refl };
       enough = n;
       lands = λ fuel le. ap (copy_goes c.env c.tables program fuel 0) begins
-          ∙ goes_more c.env c.tables program n 0 (copied pools (first_state k number w) (told ++ later)) (copied pools s later)
-          (goes_copies c (steps_copy c) program n 0 (first_state k number w) s told later well goes) fuel le;
+          ∙ goes_more c.env c.tables program n 0 (copied pools (first_state k number w) (answers ++ later)) (copied pools s later)
+          (goes_copies c (steps_copy c) program n 0 (first_state k number w) s answers later well goes) fuel le;
       within = record {
         rooms = inside.rooms;
         bytes = inside.bytes;

@@ -36,17 +36,17 @@ prepend_piece pools buffers s n le there =
     λ i. record { before = s.offset - n; bytes = bytes i; behind = behind i }
 
 -- prepend
-pub prepend_copies : (c : Setting) (st : State) (p : ℕ) (k : Packet) (n : ℕ) (told : List Bool) → Holds st p k → n ≤ headroom k → IsHeadSole (live st) k →
-    IsInside c st → copied c.env.pools (with_packet p (at_front (more_before n) k) (with_buffers (zeroed_before n k st.world.buffers) st)) told
-    ≡ copy_put p (Some (at_front (with_front n) (copy_of c.env.pools st.world.buffers k))) (copied c.env.pools st told)
-prepend_copies c st p [] n told holds le sole well = put_copies c.env.pools st p (Some []) told
-prepend_copies c st p (s ∷ rest) n told holds le sole well =
+pub prepend_copies : (c : Setting) (st : State) (p : ℕ) (k : Packet) (n : ℕ) (answers : List Bool) → Holds st p k → n ≤ headroom k → IsHeadSole (live st) k →
+    IsInside c st → copied c.env.pools (with_packet p (at_front (more_before n) k) (with_buffers (zeroed_before n k st.world.buffers) st)) answers
+    ≡ copy_put p (Some (at_front (with_front n) (copy_of c.env.pools st.world.buffers k))) (copied c.env.pools st answers)
+prepend_copies c st p [] n answers holds le sole well = put_copies c.env.pools st p (Some []) answers
+prepend_copies c st p (s ∷ rest) n answers holds le sole well =
     let pools = c.env.pools in
     let old = st.world.buffers in
     let new = zeroed_before n (s ∷ rest) old in
     let changes : (b : Number) → same_number s.buffer b ≡ false → bytes_of new b ≡ bytes_of old b =
     λ b other. bytes_other old s.buffer b (overwritten (bytes_of old s.buffer) (s.offset - n) (replicate n 0)) other in
-    wrote pools st p (s ∷ rest) (more_before n s ∷ rest) s.buffer new _ told holds changes sole (refs_first s rest)
+    wrote pools st p (s ∷ rest) (more_before n s ∷ rest) s.buffer new _ answers holds changes sole (refs_first s rest)
     (ap (λ x. x ∷ copy_of pools new rest) (prepend_piece pools old s n le (there c st p (s ∷ rest) well holds).0)
     ∙ ap (λ xs. with_front n (piece_of pools old s) ∷ xs) (rest_same pools st p (s ∷ rest) rest s.buffer new holds changes sole
     (λ b. omega (arith, refs-cons s rest b))))
@@ -102,20 +102,20 @@ refs_push : (front : Packet) (s : Segment) (b : Number) → refs (front ++ s ∷
 refs_push front s b = let none : refs [] b ≡ 0 = refl in omega (arith, refs-append front (s ∷ []) b, refs-cons s [] b, none)
 
 -- append
-pub append_copies : (c : Setting) (st : State) (p : ℕ) (k : Packet) (n : ℕ) (told : List Bool) → Holds st p k → n ≤ tailroom c.env.pools k →
+pub append_copies : (c : Setting) (st : State) (p : ℕ) (k : Packet) (n : ℕ) (answers : List Bool) → Holds st p k → n ≤ tailroom c.env.pools k →
     IsTailSole (live st) k → IsInside c st → copied c.env.pools (with_packet p (at_end (more_behind n) k)
-    (with_buffers (zeroed_behind n k st.world.buffers) st)) told ≡ copy_put p (Some (at_end (with_back n) (copy_of c.env.pools st.world.buffers k)))
-    (copied c.env.pools st told)
-append_copies c st p [] n told holds le sole well = put_copies c.env.pools st p (Some []) told
-append_copies c st p (a ∷ rest) n told holds le sole well =
+    (with_buffers (zeroed_behind n k st.world.buffers) st)) answers ≡ copy_put p (Some (at_end (with_back n) (copy_of c.env.pools st.world.buffers k)))
+    (copied c.env.pools st answers)
+append_copies c st p [] n answers holds le sole well = put_copies c.env.pools st p (Some []) answers
+append_copies c st p (a ∷ rest) n answers holds le sole well =
     let e = ends (live st) a rest sole in
-    subst (λ j. copied c.env.pools (with_packet p (at_end (more_behind n) j) (with_buffers (zeroed_behind n j st.world.buffers) st)) told
-    ≡ copy_put p (Some (at_end (with_back n) (copy_of c.env.pools st.world.buffers j))) (copied c.env.pools st told)) (sym e.is)
+    subst (λ j. copied c.env.pools (with_packet p (at_end (more_behind n) j) (with_buffers (zeroed_behind n j st.world.buffers) st)) answers
+    ≡ copy_put p (Some (at_end (with_back n) (copy_of c.env.pools st.world.buffers j))) (copied c.env.pools st answers)) (sym e.is)
     (pushed e.front e.last (subst (Holds st p) e.is holds) (subst (λ j. n ≤ tailroom c.env.pools j) e.is le) e.sole)
   where
     pushed : (front : Packet) (s : Segment) → Holds st p (front ++ s ∷ []) → n ≤ tailroom c.env.pools (front ++ s ∷ []) → refs (live st) s.buffer ≡ 1 →
         copied c.env.pools (with_packet p (at_end (more_behind n) (front ++ s ∷ [])) (with_buffers (zeroed_behind n (front ++ s ∷ []) st.world.buffers) st))
-        told ≡ copy_put p (Some (at_end (with_back n) (copy_of c.env.pools st.world.buffers (front ++ s ∷ [])))) (copied c.env.pools st told)
+        answers ≡ copy_put p (Some (at_end (with_back n) (copy_of c.env.pools st.world.buffers (front ++ s ∷ [])))) (copied c.env.pools st answers)
     pushed front s holds le sole =
         let pools = c.env.pools in
         let old = st.world.buffers in
@@ -130,7 +130,7 @@ append_copies c st p (a ∷ rest) n told holds le sole well =
         let piece : piece_of pools new (more_behind n s) ≡ with_back n (piece_of pools old s) =
         ap (λ bs. piece_of pools bs (more_behind n s)) is ∙ append_piece pools old s n
         (omega (arith, le, tailroom-push pools front s, here.0, here.1, well.rooms s.buffer (number front s (inside_held c st p k well holds)))) in
-        wrote pools st p k (at_end (more_behind n) k) s.buffer new _ told holds changes sole one
+        wrote pools st p k (at_end (more_behind n) k) s.buffer new _ answers holds changes sole one
         (ap (copy_of pools new) (at_end-push (more_behind n) front s)
         ∙ (map-append (piece_of pools new) front (more_behind n s ∷ [])
         ∙ (ap (λ x. copy_of pools new front ++ x ∷ []) piece

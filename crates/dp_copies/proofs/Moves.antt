@@ -14,7 +14,7 @@ use Rattle.dp_copies.proofs.States.{copied}
 
 -- the move is that of the copies
 abbrev pub Does : Setting → ℕ → State → Instr → List Bool → Move → Type 0
-Does c label s i later m = copy_step c.env c.tables label (copied c.env.pools s (m.told ++ later)) i ≡ Some (m.next, copied c.env.pools m.state later)
+Does c label s i later m = copy_step c.env c.tables label (copied c.env.pools s (m.answers ++ later)) i ≡ Some (m.next, copied c.env.pools m.state later)
 
 -- a move by another name
 pub by : (c : Setting) (label : ℕ) (s : State) (i : Instr) (later : List Bool) (m m' : Move) → m ≡ m' → Does c label s i later m' → Does c label s i later m
@@ -27,23 +27,23 @@ either c label s i later true x y f g = f refl
 either c label s i later false x y f g = g refl
 
 -- a register that holds a packet holds its copy
-pub held_step : (pools : List PoolSpec) (st : State) (told : List Bool) (p : ℕ) (k : Packet) (go : Copy → Option CopyMove) → Holds st p k →
-    with_held (copied pools st told) p go ≡ go (copy_of pools st.world.buffers k)
-held_step pools st told p k go holds =
+pub held_step : (pools : List PoolSpec) (st : State) (answers : List Bool) (p : ℕ) (k : Packet) (go : Copy → Option CopyMove) → Holds st p k →
+    with_held (copied pools st answers) p go ≡ go (copy_of pools st.world.buffers k)
+held_step pools st answers p k go holds =
     ap (λ o. option_and_then go (option_and_then (λ u. u) o)) (slice_get-map (option_map (copy_of pools st.world.buffers)) st.packets p
     ∙ ap (option_map (option_map (copy_of pools st.world.buffers))) holds)
 
 -- an empty register is empty
-pub empty_step : (pools : List PoolSpec) (st : State) (told : List Bool) (p : ℕ) (move : Option CopyMove) → IsEmpty st p →
-    with_empty (copied pools st told) p move ≡ move
-empty_step pools st told p move empty =
+pub empty_step : (pools : List PoolSpec) (st : State) (answers : List Bool) (p : ℕ) (move : Option CopyMove) → IsEmpty st p →
+    with_empty (copied pools st answers) p move ≡ move
+empty_step pools st answers p move empty =
     ap (λ o. cond (option_map_or is_gone o false) move None) (slice_get-map (option_map (copy_of pools st.world.buffers)) st.packets p
     ∙ ap (option_map (option_map (copy_of pools st.world.buffers))) empty)
 
 -- a register set
-pub put_copies : (pools : List PoolSpec) (st : State) (p : ℕ) (o : Option Packet) (told : List Bool) →
-    copied pools (record st { packets = slice_set st.packets p o }) told ≡ copy_put p (option_map (copy_of pools st.world.buffers) o) (copied pools st told)
-put_copies pools st p o told =
+pub put_copies : (pools : List PoolSpec) (st : State) (p : ℕ) (o : Option Packet) (answers : List Bool) →
+    copied pools (record st { packets = slice_set st.packets p o }) answers ≡ copy_put p (option_map (copy_of pools st.world.buffers) o) (copied pools st answers)
+put_copies pools st p o answers =
     let e = map-set (option_map (copy_of pools st.world.buffers)) st.packets p o in
     λ i. record {
       packets = e i;
@@ -51,6 +51,6 @@ put_copies pools st p o told =
       jumps = st.jumps;
       rings = map (map (copy_of pools st.world.buffers)) st.world.rings;
       outboxes = map (map (copy_of pools st.world.buffers)) st.world.outboxes;
-      to_tell = told;
+      to_answer = answers;
       cuts = st.world.cuts;
     }

@@ -3,7 +3,7 @@ use Rattle.std.proofs.Common.{◌≡◌, ℕ, zero, suc, ◌≤◌, Bool, List, 
 use Rattle.std.specs.Prelude.{slice_get, option_map, option_and_then}
 use Rattle.dp_model.specs.Packets.{IsWithin}
 use Rattle.dp_model.specs.Machine.{State, live, At, Setting, Next, Ended}
-use Rattle.dp_model.specs.CopyMachine.{CopyMove, copy_step, is_told, CopyState, copy_then, copy_goes, copy_budgeted}
+use Rattle.dp_model.specs.CopyMachine.{CopyMove, copy_step, are_answered, CopyState, copy_then, copy_goes, copy_budgeted}
 use Rattle.dp_model.specs.Environments.{Environment}
 use Rattle.dp_model.specs.Prefixes.{Route}
 use Rattle.dp_model.specs.declared.instr.Instr.{Instr}
@@ -31,14 +31,14 @@ goes_more env tables program (suc n) label s t e (suc fuel) le =
     (copy_goes env tables program fuel) t (λ l s t h. goes_more env tables program n l s t h fuel (omega (arith, le))) e
 
 -- steps in a row
-pub goes_copies : (c : Setting) → StepsCopy c → (program : List Instr) (n label : ℕ) (s s' : State) (told later : List Bool) →
-    IsWithin c.env.pools s.world.buffers (live s) → Goes c program n label s told Ended s' →
-    copy_goes c.env c.tables program n label (copied c.env.pools s (told ++ later)) ≡ Some (copied c.env.pools s' later)
-goes_copies c steps program zero label s s' told later within (is_next, _, _) = cc is_next
-goes_copies c steps program (suc n) label s s' told later within (m, rest, st, is_told, next) =
+pub goes_copies : (c : Setting) → StepsCopy c → (program : List Instr) (n label : ℕ) (s s' : State) (answers later : List Bool) →
+    IsWithin c.env.pools s.world.buffers (live s) → Goes c program n label s answers Ended s' →
+    copy_goes c.env c.tables program n label (copied c.env.pools s (answers ++ later)) ≡ Some (copied c.env.pools s' later)
+goes_copies c steps program zero label s s' answers later within (is_next, _, _) = cc is_next
+goes_copies c steps program (suc n) label s s' answers later within (m, rest, st, are_answered, next) =
     let pools = c.env.pools in
-    let split : told ++ later ≡ m.told ++ (rest ++ later) = ap (λ xs. xs ++ later) is_told ∙ append_assoc m.told rest later in
-    let o : option_map (copy_budgeted label) (option_and_then (copy_step c.env c.tables label (copied pools s (told ++ later))) (slice_get program label))
+    let split : answers ++ later ≡ m.answers ++ (rest ++ later) = ap (λ xs. xs ++ later) are_answered ∙ append_assoc m.answers rest later in
+    let o : option_map (copy_budgeted label) (option_and_then (copy_step c.env c.tables label (copied pools s (answers ++ later))) (slice_get program label))
     ≡ Some (m.next, copied pools m.state (rest ++ later)) =
     ap (λ xs. option_map (copy_budgeted label) (option_and_then (copy_step c.env c.tables label (copied pools s xs)) (slice_get program label))) split
     ∙ step_copies c steps program label s m (rest ++ later) within st in
@@ -46,8 +46,8 @@ goes_copies c steps program (suc n) label s s' told later within (m, rest, st, i
     ∙ go m.next next (goes_copies c steps program n) (step_within c program label s m within st)
   where
     go : (x : Next) → Then x (λ l. Goes c program n l m.state rest Ended s') ((Ended ≡ Ended) × (n ≡ 0) × (rest ≡ []) × (s' ≡ m.state)) →
-        ((label : ℕ) (s s' : State) (told later : List Bool) → IsWithin c.env.pools s.world.buffers (live s) → Goes c program n label s told Ended s' →
-        copy_goes c.env c.tables program n label (copied c.env.pools s (told ++ later)) ≡ Some (copied c.env.pools s' later)) →
+        ((label : ℕ) (s s' : State) (answers later : List Bool) → IsWithin c.env.pools s.world.buffers (live s) → Goes c program n label s answers Ended s' →
+        copy_goes c.env c.tables program n label (copied c.env.pools s (answers ++ later)) ≡ Some (copied c.env.pools s' later)) →
         IsWithin c.env.pools m.state.world.buffers (live m.state) → copy_then (Some (x, copied c.env.pools m.state (rest ++ later)))
         (copy_goes c.env c.tables program n) ≡ Some (copied c.env.pools s' later)
     go (At l) next on within = on l m.state s' rest later within next
@@ -55,10 +55,10 @@ goes_copies c steps program (suc n) label s s' told later within (m, rest, st, i
         ap (λ xs. Some (copied c.env.pools m.state (xs ++ later))) none ∙ ap (λ t. Some (copied c.env.pools t later)) (sym is)
 
 -- packets stay within the buffers
-pub goes_within : (c : Setting) (program : List Instr) (n label : ℕ) (s s' : State) (told : List Bool) (next : Next) → IsInside c s →
-    Goes c program n label s told next s' → IsInside c s'
-goes_within c program zero label s s' told next well (_, _, is) = subst (IsInside c) (sym is) well
-goes_within c program (suc n) label s s' told next well (m, rest, st, is_told, further) =
+pub goes_within : (c : Setting) (program : List Instr) (n label : ℕ) (s s' : State) (answers : List Bool) (next : Next) → IsInside c s →
+    Goes c program n label s answers next s' → IsInside c s'
+goes_within c program zero label s s' answers next well (_, _, is) = subst (IsInside c) (sym is) well
+goes_within c program (suc n) label s s' answers next well (m, rest, st, are_answered, further) =
     go m.next further (λ l. goes_within c program n l m.state s' rest next) (step_within c program label s m well st)
   where
     go : (x : Next) → Then x (λ l. Goes c program n l m.state rest next s') ((next ≡ Ended) × (n ≡ 0) × (rest ≡ []) × (s' ≡ m.state)) →

@@ -43,13 +43,13 @@ before_written segments n (s ∷ rest) old sole =
     })
 
 -- store writes so
-stored_written : (segments : List Segment) (place w n : ℕ) (j : Packet) (old : Buffers) → IsHeadSole segments j →
-    (stored place w n j old ≡ old) ⊎ Writes segments j old (stored place w n j old)
-stored_written segments place w n [] old sole = inl refl
-stored_written segments place w n (s ∷ rest) old sole =
+stored_written : (segments : List Segment) (offset w n : ℕ) (j : Packet) (old : Buffers) → IsHeadSole segments j →
+    (stored offset w n j old ≡ old) ⊎ Writes segments j old (stored offset w n j old)
+stored_written segments offset w n [] old sole = inl refl
+stored_written segments offset w n (s ∷ rest) old sole =
     inr (record {
       buffer = s.buffer;
-      bytes = overwritten (bytes_of old s.buffer) (s.offset + place) (big_endian w n);
+      bytes = overwritten (bytes_of old s.buffer) (s.offset + offset) (big_endian w n);
       is = refl;
       sole = sole;
       part = refs_first s rest;
@@ -158,9 +158,9 @@ beside_stays c label s (Jlt r n l) m k (after, e, is) beside = moved c label s k
 beside_stays c label s (Lookup r table x l) m k (after, e, is) beside = moved c label s k m _ is refl
 
 -- a record that is received is not seen through the packets in rings and transmit lists
-pub queued_stays : (c : Setting) (program : List Instr) (port : ℕ) (spec : PortSpec) (bytes : List ℕ) (w w' : World) (told : List Bool) (k : Packet)
-    (r : Receives c program port spec bytes w told w') → IsQueued w k → copy_of c.env.pools r.buffers k ≡ copy_of c.env.pools w.buffers k
+pub queued_stays : (c : Setting) (program : List Instr) (port : ℕ) (spec : PortSpec) (bytes : List ℕ) (w w' : World) (answers : List Bool) (k : Packet)
+    (r : Receives c program port spec bytes w answers w') → IsQueued w k → copy_of c.env.pools r.buffers k ≡ copy_of c.env.pools w.buffers k
 unfolding Same
-queued_stays c program port spec bytes w w' told k r queued = copy_same c.env.pools w.buffers r.buffers k
+queued_stays c program port spec bytes w w' answers k r queued = copy_same c.env.pools w.buffers r.buffers k
     (λ b one. r.filled.others.others b (quiet c.env.pools (live (between w)) spec.pool r.numbers b r.fresh.each
     (omega (arith, one, live_parts (between w) b, refs_queued w k b queued))))

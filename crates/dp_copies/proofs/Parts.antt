@@ -26,27 +26,27 @@ pub range_take : (old : List ℕ) (offset len n : ℕ) → n ≤ len → offset 
 range_take old offset len n short long = same_lists _ _ (search (rules, places)) (λ k d h. grind (arith, places))
 
 -- the bytes of a buffer that is written within
-pub written_at : (buffers : Buffers) (n : Number) (place : ℕ) (new : List ℕ) → place + length new ≤ length (bytes_of buffers n) →
-    bytes_of (written buffers n place new) n ≡ overwritten (bytes_of buffers n) place new
-written_at buffers n place new fits =
+pub written_at : (buffers : Buffers) (n : Number) (start : ℕ) (new : List ℕ) → start + length new ≤ length (bytes_of buffers n) →
+    bytes_of (written buffers n start new) n ≡ overwritten (bytes_of buffers n) start new
+written_at buffers n start new fits =
     let old = bytes_of buffers n in
     ⊎_elim
-    (λ (some : 0 < length old). bytes_same buffers n (overwritten old place new) some)
+    (λ (some : 0 < length old). bytes_same buffers n (overwritten old start new) some)
     (λ (none : length old ≤ 0). ⊎_elim
     (λ is. is)
-    (λ is. is ∙ nothing old new place (omega (arith, none, fits)) (omega (arith, none)))
-    (bytes_either buffers n (overwritten old place new)))
+    (λ is. is ∙ nothing old new start (omega (arith, none, fits)) (omega (arith, none)))
+    (bytes_either buffers n (overwritten old start new)))
     (cases_lt 0 (length old))
   where
     drop_none : (n : ℕ) → drop {A = ℕ} n [] ≡ []
     drop_none zero = refl
     drop_none (suc n) = refl
 
-    nothing : (old new : List ℕ) (place : ℕ) → length new ≡ 0 → length old ≡ 0 → old ≡ overwritten old place new
+    nothing : (old new : List ℕ) (start : ℕ) → length new ≡ 0 → length old ≡ 0 → old ≡ overwritten old start new
     nothing [] [] zero a b = refl
-    nothing [] [] (suc place) a b = sym (drop_none (suc place + 0))
-    nothing [] (x ∷ new) place a b = absurd (omega (arith, a))
-    nothing (x ∷ old) new place a b = absurd (omega (arith, b))
+    nothing [] [] (suc start) a b = sym (drop_none (suc start + 0))
+    nothing [] (x ∷ new) start a b = absurd (omega (arith, a))
+    nothing (x ∷ old) new start a b = absurd (omega (arith, b))
 
 -- the bytes of a number are as many as asked for
 pub length-big_endian : (w n : ℕ) → length (big_endian w n) ≡ w

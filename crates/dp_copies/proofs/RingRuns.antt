@@ -7,7 +7,7 @@ use Rattle.dp_model.specs.Buffers.{Buffers}
 use Rattle.dp_model.specs.Packets.{Packet, Lies}
 use Rattle.dp_model.specs.Machine.{segments_listed, Setting, World}
 use Rattle.dp_model.specs.Copies.{copy_of}
-use Rattle.dp_model.specs.CopyMachine.{is_told, Copy, CopyState, copy_node_run, copy_serves}
+use Rattle.dp_model.specs.CopyMachine.{are_answered, Copy, CopyState, copy_node_run, copy_serves}
 use Rattle.dp_model.specs.declared.instr.Instr.{Instr}
 use Rattle.dp_model.specs.Runs.{first_state, NodeRun, between, Waiting, behind, first_waiting, Serves}
 use Rattle.dp_model.specs.Laws.Lists.{all_left, all_right, all_join}
@@ -55,39 +55,39 @@ ring_inside c next w e well =
         }
 
 -- up to n node runs
-pub serves_lands : (c : Setting) (programs : List (List Instr)) (n : ℕ) (w w' : World) (told later : List Bool) (runs : ℕ) (x : CopyState) →
-    IsInside c (between w) → Shows c.env.pools w (told ++ later) x → Serves c programs n w told runs w' →
+pub serves_lands : (c : Setting) (programs : List (List Instr)) (n : ℕ) (w w' : World) (answers later : List Bool) (runs : ℕ) (x : CopyState) →
+    IsInside c (between w) → Shows c.env.pools w (answers ++ later) x → Serves c programs n w answers runs w' →
     Lands c w' later (λ fuel. copy_serves c.env c.tables fuel programs n x) (λ t. t)
-serves_lands c programs zero w w' told later runs x well shows (none, _, is) =
-    stays c w w' told later x (λ fuel. copy_serves c.env c.tables fuel programs zero x) (λ t. t) well shows none is (λ fuel. refl)
-serves_lands c programs (suc n) w w' told later runs x well shows serves =
-    go (first_waiting w.rings) refl serves (λ mid told runs x. serves_lands c programs n mid w' told later runs x)
+serves_lands c programs zero w w' answers later runs x well shows (none, _, is) =
+    stays c w w' answers later x (λ fuel. copy_serves c.env c.tables fuel programs zero x) (λ t. t) well shows none is (λ fuel. refl)
+serves_lands c programs (suc n) w w' answers later runs x well shows serves =
+    go (first_waiting w.rings) refl serves (λ mid answers runs x. serves_lands c programs n mid w' answers later runs x)
   where
-    go : (o : Option (Waiting Packet)) → first_waiting w.rings ≡ o → MatchOption o ((told ≡ []) × (runs ≡ 0) × (w' ≡ w)) (λ next. (program : List Instr)
+    go : (o : Option (Waiting Packet)) → first_waiting w.rings ≡ o → MatchOption o ((answers ≡ []) × (runs ≡ 0) × (w' ≡ w)) (λ next. (program : List Instr)
         × (now later : List Bool) × (mid : World) × (more : ℕ) × (slice_get programs next.ring ≡ Some program)
-        × NodeRun c program next.packet next.ring (record w { rings = next.rings }) now mid × Serves c programs n mid later more w' × (told ≡ now ++ later)
-        × (runs ≡ more + 1)) → ((mid : World) (told : List Bool) (runs : ℕ) (x : CopyState) → IsInside c (between mid) →
-        Shows c.env.pools mid (told ++ later) x → Serves c programs n mid told runs w' →
+        × NodeRun c program next.packet next.ring (record w { rings = next.rings }) now mid × Serves c programs n mid later more w' × (answers ≡ now ++ later)
+        × (runs ≡ more + 1)) → ((mid : World) (answers : List Bool) (runs : ℕ) (x : CopyState) → IsInside c (between mid) →
+        Shows c.env.pools mid (answers ++ later) x → Serves c programs n mid answers runs w' →
         Lands c w' later (λ fuel. copy_serves c.env c.tables fuel programs n x) (λ t. t)) →
         Lands c w' later (λ fuel. copy_serves c.env c.tables fuel programs (suc n) x) (λ t. t)
     go None e (none, _, is) on =
         let waiting : first_waiting x.rings ≡ None = ap first_waiting shows.rings
         ∙ (first_copies c.env.pools w.buffers w.rings ∙ ap (option_map (copy_waiting c.env.pools w.buffers)) e) in
-        stays c w w' told later x (λ fuel. copy_serves c.env c.tables fuel programs (suc n) x) (λ t. t) well shows none is
+        stays c w w' answers later x (λ fuel. copy_serves c.env c.tables fuel programs (suc n) x) (λ t. t) well shows none is
         (λ fuel. ap (λ o. option_map_or (λ next. option_and_then (copy_serves c.env c.tables fuel programs n)
         (option_and_then (λ program. copy_node_run c.env c.tables fuel program next.packet next.ring (record x { rings = next.rings }))
         (slice_get programs next.ring))) o (Some x)) waiting)
-    go (Some next) e (program, now, rest, mid, more, is_program, run, serves, is_told, _) on =
+    go (Some next) e (program, now, rest, mid, more, is_program, run, serves, are_answered, _) on =
         let pools = c.env.pools in
         let waiting : first_waiting x.rings ≡ Some (copy_waiting pools w.buffers next) = ap first_waiting shows.rings
         ∙ (first_copies pools w.buffers w.rings ∙ ap (option_map (copy_waiting pools w.buffers)) e) in
         let y : CopyState = record x { rings = map (map (copy_of pools w.buffers)) next.rings } in
-        let split : told ++ later ≡ now ++ (rest ++ later) = ap (λ ts. ts ++ later) is_told ∙ append_assoc now rest later in
+        let split : answers ++ later ≡ now ++ (rest ++ later) = ap (λ ts. ts ++ later) are_answered ∙ append_assoc now rest later in
         let node = node_lands c program next.packet next.ring (record w { rings = next.rings }) mid now (rest
         ++ later) y (ring_inside c next w e well) (record {
           rings = refl;
           outboxes = shows.outboxes;
-          to_tell = shows.to_tell
+          to_answer = shows.to_answer
               ∙ split;
           cuts = shows.cuts;
         }) run in

@@ -19,9 +19,9 @@ use Rattle.dp_copies.proofs.Moves.{Does, by, either, held_step, put_copies}
 -- a packet leaves for a list
 leaves_step : (c : Setting) (label : ℕ) (st : State) (i : Instr) (later : List Bool) (count : ℕ) (packets : List Packet) (k : Packet) (p l : ℕ)
     (put : List Packet → State → State) (put' : List Copy → CopyState → CopyState) →
-    ((told : List Bool) → copy_step c.env c.tables label (copied c.env.pools st told) i
+    ((answers : List Bool) → copy_step c.env c.tables label (copied c.env.pools st answers) i
     ≡ copy_leaves (Some count) (Some (map (copy_of c.env.pools st.world.buffers) packets)) (copy_of c.env.pools st.world.buffers k) p label l put'
-    (copied c.env.pools st told)) →
+    (copied c.env.pools st answers)) →
     copied c.env.pools (put (packets ++ k ∷ []) (without_packet p st)) later
     ≡ put' (map (copy_of c.env.pools st.world.buffers) packets ++ copy_of c.env.pools st.world.buffers k ∷ [])
     (copy_put p None (copied c.env.pools st later)) →
@@ -54,11 +54,11 @@ tx_step c label s p r l m later well (k, port, packets, holds, is_port, is_there
     let to = slice_index s.numbers r in
     let put = λ (packets : List Copy) (t : CopyState). record t { outboxes = slice_set t.outboxes to packets } in
     leaves_step c label s (Tx p r l) later port.queue packets k p l (with_outbox to) put
-    (λ told. held_step pools s told p k (λ k. copy_leaves (option_map (λ port. port.queue) (slice_get c.env.ports to))
-    (slice_get (copied pools s told).outboxes to) k p label l put (copied pools s told)) holds
-    ∙ (ap (λ o. copy_leaves (option_map (λ port. port.queue) o) (slice_get (copied pools s told).outboxes to) (copy k) p label l put (copied pools s told))
+    (λ answers. held_step pools s answers p k (λ k. copy_leaves (option_map (λ port. port.queue) (slice_get c.env.ports to))
+    (slice_get (copied pools s answers).outboxes to) k p label l put (copied pools s answers)) holds
+    ∙ (ap (λ o. copy_leaves (option_map (λ port. port.queue) o) (slice_get (copied pools s answers).outboxes to) (copy k) p label l put (copied pools s answers))
     is_port
-    ∙ ap (λ o. copy_leaves (Some port.queue) o (copy k) p label l put (copied pools s told)) (slice_get-map (map copy) s.world.outboxes to
+    ∙ ap (λ o. copy_leaves (Some port.queue) o (copy k) p label l put (copied pools s answers)) (slice_get-map (map copy) s.world.outboxes to
     ∙ ap (option_map (map copy)) is_there)))
     (let lists = map-set (map copy) s.world.outboxes to (packets ++ k ∷ [])
     ∙ ap (λ x. slice_set (map (map copy) s.world.outboxes) to x) (map-append copy packets (k ∷ [])) in
@@ -72,11 +72,11 @@ enq_step c label s p ring l m later well (k, spec, packets, holds, is_ring, is_t
     let copy = copy_of pools s.world.buffers in
     let put = λ (packets : List Copy) (t : CopyState). record t { rings = slice_set t.rings ring packets } in
     leaves_step c label s (Enq p ring l) later spec.count packets k p l (with_ring ring) put
-    (λ told. held_step pools s told p k (λ k. copy_leaves (option_map (λ spec. spec.count) (slice_get c.env.rings ring))
-    (slice_get (copied pools s told).rings ring) k p label l put (copied pools s told)) holds
-    ∙ (ap (λ o. copy_leaves (option_map (λ spec. spec.count) o) (slice_get (copied pools s told).rings ring) (copy k) p label l put (copied pools s told))
+    (λ answers. held_step pools s answers p k (λ k. copy_leaves (option_map (λ spec. spec.count) (slice_get c.env.rings ring))
+    (slice_get (copied pools s answers).rings ring) k p label l put (copied pools s answers)) holds
+    ∙ (ap (λ o. copy_leaves (option_map (λ spec. spec.count) o) (slice_get (copied pools s answers).rings ring) (copy k) p label l put (copied pools s answers))
     is_ring
-    ∙ ap (λ o. copy_leaves (Some spec.count) o (copy k) p label l put (copied pools s told)) (slice_get-map (map copy) s.world.rings ring
+    ∙ ap (λ o. copy_leaves (Some spec.count) o (copy k) p label l put (copied pools s answers)) (slice_get-map (map copy) s.world.rings ring
     ∙ ap (option_map (map copy)) is_there)))
     (let lists = map-set (map copy) s.world.rings ring (packets ++ k ∷ [])
     ∙ ap (λ x. slice_set (map (map copy) s.world.rings) ring x) (map-append copy packets (k ∷ [])) in

@@ -5,14 +5,14 @@ use Rattle.dp_model.specs.Machine.{State}
 use Rattle.dp_model.specs.CopyMachine.{CopyState}
 use Rattle.dp_model.specs.Copies.{copy_of}
 
--- a state as one of copies, before allocation calls that are told this
+-- a state as one of copies, before allocation calls with these answers
 abbrev pub copied : List PoolSpec → State → List Bool → CopyState
-copied pools s told = record {
+copied pools s answers = record {
   packets = map (option_map (copy_of pools s.world.buffers)) s.packets;
   numbers = s.numbers;
   jumps = s.jumps;
   rings = map (map (copy_of pools s.world.buffers)) s.world.rings;
   outboxes = map (map (copy_of pools s.world.buffers)) s.world.outboxes;
-  to_tell = told;
+  to_answer = answers;
   cuts = s.world.cuts;
 }

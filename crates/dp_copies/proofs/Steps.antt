@@ -18,7 +18,7 @@ use Rattle.dp_copies.proofs.SendSteps.{tx_step, enq_step, exit_step}
 -- each step is a step of the copies
 abbrev pub StepsCopy : Setting → Type 0
 StepsCopy c = (label : ℕ) (s : State) (i : Instr) (m : Move) (later : List Bool) → IsWithin c.env.pools s.world.buffers (live s) → Acts c label s i m →
-    copy_step c.env c.tables label (copied c.env.pools s (m.told ++ later)) i ≡ Some (m.next, copied c.env.pools m.state later)
+    copy_step c.env c.tables label (copied c.env.pools s (m.answers ++ later)) i ≡ Some (m.next, copied c.env.pools m.state later)
 
 -- where the numbers lead
 leads : (c : Setting) (s : State) (later : List Bool) → ℕ × List ℕ → CopyMove

@@ -13,12 +13,12 @@ use Rattle.dp_copies.proofs.Lengths.{first_before, first_length, last_behind, la
 use Rattle.dp_copies.proofs.Moves.{Does, by, either, held_step}
 
 -- the same room or length is tested
-tests_step : (pools : List PoolSpec) (st : State) (told : List Bool) (p label l : ℕ) (measure : Copy → ℕ) (n value : ℕ) (k : Packet) (b : Bool) →
-    Holds st p k → measure (copy_of pools st.world.buffers k) ≡ value → nat_lt value n ≡ b → copy_tests (copied pools st told) p label l measure n
-    ≡ Some (copy_branches b label l (copied pools st told))
-tests_step pools st told p label l measure n value k b holds is test =
-    held_step pools st told p k (λ k. Some (copy_branches (nat_lt (measure k) n) label l (copied pools st told))) holds
-    ∙ ap (λ b. Some (copy_branches b label l (copied pools st told))) (ap (λ v. nat_lt v n) is ∙ test)
+tests_step : (pools : List PoolSpec) (st : State) (answers : List Bool) (p label l : ℕ) (measure : Copy → ℕ) (n value : ℕ) (k : Packet) (b : Bool) →
+    Holds st p k → measure (copy_of pools st.world.buffers k) ≡ value → nat_lt value n ≡ b → copy_tests (copied pools st answers) p label l measure n
+    ≡ Some (copy_branches b label l (copied pools st answers))
+tests_step pools st answers p label l measure n value k b holds is test =
+    held_step pools st answers p k (λ k. Some (copy_branches (nat_lt (measure k) n) label l (copied pools st answers))) holds
+    ∙ ap (λ b. Some (copy_branches b label l (copied pools st answers))) (ap (λ v. nat_lt v n) is ∙ test)
 
 -- ---- each instruction
 

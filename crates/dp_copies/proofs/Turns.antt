@@ -7,7 +7,7 @@ use Rattle.dp_model.specs.Environments.{room_at}
 use Rattle.dp_model.specs.Packets.{Lies, packet_bytes, needed}
 use Rattle.dp_model.specs.Machine.{live, Setting, World}
 use Rattle.dp_model.specs.Copies.{copy_of}
-use Rattle.dp_model.specs.CopyMachine.{copy_received, is_told, CopyState, copy_node_run, copy_receives, copy_arrives, copy_serves, copy_turn}
+use Rattle.dp_model.specs.CopyMachine.{copy_received, are_answered, CopyState, copy_node_run, copy_receives, copy_arrives, copy_serves, copy_turn}
 use Rattle.dp_model.specs.declared.env.PortSpec.{PortSpec}
 use Rattle.dp_model.specs.declared.instr.Instr.{Instr}
 use Rattle.dp_model.specs.Runs.{Outcome, Got, Oversize, Nodes, NoBuffer, between, Receives, Arrives, Turn}
@@ -20,11 +20,11 @@ use Rattle.dp_copies.proofs.Landings.{Shows, Lands, stays, node_lands}
 use Rattle.dp_copies.proofs.RingRuns.{serves_lands}
 
 -- a record that is received
-got_lands : (c : Setting) (program : List Instr) (port : ℕ) (spec : PortSpec) (bytes : List ℕ) (w w' : World) (told later : List Bool) (x : CopyState) →
-    129 ≤ room_at c.env.pools spec.pool → IsInside c (between w) → Shows c.env.pools w (told ++ later) x → Receives c program port spec bytes w told w' →
-    Lands c w' later (λ fuel. copy_receives c.env c.tables fuel program port spec bytes x x.to_tell) (λ t. (Got, t))
+got_lands : (c : Setting) (program : List Instr) (port : ℕ) (spec : PortSpec) (bytes : List ℕ) (w w' : World) (answers later : List Bool) (x : CopyState) →
+    129 ≤ room_at c.env.pools spec.pool → IsInside c (between w) → Shows c.env.pools w (answers ++ later) x → Receives c program port spec bytes w answers w' →
+    Lands c w' later (λ fuel. copy_receives c.env c.tables fuel program port spec bytes x x.to_answer) (λ t. (Got, t))
 unfolding Same
-got_lands c program port spec bytes w w' told later x room well shows r =
+got_lands c program port spec bytes w w' answers later x room well shows r =
     let pools = c.env.pools in
     let size = room_at pools spec.pool in
     let need = needed pools spec.pool (length bytes) in
@@ -44,7 +44,7 @@ got_lands c program port spec bytes w w' told later x room well shows r =
     ∙ ap (λ n. copy_received size n bytes) r.fresh.count) in
     let same : Same pools w.buffers new (live (between w)) = λ b one. changes.others b
     (quiet pools (live (between w)) spec.pool r.numbers b r.fresh.each one) in
-    let y : CopyState = record x { to_tell = r.later ++ later } in
+    let y : CopyState = record x { to_answer = r.later ++ later } in
     let node = node_lands c program r.packet port w1 w' r.later later y
     (record {
       rooms = λ b nb. changes.lengths b ∙ well.rooms b nb;
@@ -54,7 +54,7 @@ got_lands c program port spec bytes w w' told later x room well shows r =
     (record {
       rings = shows.rings ∙ sym (listed_same pools w.buffers new w.rings (λ b one. same b (omega (arith, one, live_parts (between w) b))));
       outboxes = shows.outboxes ∙ sym (listed_same pools w.buffers new w.outboxes (λ b one. same b (omega (arith, one, live_parts (between w) b))));
-      to_tell = refl;
+      to_answer = refl;
       cuts = shows.cuts;
     })
     r.run in
@@ -63,56 +63,56 @@ got_lands c program port spec bytes w w' told later x room well shows r =
       shows = node.shows;
       enough = node.enough;
       lands = λ fuel le.
-          ap (copy_receives c.env c.tables fuel program port spec bytes x) (shows.to_tell ∙ ap (λ ts. ts ++ later) r.told_is)
+          ap (copy_receives c.env c.tables fuel program port spec bytes x) (shows.to_answer ∙ ap (λ ts. ts ++ later) r.answers_are)
           ∙ (ap (λ k. option_map {T = CopyState} {U = Outcome × CopyState} (λ t. (Got, t)) (copy_node_run c.env c.tables fuel program k port y)) (sym copy)
           ∙ ap (option_map (λ t. (Got, t))) (node.lands fuel le));
       within = node.within;
     }
 
 -- a record that comes, whatever its outcome
-arrives_lands : (c : Setting) (program : List Instr) (port : ℕ) (spec : PortSpec) (bytes : List ℕ) (w w' : World) (outcome : Outcome) (told later : List Bool)
-    (x : CopyState) → 129 ≤ room_at c.env.pools spec.pool → IsInside c (between w) → Shows c.env.pools w (told ++ later) x →
-    Arrives c program port spec bytes w outcome told w' → Lands c w' later (λ fuel. copy_arrives c.env c.tables fuel program port spec bytes x)
+arrives_lands : (c : Setting) (program : List Instr) (port : ℕ) (spec : PortSpec) (bytes : List ℕ) (w w' : World) (outcome : Outcome) (answers later : List Bool)
+    (x : CopyState) → 129 ≤ room_at c.env.pools spec.pool → IsInside c (between w) → Shows c.env.pools w (answers ++ later) x →
+    Arrives c program port spec bytes w outcome answers w' → Lands c w' later (λ fuel. copy_arrives c.env c.tables fuel program port spec bytes x)
     (λ t. (outcome, t))
-arrives_lands c program port spec bytes w w' Oversize told later x room well shows (big, none, is) =
-    stays c w w' told later x (λ fuel. copy_arrives c.env c.tables fuel program port spec bytes x) (λ t. (Oversize, t)) well shows none is
-    (λ fuel. ap (λ b. cond b (Some (Oversize, x)) (copy_receives c.env c.tables fuel program port spec bytes x x.to_tell))
+arrives_lands c program port spec bytes w w' Oversize answers later x room well shows (big, none, is) =
+    stays c w w' answers later x (λ fuel. copy_arrives c.env c.tables fuel program port spec bytes x) (λ t. (Oversize, t)) well shows none is
+    (λ fuel. ap (λ b. cond b (Some (Oversize, x)) (copy_receives c.env c.tables fuel program port spec bytes x x.to_answer))
     (lt-ltb spec.segs (needed c.env.pools spec.pool (length bytes)) big))
-arrives_lands c program port spec bytes w w' NoBuffer told later x room well shows (small, denied, is_told, is) =
+arrives_lands c program port spec bytes w w' NoBuffer answers later x room well shows (small, denied, are_answered, is) =
     subst (λ v. Lands c v later (λ fuel. copy_arrives c.env c.tables fuel program port spec bytes x) (λ t. (NoBuffer, t))) (sym is) (record {
-      state = record x { to_tell = later };
-      shows = record { rings = shows.rings; outboxes = shows.outboxes; to_tell = refl; cuts = shows.cuts };
+      state = record x { to_answer = later };
+      shows = record { rings = shows.rings; outboxes = shows.outboxes; to_answer = refl; cuts = shows.cuts };
       enough = 0;
       lands = λ fuel le.
-          ap (λ b. cond b (Some (Oversize, x)) (copy_receives c.env c.tables fuel program port spec bytes x x.to_tell))
+          ap (λ b. cond b (Some (Oversize, x)) (copy_receives c.env c.tables fuel program port spec bytes x x.to_answer))
           (le-ltb spec.segs (needed c.env.pools spec.pool (length bytes)) small)
-          ∙ ap (copy_receives c.env c.tables fuel program port spec bytes x) (shows.to_tell ∙ ap (λ ts. ts ++ later) is_told);
+          ∙ ap (copy_receives c.env c.tables fuel program port spec bytes x) (shows.to_answer ∙ ap (λ ts. ts ++ later) are_answered);
       within = record { rooms = well.rooms; bytes = well.bytes; lie = well.lie };
     })
-arrives_lands c program port spec bytes w w' Got told later x room well shows r =
-    let got = got_lands c program port spec bytes w w' told later x room well shows r in
+arrives_lands c program port spec bytes w w' Got answers later x room well shows r =
+    let got = got_lands c program port spec bytes w w' answers later x room well shows r in
     record {
       state = got.state;
       shows = got.shows;
       enough = got.enough;
       lands = λ fuel le.
-          ap (λ b. cond b (Some (Oversize, x)) (copy_receives c.env c.tables fuel program port spec bytes x x.to_tell))
+          ap (λ b. cond b (Some (Oversize, x)) (copy_receives c.env c.tables fuel program port spec bytes x x.to_answer))
           (le-ltb spec.segs (needed c.env.pools spec.pool (length bytes)) r.fits)
           ∙ got.lands fuel le;
       within = got.within;
     }
 
 -- a whole turn
-pub turn_lands : (c : Setting) (nodes : Nodes) (port : ℕ) (bytes : List ℕ) (w w' : World) (outcome : Outcome) (runs : ℕ) (told later : List Bool)
-    (x : CopyState) → HaveRoom c.env → IsInside c (between w) → Shows c.env.pools w (told ++ later) x → Turn c nodes port bytes w outcome runs told w' →
+pub turn_lands : (c : Setting) (nodes : Nodes) (port : ℕ) (bytes : List ℕ) (w w' : World) (outcome : Outcome) (runs : ℕ) (answers later : List Bool)
+    (x : CopyState) → HaveRoom c.env → IsInside c (between w) → Shows c.env.pools w (answers ++ later) x → Turn c nodes port bytes w outcome runs answers w' →
     Lands c w' later (λ fuel. copy_turn c.env c.tables fuel nodes port bytes x) (λ t. (outcome, t))
-turn_lands c nodes port bytes w w' outcome runs told later x rooms well shows t =
-    let split : told ++ later ≡ t.now ++ (t.later ++ later) = ap (λ ts. ts ++ later) t.told_is ∙ append_assoc t.now t.later later in
+turn_lands c nodes port bytes w w' outcome runs answers later x rooms well shows t =
+    let split : answers ++ later ≡ t.now ++ (t.later ++ later) = ap (λ ts. ts ++ later) t.answers_are ∙ append_assoc t.now t.later later in
     let came = arrives_lands c t.program port t.spec bytes w t.mid outcome t.now (t.later
     ++ later) x (rooms port t.spec t.spec_is) well (record {
       rings = shows.rings;
       outboxes = shows.outboxes;
-      to_tell = shows.to_tell
+      to_answer = shows.to_answer
           ∙ split;
       cuts = shows.cuts;
     }) t.arrives in

@@ -12,23 +12,23 @@ use Rattle.dp_model.specs.Starts.{IsStart}
 use Rattle.dp_model.specs.CopyMachine.{Captures}
 use Rattle.dp_model.specs.Laws.Stored.{same_number_refl, same_is, bytes_other, written_each, length_overwritten}
 use Rattle.dp_model.specs.Laws.Lists.{all_join, all_take, all_drop}
-use Rattle.dp_copies.specs.TwoClones.{one_port, setting, program, nodes, arrivals, before, told, captures}
+use Rattle.dp_copies.specs.TwoClones.{one_port, setting, program, nodes, arrivals, before, answers, captures}
 use Rattle.dp_copies.proofs.TwoClonesStates.{number, whole, filled, m11}
 use Rattle.dp_copies.proofs.TwoClonesSteps.{steps}
 
 -- a write within a buffer changes that buffer only
-written_changes : (old : Buffers) (n : Number) (place : ℕ) (new : List ℕ) → place + length new ≤ length (bytes_of old n) → AllByRecursion (λ x. x < 256) new →
-    ChangesOnly (n ∷ []) old (written old n place new)
-written_changes old n place new fits small =
-    let bytes = overwritten (bytes_of old n) place new in
+written_changes : (old : Buffers) (n : Number) (offset : ℕ) (new : List ℕ) → offset + length new ≤ length (bytes_of old n) → AllByRecursion (λ x. x < 256) new →
+    ChangesOnly (n ∷ []) old (written old n offset new)
+written_changes old n offset new fits small =
+    let bytes = overwritten (bytes_of old n) offset new in
     record {
       others = λ b no. bytes_other old n b bytes (flip b no);
-      lengths = λ b. written_each (λ xs. length xs ≡ length (bytes_of old b)) old n b bytes refl (λ e. length_overwritten (bytes_of old n) new place fits
+      lengths = λ b. written_each (λ xs. length xs ≡ length (bytes_of old b)) old n b bytes refl (λ e. length_overwritten (bytes_of old n) new offset fits
           ∙ ap (λ m. length (bytes_of old m)) e);
       bytes = λ well b. written_each (AllByRecursion (λ x. x < 256)) old n b bytes (well b)
-          (λ e. all_join (λ x. x < 256) (take place (bytes_of old n)) (new
-          ++ drop (place + length new) (bytes_of old n)) (all_take place (bytes_of old n) (well n))
-          (all_join (λ x. x < 256) new (drop (place + length new) (bytes_of old n)) small (all_drop (place + length new) (bytes_of old n) (well n))));
+          (λ e. all_join (λ x. x < 256) (take offset (bytes_of old n)) (new
+          ++ drop (offset + length new) (bytes_of old n)) (all_take offset (bytes_of old n) (well n))
+          (all_join (λ x. x < 256) new (drop (offset + length new) (bytes_of old n)) small (all_drop (offset + length new) (bytes_of old n) (well n))));
     }
   where
     flip : (b : Number) → list_any (same_number b) (n ∷ []) ≡ false → same_number n b ≡ false
@@ -39,7 +39,7 @@ written_changes old n place new fits small =
         (cases_Bool (same_number n b))
 
 -- the record is received, and the program runs on it
-receives : Receives setting program 0 (record { pool = 0; segs = 1; queue = 4 }) (7 ∷ 8 ∷ []) before told m11.state.world
+receives : Receives setting program 0 (record { pool = 0; segs = 1; queue = 4 }) (7 ∷ 8 ∷ []) before answers m11.state.world
 receives = record {
   fits = omega arith;
   given = refl;
@@ -50,35 +50,35 @@ receives = record {
   packet_is = refl;
   filled = record { spells = refl; others = written_changes before.buffers (number 2) 128 (7 ∷ 8 ∷ []) (omega arith) (omega arith, (omega arith, tt)) };
   later = true ∷ true ∷ true ∷ [];
-  told_is = refl;
+  answers_are = refl;
   run = (12, m11.state, steps, refl);
 }
 
-turns : Turn setting nodes 0 (7 ∷ 8 ∷ []) before Got 1 told m11.state.world
+turns : Turn setting nodes 0 (7 ∷ 8 ∷ []) before Got 1 answers m11.state.world
 turns = record {
   spec = record { pool = 0; segs = 1; queue = 4 };
   program = program;
   spec_is = refl;
   program_is = refl;
   mid = m11.state.world;
-  now = told;
+  now = answers;
   arrives = receives;
   later = [];
   more = 0;
   serves = (refl, refl, refl);
-  told_is = refl;
+  answers_are = refl;
   runs_is = refl;
 }
 
 -- over shared buffers
-pub shared_run : (w' : World) × Run {T = ℕ} setting nodes arrivals before (record { told = told; outcomes = Got ∷ []; captures = captures }) w'
+pub shared_run : (w' : World) × Run {T = ℕ} setting nodes arrivals before (record { answers = answers; outcomes = Got ∷ []; captures = captures }) w'
 shared_run = (
   record m11.state.world { outboxes = [] ∷ [] },
-  (Got, told, 1, m11.state.world, record { told = []; outcomes = []; captures = [] ∷ [] }, turns, (refl, refl), refl),
+  (Got, answers, 1, m11.state.world, record { answers = []; outcomes = []; captures = [] ∷ [] }, turns, (refl, refl), refl),
 )
 
 -- with a list of bytes for each packet: computed
-pub copy_captures : Captures {T = ℕ} one_port [] nodes arrivals told captures 0
+pub copy_captures : Captures {T = ℕ} one_port [] nodes arrivals answers captures 0
 copy_captures = (
   12,
   record {
@@ -87,7 +87,7 @@ copy_captures = (
     jumps = 0;
     rings = [];
     outboxes = [] ∷ [];
-    to_tell = [];
+    to_answer = [];
     cuts = 0;
   },
   refl,

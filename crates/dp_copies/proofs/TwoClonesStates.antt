@@ -85,4 +85,4 @@ abbrev pub m10 : Move
 m10 = goes_on 10 (with_outbox 0 (joined ∷ longer ∷ []) (without_packet 1 (with_step m9.state)))
 
 abbrev pub m11 : Move
-m11 = record { next = Ended; told = []; state = with_step m10.state }
+m11 = record { next = Ended; answers = []; state = with_step m10.state }

@@ -13,7 +13,7 @@ exits = record {
   here = refl;
   effect = m11;
   acts = ((refl, (refl, (refl, (refl, (refl, (refl, (refl, (refl, tt)))))))), refl);
-  place = tt;
+  is_label = tt;
   is = refl;
 }
 
@@ -31,18 +31,18 @@ sends_other = record {
     refl,
     refl,
   );
-  place = omega arith;
+  is_label = omega arith;
   is = refl;
 }
 
 stores : Step setting program 9 m8.state m9
-stores = record { instr = Store 1 0 One 1; here = refl; effect = m9; acts = (longer, refl, omega arith, refl, refl); place = omega arith; is = refl }
+stores = record { instr = Store 1 0 One 1; here = refl; effect = m9; acts = (longer, refl, omega arith, refl, refl); is_label = omega arith; is = refl }
 
 sets : Step setting program 8 m7.state m8
-sets = record { instr = Set 1 9; here = refl; effect = m8; acts = ((9, 0 ∷ 9 ∷ 0 ∷ 0 ∷ 0 ∷ 0 ∷ 0 ∷ 0 ∷ []), refl, refl); place = omega arith; is = refl }
+sets = record { instr = Set 1 9; here = refl; effect = m8; acts = ((9, 0 ∷ 9 ∷ 0 ∷ 0 ∷ 0 ∷ 0 ∷ 0 ∷ 0 ∷ []), refl, refl); is_label = omega arith; is = refl }
 
 frees : Step setting program 7 m6.state m7
-frees = record { instr = Free 3; here = refl; effect = m7; acts = (_, refl, refl); place = omega arith; is = refl }
+frees = record { instr = Free 3; here = refl; effect = m7; acts = (_, refl, refl); is_label = omega arith; is = refl }
 
 sends : Step setting program 6 m5.state m6
 sends = record {
@@ -50,7 +50,7 @@ sends = record {
   here = refl;
   effect = m6;
   acts = (joined, record { pool = 0; segs = 1; queue = 4 }, [], refl, refl, refl, refl);
-  place = omega arith;
+  is_label = omega arith;
   is = refl;
 }
 
@@ -60,12 +60,12 @@ chains = record {
   here = refl;
   effect = m5;
   acts = (clone, cut, refl, refl, (λ e. absurd (omega (arith, e))), omega arith, refl);
-  place = omega arith;
+  is_label = omega arith;
   is = refl;
 }
 
 adjusts : Step setting program 4 m3.state m4
-adjusts = record { instr = Adj 0 1; here = refl; effect = m4; acts = (whole, refl, omega arith, refl); place = omega arith; is = refl }
+adjusts = record { instr = Adj 0 1; here = refl; effect = m4; acts = (whole, refl, omega arith, refl); is_label = omega arith; is = refl }
 
 clones_other : Step setting program 3 m2.state m3
 clones_other = record {
@@ -87,7 +87,7 @@ clones_other = record {
       refl,
     ),
   );
-  place = omega arith;
+  is_label = omega arith;
   is = refl;
 }
 
@@ -111,12 +111,12 @@ clones = record {
       refl,
     ),
   );
-  place = omega arith;
+  is_label = omega arith;
   is = refl;
 }
 
 appends : Step setting program 1 m0.state m1
-appends = record { instr = Append 1 1; here = refl; effect = m1; acts = (fresh, refl, omega arith, refl, refl); place = omega arith; is = refl }
+appends = record { instr = Append 1 1; here = refl; effect = m1; acts = (fresh, refl, omega arith, refl, refl); is_label = omega arith; is = refl }
 
 allocates : Step setting program 0 s0 m0
 allocates = record {
@@ -138,7 +138,7 @@ allocates = record {
       refl,
     ),
   );
-  place = omega arith;
+  is_label = omega arith;
   is = refl;
 }
 

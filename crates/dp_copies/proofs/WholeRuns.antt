@@ -31,23 +31,23 @@ drains {T} time run o outcome x z records more captures turn drained rest are =
 
 -- each record in turn
 run_lands : {T : Type 0} (c : Setting) (nodes : Nodes) (arrivals : List (Arrival T)) (w w' : World) (later : List Bool) (shown : Shown T)
-    (x : CopyState) → HaveRoom c.env → IsInside c (between w) → Shows c.env.pools w (shown.told ++ later) x → Run c nodes arrivals w shown w' →
+    (x : CopyState) → HaveRoom c.env → IsInside c (between w) → Shows c.env.pools w (shown.answers ++ later) x → Run c nodes arrivals w shown w' →
     Lands c w' later (λ fuel. copy_run c.env c.tables fuel nodes arrivals x) (λ t. (shown.captures, t))
 run_lands {T} c nodes [] w w' later shown x rooms well shows (none, is) =
-    stays c w w' shown.told later x (λ fuel. copy_run c.env c.tables fuel nodes [] x) (λ t. (shown.captures, t)) well shows
-    (ap (λ (s : Shown T). s.told) none) is (λ fuel. ap (λ (s : Shown T). Some (s.captures, x)) (sym none))
-run_lands {T} c nodes (a ∷ arrivals) w w' later shown x rooms well shows (outcome, told, runs, mid, rest, turn, run, is) =
+    stays c w w' shown.answers later x (λ fuel. copy_run c.env c.tables fuel nodes [] x) (λ t. (shown.captures, t)) well shows
+    (ap (λ (s : Shown T). s.answers) none) is (λ fuel. ap (λ (s : Shown T). Some (s.captures, x)) (sym none))
+run_lands {T} c nodes (a ∷ arrivals) w w' later shown x rooms well shows (outcome, answers, runs, mid, rest, turn, run, is) =
     let pools = c.env.pools in
-    let split : shown.told ++ later ≡ told ++ (rest.told ++ later) = ap (λ (s : Shown T). s.told ++ later) is ∙ append_assoc told rest.told later in
-    let first = turn_lands c nodes a.port a.bytes w mid outcome runs told (rest.told
-    ++ later) x rooms well (record { rings = shows.rings; outboxes = shows.outboxes; to_tell = shows.to_tell ∙ split; cuts = shows.cuts }) turn in
+    let split : shown.answers ++ later ≡ answers ++ (rest.answers ++ later) = ap (λ (s : Shown T). s.answers ++ later) is ∙ append_assoc answers rest.answers later in
+    let first = turn_lands c nodes a.port a.bytes w mid outcome runs answers (rest.answers
+    ++ later) x rooms well (record { rings = shows.rings; outboxes = shows.outboxes; to_answer = shows.to_answer ∙ split; cuts = shows.cuts }) turn in
     let y : CopyState = record first.state { outboxes = map (λ _. []) first.state.outboxes } in
     let others = run_lands c nodes arrivals (with_empty_outboxes mid) w' later rest y rooms (drained_inside c mid first.within)
     (record {
       rings = first.shows.rings;
       outboxes = ap (map (λ _. [])) first.shows.outboxes
           ∙ empty_lists (copy_of pools mid.buffers) mid.outboxes;
-      to_tell = first.shows.to_tell;
+      to_answer = first.shows.to_answer;
       cuts = first.shows.cuts;
     }) run in
     let all : List (List Copy) → List (List (T × List ℕ)) = map (map (λ k. (a.time, copy_bytes k))) in
@@ -66,14 +66,14 @@ run_lands {T} c nodes (a ∷ arrivals) w w' later shown x rooms well shows (outc
 
 -- a whole run has the captures of the copies
 pub run_copies : {T : Type 0} (c : Setting) (nodes : Nodes) (arrivals : List (Arrival T)) (w w' : World) (shown : Shown T) → HaveRoom c.env →
-    IsStart c.env w → Run c nodes arrivals w shown w' → Captures c.env c.tables nodes arrivals shown.told shown.captures w'.cuts
+    IsStart c.env w → Run c nodes arrivals w shown w' → Captures c.env c.tables nodes arrivals shown.answers shown.captures w'.cuts
 run_copies c nodes arrivals w w' shown rooms start run =
     let copy = copy_of c.env.pools w.buffers in
-    let lands = run_lands c nodes arrivals w w' [] shown (copy_start c.env shown.told) rooms (start_inside c w start)
+    let lands = run_lands c nodes arrivals w w' [] shown (copy_start c.env shown.answers) rooms (start_inside c w start)
     (record {
       rings = no_lists copy c.env.rings ∙ ap (map (map copy)) (sym start.rings);
       outboxes = no_lists copy c.env.ports ∙ ap (map (map copy)) (sym start.outboxes);
-      to_tell = sym (append-nil shown.told);
+      to_answer = sym (append-nil shown.answers);
       cuts = sym start.cuts;
     }) run in
-    (lands.enough, lands.state, lands.lands lands.enough (omega arith), lands.shows.to_tell, lands.shows.cuts)
+    (lands.enough, lands.state, lands.lands lands.enough (omega arith), lands.shows.to_answer, lands.shows.cuts)

@@ -36,11 +36,11 @@ counts k n b one = ⊎_elim
     (cases_Bool (same_number n b))
 
 -- a packet edited, and a buffer of it written
-pub wrote : (pools : List PoolSpec) (st : State) (p : ℕ) (k k' : Packet) (n : Number) (new : Buffers) (c : Copy) (told : List Bool) → Holds st p k →
+pub wrote : (pools : List PoolSpec) (st : State) (p : ℕ) (k k' : Packet) (n : Number) (new : Buffers) (c : Copy) (answers : List Bool) → Holds st p k →
     ((b : Number) → same_number n b ≡ false → bytes_of new b ≡ bytes_of st.world.buffers b) → refs (live st) n ≡ 1 → 1 ≤ refs k n → copy_of pools new k' ≡ c →
-    copied pools (with_packet p k' (with_buffers new st)) told ≡ copy_put p (Some c) (copied pools st told)
+    copied pools (with_packet p k' (with_buffers new st)) answers ≡ copy_put p (Some c) (copied pools st answers)
 unfolding Same
-wrote pools st p k k' n new c told holds changes sole one is =
+wrote pools st p k k' n new c answers holds changes sole one is =
     let old = st.world.buffers in
     let others : (segments : List Segment) → ((b : Number) → refs k b + refs segments b ≤ refs (live st) b) → Same pools old new segments =
     λ segments within b there. changes b (apart st n b (refs segments b) sole (omega (arith, within b, counts k n b one)) there) in
@@ -51,7 +51,7 @@ wrote pools st p k k' n new c told holds changes sole one is =
     (λ b. omega (arith, live_parts st b, refs_held st.packets p (Some k) b holds))) in
     let outboxes = listed_same pools old new st.world.outboxes (others (segments_listed st.world.outboxes)
     (λ b. omega (arith, live_parts st b, refs_held st.packets p (Some k) b holds))) in
-    λ i. record { packets = packets i; numbers = st.numbers; jumps = st.jumps; rings = rings i; outboxes = outboxes i; to_tell = told; cuts = st.world.cuts }
+    λ i. record { packets = packets i; numbers = st.numbers; jumps = st.jumps; rings = rings i; outboxes = outboxes i; to_answer = answers; cuts = st.world.cuts }
   where
     other_register : ((segments : List Segment) → ((b : Number) → refs k b + refs segments b ≤ refs (live st) b) → Same pools st.world.buffers new segments) →
         (i : ℕ) (u : Option Packet) → i ≢ p → slice_get st.packets i ≡ Some u → option_map (copy_of pools new) u

@@ -55,8 +55,8 @@ before = record {
 }
 
 -- the record, the other packet and the two clones get buffers
-abbrev pub told : List Bool
-told = true ∷ true ∷ true ∷ true ∷ []
+abbrev pub answers : List Bool
+answers = true ∷ true ∷ true ∷ true ∷ []
 
 -- what the port writes at time 5
 abbrev pub captures : List (List (ℕ × List ℕ))

@@ -14,29 +14,29 @@ ghost use Rattle.dp_model.specs.CopyMachine.{Captures};
 ghost use Rattle.dp_copies.specs.Seen.{IsQueued, IsBeside};
 
 /// Clones are copies: a whole run over shared buffers, in which no node run is stuck, has the captures of the
-/// machine in which each packet has bytes of its own, where the allocation calls are told the same, and as many node runs
+/// machine in which each packet has bytes of its own, where the allocation calls are answered alike, and as many node runs
 /// are cut. No row, rule or certificate occurs. The environment is one that `Env::new` accepts. A `T` is the time of a record.
 pub fn clones_are_copies<T>()
     ensures { (c : Setting) (nodes : Nodes) (arrivals : List (Arrival T)) (w w' : World) (shown : Shown T) →
         fault_of c.env ≡ None → IsStart c.env w → Run c nodes arrivals w shown w' →
-        Captures c.env c.tables nodes arrivals shown.told shown.captures w'.cuts }
+        Captures c.env c.tables nodes arrivals shown.answers shown.captures w'.cuts }
 {}
 
-/// The machine of copies is deterministic: on the same records, with the same told to its allocation calls, it has
+/// The machine of copies is deterministic: on the same records, with the same answers to its allocation calls, it has
 /// one list of captures, and one number of cuts.
 pub fn copies_are_deterministic<T>()
-    ensures { (env : Environment) (tables : List (List Route)) (nodes : Nodes) (arrivals : List (Arrival T)) (told : List Bool)
+    ensures { (env : Environment) (tables : List (List Route)) (nodes : Nodes) (arrivals : List (Arrival T)) (answers : List Bool)
         (captures captures' : List (List (T × List ℕ))) (cuts cuts' : ℕ) →
-        Captures env tables nodes arrivals told captures cuts → Captures env tables nodes arrivals told captures' cuts' →
+        Captures env tables nodes arrivals answers captures cuts → Captures env tables nodes arrivals answers captures' cuts' →
         (captures ≡ captures') × (cuts ≡ cuts') }
 {}
 
-/// Two runs on the same records, whose allocation calls are told the same, have the same captures and as many cuts,
+/// Two runs on the same records, whose allocation calls are answered alike, have the same captures and as many cuts,
 /// whatever buffers were taken and whatever they held.
 pub fn buffers_are_not_seen<T>()
     ensures { (c d : Setting) (nodes : Nodes) (arrivals : List (Arrival T)) (w w' v v' : World) (shown shown' : Shown T) →
         c.env ≡ d.env → c.tables ≡ d.tables → fault_of c.env ≡ None → IsStart c.env w → IsStart c.env v →
-        Run c nodes arrivals w shown w' → Run d nodes arrivals v shown' v' → shown.told ≡ shown'.told →
+        Run c nodes arrivals w shown w' → Run d nodes arrivals v shown' v' → shown.answers ≡ shown'.answers →
         (shown.captures ≡ shown'.captures) × (w'.cuts ≡ v'.cuts) }
 {}
 
@@ -47,8 +47,8 @@ pub fn writes_are_not_seen()
     ensures steps { (c : Setting) (program : List Instr) (label : ℕ) (s : State) (m : Move) (step : Step c program label s m) (k : Packet) →
         IsBeside step.instr s k →
         copy_of c.env.pools m.state.world.buffers k ≡ copy_of c.env.pools s.world.buffers k }
-    ensures receives { (c : Setting) (program : List Instr) (port : ℕ) (spec : PortSpec) (bytes : List ℕ) (w w' : World) (told : List Bool)
-        (received : Receives c program port spec bytes w told w') (k : Packet) →
+    ensures receives { (c : Setting) (program : List Instr) (port : ℕ) (spec : PortSpec) (bytes : List ℕ) (w w' : World) (answers : List Bool)
+        (received : Receives c program port spec bytes w answers w') (k : Packet) →
         IsQueued w k →
         copy_of c.env.pools received.buffers k ≡ copy_of c.env.pools w.buffers k }
 {}

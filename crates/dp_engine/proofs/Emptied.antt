@@ -14,7 +14,7 @@ use Rattle.dp_engine.specs.Spaces.{SpaceView}
 use Rattle.dp_engine.specs.Tallies.{listed_count}
 use Rattle.dp_engine.specs.Engines.{EngineState, engine_of, IsEngine, over_ports, sent_by, records_of, sum, tallies_at, sent_at, drained, left_at, with_left}
 use Rattle.dp_engine.specs.Engines.{flushed}
-use Rattle.dp_engine.proofs.Writing.{at_place}
+use Rattle.dp_engine.proofs.Writing.{at_slot}
 use Rattle.dp_engine.proofs.Resting.{length_set, left_rests, sent_rests}
 use Rattle.dp_engine.specs.Laws.{known}
 
@@ -49,7 +49,7 @@ over_at f [] i lt = absurd (omega (arith, lt))
 over_at f (x ∷ tallies) zero lt = omega arith
 over_at f (x ∷ tallies) (suc i) lt = let more = over_at f tallies i (omega (arith, lt)) in omega (arith, more)
 
--- ---- places
+-- ---- slots
 
 length_zip : {A B : Type 0} (R : A → B → Type 0) (xs : List A) (ys : List B) → AllZip R xs ys → length ys ≡ length xs
 length_zip R [] [] all = refl
@@ -64,7 +64,7 @@ pub record HasAll (e : EngineState) : Type 0 where
 
 module _ (s : Scheme) (core : Core) (space : SpaceView) (turns : ℕ) (tallies : List Tallies) (left : List ℕ)
     (is : IsEngine s core space turns tallies left) where
-  -- each ring and each port of the environment has a place among the engine's
+  -- each ring and each port of the environment has a slot among the engine's
   pub ring_within : (i : ℕ) → i < length s.setting.env.rings → i < 8
   ring_within i lt = omega (arith, lt, (known s.setting.env is.within).rings)
 
@@ -79,7 +79,7 @@ module _ (s : Scheme) (core : Core) (space : SpaceView) (turns : ℕ) (tallies :
 
   -- each port has its list of packets
   pub box_at : (i : ℕ) → i < length s.setting.env.ports → (packets : List Packet) × (slice_get core.state.world.outboxes i ≡ Some packets)
-  box_at i lt = at_place core.state.world.outboxes i (omega (arith, lt, is.rests.rest.ready.world.outboxes))
+  box_at i lt = at_slot core.state.world.outboxes i (omega (arith, lt, is.rests.rest.ready.world.outboxes))
 
   -- a transmit list is emptied, and so many of its packets are counted as written
   pub sent_kept : (port sent : ℕ) (packets : List Packet) → port < 8 → slice_get core.state.world.outboxes port ≡ Some packets → sent ≤ length packets
@@ -142,7 +142,7 @@ module _ (s : Scheme) (core : Core) (space : SpaceView) (turns : ℕ) (tallies :
   left_fits ring packets there =
       omega (arith, is.packets, is.calls, is.limit, listed_less core.state.world.rings ring packets there, sum_at left ring)
 
--- ---- one place
+-- ---- one slot
 
 counted_there : (rings : List (List Packet)) (i : ℕ) (packets : List Packet) → slice_get rings i ≡ Some packets
     → slice_index_or (map length rings) i 0 ≡ length packets
@@ -182,7 +182,7 @@ dropped_kept s core space turns tallies left port is lt =
     subst (λ l. IsEngine s (moved (with_outbox port [] core.state) core) space turns l left) (sent_none tallies port)
     (sent_kept s core space turns tallies left is port 0 packets (port_within s core space turns tallies left is port lt) box (omega arith))
 
--- ---- the first places, and all
+-- ---- the first slots, and all
 
 -- so many lists are emptied
 abbrev pub emptied_to : ℕ → List (List Packet) → List (List Packet)

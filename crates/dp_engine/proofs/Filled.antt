@@ -1,4 +1,4 @@
--- Lists of places of which the first are filled, and sums over lists.
+-- Lists of slots of which the first are filled, and sums over lists.
 use Rattle.std.proofs.Common.{◌≡◌, ℕ, zero, suc, ◌+◌, ◌<◌, ◌≤◌, List, [], ◌∷◌, length, take, drop, get_or, Option, Some, None, refl, sym, ap, subst, arith}
 use Rattle.std.specs.Prelude.{slice_set, IfSome}
 use Rattle.std.specs.List.{AllByRecursion}
@@ -10,7 +10,7 @@ use Rattle.dp_model.specs.declared.env.PoolSpec.{PoolSpec}
 use Rattle.dp_engine.specs.Needs.{total}
 use Rattle.dp_engine.specs.Spaces.{AreFilled, IsNewRing, IsNewPool, filled, RingsIn, PoolsIn}
 
--- one place more
+-- one slot more
 pub fills_next : {X V : Type 0} → (P : X → V → Type 0) (xs : List X) (slots : List (Option V)) (i : ℕ) (d : X) (v : V) → i < length xs → i < length slots
     → AreFilled P (take i xs) slots → P (get_or xs i d) v → AreFilled P (take (suc i) xs) (slice_set slots i (Some v))
 fills_next P [] slots i d v inside room are holds = absurd (omega (arith, inside))

@@ -10,31 +10,31 @@ use Rattle.dp_ring.specs.Rings.{RingView, room_in, with_more}
 use Rattle.dp_engine.specs.Queues.{no_ring, ring_at, is_waiting}
 
 -- the number of the first that waits, or how many there are
-abbrev pub first_place : List RingView → ℕ
-first_place rings = position_or_len is_waiting rings
+abbrev pub first_slot : List RingView → ℕ
+first_slot rings = position_or_len is_waiting rings
 
-pub within : (rings : List RingView) → first_place rings ≤ length rings
+pub within : (rings : List RingView) → first_slot rings ≤ length rings
 within rings = prefix_len-le-length (λ r. not (is_waiting r)) rings
 
-pub first_waits : (rings : List RingView) → first_place rings < length rings → is_waiting (ring_at rings (first_place rings)) ≡ true
+pub first_waits : (rings : List RingView) → first_slot rings < length rings → is_waiting (ring_at rings (first_slot rings)) ≡ true
 first_waits rings there = passes_at_first is_waiting rings no_ring there
 
 true_false : true ≡ false → ⊥
 true_false e = cc
 
 -- where none of the first ones waits, the first that does comes later
-pub behind : (rings : List RingView) (k : ℕ) → k ≤ length rings → ((j : ℕ) → j < k → is_waiting (ring_at rings j) ≡ false) → k ≤ first_place rings
-behind rings k there idle = cases (ltb (first_place rings) k) refl
+pub behind : (rings : List RingView) (k : ℕ) → k ≤ length rings → ((j : ℕ) → j < k → is_waiting (ring_at rings j) ≡ false) → k ≤ first_slot rings
+behind rings k there idle = cases (ltb (first_slot rings) k) refl
   where
-    cases : (b : Bool) → ltb (first_place rings) k ≡ b → k ≤ first_place rings
+    cases : (b : Bool) → ltb (first_slot rings) k ≡ b → k ≤ first_slot rings
     cases false not' = ltb-false _ _ not'
     cases true before =
-        let lt : first_place rings < k = ltb-true _ _ before in
-        let here : is_waiting (ring_at rings (first_place rings)) ≡ true = passes_at_first is_waiting rings no_ring (omega (arith, lt, there)) in
-        absurd (true_false (sym here ∙ idle (first_place rings) lt))
+        let lt : first_slot rings < k = ltb-true _ _ before in
+        let here : is_waiting (ring_at rings (first_slot rings)) ≡ true = passes_at_first is_waiting rings no_ring (omega (arith, lt, there)) in
+        absurd (true_false (sym here ∙ idle (first_slot rings) lt))
 
 -- one that does not wait is stepped over
-pub stepped : (rings : List RingView) (k : ℕ) → k ≤ first_place rings → k < length rings → is_waiting (ring_at rings k) ≡ false → suc k ≤ first_place rings
+pub stepped : (rings : List RingView) (k : ℕ) → k ≤ first_slot rings → k < length rings → is_waiting (ring_at rings k) ≡ false → suc k ≤ first_slot rings
 stepped rings k from there idle = behind rings (suc k) (omega arith) below
   where
     below : (j : ℕ) → j < suc k → is_waiting (ring_at rings j) ≡ false
@@ -50,12 +50,12 @@ stepped rings k from there idle = behind rings (suc k) (omega arith) below
             ap (λ i. is_waiting (ring_at rings i)) same ∙ idle
 
 -- one that waits is the first, where none before it does
-pub here : (rings : List RingView) (k : ℕ) → k ≤ first_place rings → k < length rings → is_waiting (ring_at rings k) ≡ true → k ≡ first_place rings
-here rings k from there waits = cases (ltb k (first_place rings)) refl
+pub here : (rings : List RingView) (k : ℕ) → k ≤ first_slot rings → k < length rings → is_waiting (ring_at rings k) ≡ true → k ≡ first_slot rings
+here rings k from there waits = cases (ltb k (first_slot rings)) refl
   where
-    cases : (b : Bool) → ltb k (first_place rings) ≡ b → k ≡ first_place rings
+    cases : (b : Bool) → ltb k (first_slot rings) ≡ b → k ≡ first_slot rings
     cases false e =
-        let l : first_place rings ≤ k = ltb-false _ _ e in
+        let l : first_slot rings ≤ k = ltb-false _ _ e in
         omega (arith, l, from)
     cases true e =
         let idle : is_waiting (ring_at rings k) ≡ false = fails_before_first is_waiting rings k no_ring (ltb-true _ _ e) in
@@ -75,74 +75,74 @@ waits_is r some = go (length r.entries == 0) refl
 -- ---- where one of them changes
 
 -- none before the changed one and before the first waits
-below : (rings : List RingView) (k j : ℕ) (r : RingView) → j < k → j < first_place rings → is_waiting (ring_at (set rings k r) j) ≡ false
+below : (rings : List RingView) (k j : ℕ) (r : RingView) → j < k → j < first_slot rings → is_waiting (ring_at (set rings k r) j) ≡ false
 below rings k j r lt first =
     let other : j ≢ k = λ e. omega (arith, lt, e) in
     ap is_waiting (get_or-set_other rings k j r no_ring other) ∙ fails_before_first is_waiting rings j no_ring first
 
 -- the first stays where a later one changes
-pub stays : (rings : List RingView) (k : ℕ) (r : RingView) → first_place rings < k → k < length rings → first_place (set rings k r) ≡ first_place rings
+pub stays : (rings : List RingView) (k : ℕ) (r : RingView) → first_slot rings < k → k < length rings → first_slot (set rings k r) ≡ first_slot rings
 stays rings k r lt there =
-    position_or_len_is is_waiting (set rings k r) (first_place rings) no_ring (omega (arith, length-set rings k r, within rings))
+    position_or_len_is is_waiting (set rings k r) (first_slot rings) no_ring (omega (arith, length-set rings k r, within rings))
     (λ j l. below rings k j r (omega (arith, l, lt)) l)
-    (λ l. ap is_waiting (get_or-set_other rings k (first_place rings) r no_ring (λ e. omega (arith, lt, e)))
+    (λ l. ap is_waiting (get_or-set_other rings k (first_slot rings) r no_ring (λ e. omega (arith, lt, e)))
     ∙ passes_at_first is_waiting rings no_ring (omega (arith, lt, there)))
 
 -- it does not come before a changed one, where it did not
-pub not_before : (rings : List RingView) (k : ℕ) (r : RingView) → k ≤ first_place rings → k < length rings → k ≤ first_place (set rings k r)
+pub not_before : (rings : List RingView) (k : ℕ) (r : RingView) → k ≤ first_slot rings → k < length rings → k ≤ first_slot (set rings k r)
 not_before rings k r from there =
     behind (set rings k r) k (omega (arith, length-set rings k r, there)) (λ j l. below rings k j r l (omega (arith, l, from)))
 
 -- a changed one that waits is the first, where it comes before the first
-pub comes_first : (rings : List RingView) (k : ℕ) (r : RingView) → k < first_place rings → k < length rings → is_waiting r ≡ true →
-    first_place (set rings k r) ≡ k
+pub comes_first : (rings : List RingView) (k : ℕ) (r : RingView) → k < first_slot rings → k < length rings → is_waiting r ≡ true →
+    first_slot (set rings k r) ≡ k
 comes_first rings k r lt there waits =
     position_or_len_is is_waiting (set rings k r) k no_ring (omega (arith, length-set rings k r, there))
     (λ j l. below rings k j r l (omega (arith, l, lt)))
     (λ l. ap is_waiting (get_or-set_same rings k r no_ring there) ∙ waits)
 
 -- the first stays where it is the changed one and still waits, or comes before
-pub no_earlier : (rings : List RingView) (k : ℕ) (r : RingView) → first_place rings ≤ k → k < length rings → is_waiting r ≡ true → first_place (set rings k r)
-    ≡ first_place rings
-no_earlier rings k r le there waits = cases (ltb (first_place rings) k) refl
+pub no_earlier : (rings : List RingView) (k : ℕ) (r : RingView) → first_slot rings ≤ k → k < length rings → is_waiting r ≡ true → first_slot (set rings k r)
+    ≡ first_slot rings
+no_earlier rings k r le there waits = cases (ltb (first_slot rings) k) refl
   where
-    cases : (b : Bool) → ltb (first_place rings) k ≡ b → first_place (set rings k r) ≡ first_place rings
+    cases : (b : Bool) → ltb (first_slot rings) k ≡ b → first_slot (set rings k r) ≡ first_slot rings
     cases true e = stays rings k r (ltb-true _ _ e) there
     cases false e =
-        let l : k ≤ first_place rings = ltb-false _ _ e in
-        let same : k ≡ first_place rings = omega (arith, l, le) in
+        let l : k ≤ first_slot rings = ltb-false _ _ e in
+        let same : k ≡ first_slot rings = omega (arith, l, le) in
         sym (here (set rings k r) k (not_before rings k r l there) (omega (arith, length-set rings k r, there))
         (ap is_waiting (get_or-set_same rings k r no_ring there) ∙ waits)) ∙ same
 
 -- ---- what is answered
 
-pub found : (rings : List RingView) (n : ℕ) → n ≡ first_place rings → n < length rings → Some n ≡ position is_waiting rings
-found rings n is there = go (ltb (first_place rings) (length rings)) refl
+pub found : (rings : List RingView) (n : ℕ) → n ≡ first_slot rings → n < length rings → Some n ≡ position is_waiting rings
+found rings n is there = go (ltb (first_slot rings) (length rings)) refl
   where
-    go : (b : Bool) → ltb (first_place rings) (length rings) ≡ b → Some n ≡ cond b (Some (first_place rings)) None
+    go : (b : Bool) → ltb (first_slot rings) (length rings) ≡ b → Some n ≡ cond b (Some (first_slot rings)) None
     go true e = ap (λ x. Some x) is
     go false e =
-        let l : length rings ≤ first_place rings = ltb-false _ _ e in
+        let l : length rings ≤ first_slot rings = ltb-false _ _ e in
         absurd (omega (arith, l, is, there))
 
-pub none_found : (rings : List RingView) → length rings ≤ first_place rings → position is_waiting rings ≡ None
-none_found rings le = go (ltb (first_place rings) (length rings)) refl
+pub none_found : (rings : List RingView) → length rings ≤ first_slot rings → position is_waiting rings ≡ None
+none_found rings le = go (ltb (first_slot rings) (length rings)) refl
   where
-    go : (b : Bool) → ltb (first_place rings) (length rings) ≡ b → cond b (Some (first_place rings)) None ≡ None
+    go : (b : Bool) → ltb (first_slot rings) (length rings) ≡ b → cond b (Some (first_slot rings)) None ≡ None
     go false e = refl
     go true e =
-        let l : first_place rings < length rings = ltb-true _ _ e in
+        let l : first_slot rings < length rings = ltb-true _ _ e in
         absurd (omega (arith, l, le))
 
 -- ---- an entry more, or one less
 
 -- a ring that took an entry waits, so it is the first where it comes before the first; where it took none all is as before
 pub record IsPut (rings : List RingView) (k entry : ℕ) (taken : Bool) : Type 0 where
-  pub earlier : taken ≡ true → k < first_place rings → k ≡ first_place
+  pub earlier : taken ≡ true → k < first_slot rings → k ≡ first_slot
       (set rings k (if nat_lt 0 (room_in (ring_at rings k)) then with_more (ring_at rings k) (entry ∷ []) else ring_at rings k))
-  pub later : taken ≡ true → first_place rings ≤ k → first_place rings
-      ≡ first_place (set rings k (if nat_lt 0 (room_in (ring_at rings k)) then with_more (ring_at rings k) (entry ∷ []) else ring_at rings k))
-  pub full : taken ≡ false → first_place rings ≡ first_place (set rings k
+  pub later : taken ≡ true → first_slot rings ≤ k → first_slot rings
+      ≡ first_slot (set rings k (if nat_lt 0 (room_in (ring_at rings k)) then with_more (ring_at rings k) (entry ∷ []) else ring_at rings k))
+  pub full : taken ≡ false → first_slot rings ≡ first_slot (set rings k
       (if nat_lt 0 (room_in (ring_at rings k)) then with_more (ring_at rings k) (entry ∷ []) else ring_at rings k))
 
 more_waits : (r : RingView) (entry : ℕ) → is_waiting (with_more r (entry ∷ [])) ≡ true
@@ -163,7 +163,7 @@ put_is rings k entry taken there is = record {
       );
   full = λ t. (
       let room : nat_lt 0 (room_in (ring_at rings k)) ≡ false = sym is ∙ t in
-      sym (ap (λ b. first_place (set rings k (if b then with_more (ring_at rings k) (entry ∷ []) else ring_at rings k))) room
-      ∙ ap first_place (set-get_or rings k no_ring))
+      sym (ap (λ b. first_slot (set rings k (if b then with_more (ring_at rings k) (entry ∷ []) else ring_at rings k))) room
+      ∙ ap first_slot (set-get_or rings k no_ring))
       );
 }

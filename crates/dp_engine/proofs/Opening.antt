@@ -35,16 +35,16 @@ abbrev pub first_core : MbufsView → List RingView → List RingView → Core
 first_core m rings outboxes = core_of m.store (frames_of m.zones rings outboxes) (replicate 8 None) (replicate 8 0) (lists_of rings outboxes) 0 (ran 0 0 0)
 
 -- nothing waits in rings that were laid out for these
-empty_lists : {X : Type 0} (f : X → ℕ) (home : Home) (slots : List (Option Packet)) (xs : List X) (places : List (Option RingView))
-    → AreFilled (IsNewRing home) (map f xs) places → packets_in slots (map entries_of (rings_in places)) ≡ map (λ _. []) xs
+empty_lists : {X : Type 0} (f : X → ℕ) (home : Home) (slots : List (Option Packet)) (xs : List X) (others : List (Option RingView))
+    → AreFilled (IsNewRing home) (map f xs) others → packets_in slots (map entries_of (rings_in others)) ≡ map (λ _. []) xs
 empty_lists f home slots [] [] are = refl
-empty_lists f home slots [] (None ∷ places) are = refl
-empty_lists f home slots [] (Some r ∷ places) are = absurd (none-some r (sym are.0))
+empty_lists f home slots [] (None ∷ others) are = refl
+empty_lists f home slots [] (Some r ∷ others) are = absurd (none-some r (sym are.0))
 empty_lists f home slots (x ∷ xs) [] are = absurd are
-empty_lists f home slots (x ∷ xs) (None ∷ places) are = absurd are.0
-empty_lists f home slots (x ∷ xs) (Some r ∷ places) are =
-    ap (λ es. map (packet_at slots) es ∷ packets_in slots (map entries_of (rings_in places))) are.0.empty
-    ∙ ap (λ lists. [] ∷ lists) (empty_lists f home slots xs places are.1)
+empty_lists f home slots (x ∷ xs) (None ∷ others) are = absurd are.0
+empty_lists f home slots (x ∷ xs) (Some r ∷ others) are =
+    ap (λ es. map (packet_at slots) es ∷ packets_in slots (map entries_of (rings_in others))) are.0.empty
+    ∙ ap (λ lists. [] ∷ lists) (empty_lists f home slots xs others are.1)
 
 -- no slot has a packet
 pub no_slots : (slots : List (Option Packet)) (n h : ℕ) → slots ≡ replicate n None → in_slot (slice_get slots h) ≡ 0

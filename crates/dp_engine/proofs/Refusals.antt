@@ -64,7 +64,7 @@ long s fits =
 pub pool_never : (e : PoolError) (name : List ℕ) (s : PoolSpec) (size : ℕ) (table : List Reserved) (es : List Element) → pool_fits s ≡ true →
     size ≡ s.room + 128
     → IsNext (object_name name) (names_of table) → IsNext (queue_name name) (names_of table ++ object_name name ∷ [])
-    → (NothingFits (rounded (objects_len s)) 64 es → ⊥) → ((place : ℕ) (mid : List Element) → Taken es (rounded (objects_len s)) 64 place mid →
+    → (NothingFits (rounded (objects_len s)) 64 es → ⊥) → ((offset : ℕ) (mid : List Element) → Taken es (rounded (objects_len s)) 64 offset mid →
     NothingFits (rounded (queue_len s)) 64 mid → ⊥)
     → IsPoolRefused e name s.count size s.cache table es → ⊥
 pool_never e name s size table es fits sized objects queue room more refused =
@@ -76,10 +76,10 @@ pool_never e name s size table es fits sized objects queue room more refused =
     go BadCache refused = refused.2 (within s fits).cache
     go (Zone error) (count, size, cache, inl refused) = zone_never error (object_name name) (objects_len s) table es objects (let l = long s fits in
         let w = (within s fits).count.0 in (omega arith, omega arith)) room refused
-    go (Zone error) (count, size, cache, inr (len, place, mid, left, (places, (power, above, half), is), reserves, refused)) =
-        let same : places ≡ power_above s.count = power_is s.count places power (omega arith) (omega (arith, half)) in
+    go (Zone error) (count, size, cache, inr (len, offset, mid, left, (slots, (power, above, half), is), reserves, refused)) =
+        let same : slots ≡ power_above s.count = power_is s.count slots power (omega arith) (omega (arith, half)) in
         let len_is : len ≡ queue_len s = is ∙ ap (λ (n : ℕ). 4 * n) same in
         zone_never error (queue_name name) (queue_len s) mid left
         (subst (IsNext (queue_name name)) (sym (name_reserved table mid _ (object_name name) reserves.table refl)) queue)
         (let l = long s fits in let w = (within s fits).count.1 in (omega arith, omega arith))
-        (more place left reserves.taken) (subst (λ (n : ℕ). IsZoneRefused error (queue_name name) n 0 mid left) len_is refused)
+        (more offset left reserves.taken) (subst (λ (n : ℕ). IsZoneRefused error (queue_name name) n 0 mid left) len_is refused)

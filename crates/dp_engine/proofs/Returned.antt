@@ -9,20 +9,20 @@ use Rattle.dp_engine.proofs.StackLemmas.{merged_size}
 abbrev pub seen : HeapView → SpaceView
 seen h = record { home = h.home; size = size_of h.elements; out = count_of is_busy h.elements }
 
-pub one_back : (old new : HeapView) (v : SpaceView) (place : ℕ) → seen old ≡ v → new ≡ record { home = old.home; elements = merged place old.elements }
+pub one_back : (old new : HeapView) (v : SpaceView) (offset : ℕ) → seen old ≡ v → new ≡ record { home = old.home; elements = merged offset old.elements }
     → count_of is_busy new.elements + 1 ≡ count_of is_busy old.elements → Returns 1 v (seen new)
-one_back old new v place view is counted = record {
+one_back old new v offset view is counted = record {
   home = ap (λ (h : HeapView). h.home) is ∙ ap (λ (x : SpaceView). x.home) view;
-  size = ap (λ (h : HeapView). size_of h.elements) is ∙ merged_size place old.elements ∙ ap (λ (x : SpaceView). x.size) view;
+  size = ap (λ (h : HeapView). size_of h.elements) is ∙ merged_size offset old.elements ∙ ap (λ (x : SpaceView). x.size) view;
   out = counted ∙ ap (λ (x : SpaceView). x.out) view;
 }
 
-pub two_back : (old new : HeapView) (v : SpaceView) (place next : ℕ) → seen old ≡ v →
-    new ≡ record { home = old.home; elements = merged place (merged next old.elements) }
+pub two_back : (old new : HeapView) (v : SpaceView) (offset next : ℕ) → seen old ≡ v →
+    new ≡ record { home = old.home; elements = merged offset (merged next old.elements) }
     → count_of is_busy new.elements + 2 ≡ count_of is_busy old.elements → Returns 2 v (seen new)
-two_back old new v place next view is counted = record {
+two_back old new v offset next view is counted = record {
   home = ap (λ (h : HeapView). h.home) is ∙ ap (λ (x : SpaceView). x.home) view;
-  size = ap (λ (h : HeapView). size_of h.elements) is ∙ merged_size place (merged next old.elements) ∙ merged_size next old.elements
+  size = ap (λ (h : HeapView). size_of h.elements) is ∙ merged_size offset (merged next old.elements) ∙ merged_size next old.elements
       ∙ ap (λ (x : SpaceView). x.size) view;
   out = counted ∙ ap (λ (x : SpaceView). x.out) view;
 }

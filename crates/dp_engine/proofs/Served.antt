@@ -80,7 +80,7 @@ received_with c d pool port bytes w s same r = record {
 -- the node run of a received record
 pub record Received (c : Setting) (program : List Instr) (port : ℕ) (spec : PortSpec) (bytes : List ℕ) (w : World) (s : State) : Type 0 where
   pub can_run : CanRun c program s
-  pub receives : (s' : State) → Runs c program s s' → (told : List Bool) × Receives c program port spec bytes w told s'.world
+  pub receives : (s' : State) → Runs c program s s' → (answers : List Bool) × Receives c program port spec bytes w answers s'.world
 
 pub received_is : (c : Setting) (nodes : Nodes) (program : List Instr) (port : ℕ) (spec : PortSpec) (bytes : List ℕ) (w : World) (s : State)
     → KeepsSafe c nodes → slice_get c.env.ports port ≡ Some spec → slice_get nodes.ports port ≡ Some program → IsAtRest c w
@@ -110,8 +110,8 @@ received_is c nodes program port spec bytes w s keeps is_spec is_program rest fi
     } in
     subst (Received c program port spec bytes w) (sym r.state) (record {
       can_run = can_run c nodes b keeps (keeps.turn_runs port bytes w b rest (inl of_record));
-      receives = λ s' (n, told, goes). (
-        true ∷ told,
+      receives = λ s' (n, answers, goes). (
+        true ∷ answers,
         record {
           fits = fits;
           given = given;
@@ -121,8 +121,8 @@ received_is c nodes program port spec bytes w s keeps is_spec is_program rest fi
           packet = k;
           packet_is = refl;
           filled = r.filled;
-          later = told;
-          told_is = refl;
+          later = answers;
+          answers_are = refl;
           run = (n, s', goes, refl);
         },
       );
@@ -177,11 +177,11 @@ pub next_serves : (s : Scheme) (program : List Instr) (m m' m2 : Core) (ring : �
     → (n : Next s.setting s.nodes m m' ring) → Runs s.setting program m'.state m2.state → Took m'.state.world m2.state.world run.steps run.cuts
     → ServesOne s m.state.world (Some run) m2.state.world
 next_serves s program m m' m2 ring run is_program n runs took =
-    let (k, told, goes) = subst (λ (x : Core). Runs s.setting program x.state m2.state) n.taken runs in
+    let (k, answers, goes) = subst (λ (x : Core). Runs s.setting program x.state m2.state) n.taken runs in
     let t = subst (λ (x : Core). Took x.state.world m2.state.world run.steps run.cuts) n.taken took in (
       n.next,
       program,
-      told,
+      answers,
       n.waits,
       ap (slice_get s.nodes.rings) n.ring_is ∙ is_program,
       (k, m2.state, goes, refl),
@@ -191,10 +191,10 @@ next_serves s program m m' m2 ring run is_program n runs took =
 -- after it the next can follow
 pub served_rests : (s : Scheme) (m m' : Core) (run : took.NodeRun) → KeepsSafe s.setting s.nodes → IsAtRest s.setting m.state.world
     → ServesOne s m.state.world (Some run) m'.state.world → IsAtRest s.setting m'.state.world
-served_rests s m m' run keeps rest (next, program, told, e, is_program, is_run, _) =
+served_rests s m m' run keeps rest (next, program, answers, e, is_program, is_run, _) =
     let w : World = record m.state.world { rings = next.rings } in
     let b : Beginning = record { entry = Ring next.ring; program = program; packet = next.packet; number = next.ring; world = w } in
-    safe_rests s.setting b told m'.state.world (keeps.waiting next program m.state.world rest e is_program) is_run
+    safe_rests s.setting b answers m'.state.world (keeps.waiting next program m.state.world rest e is_program) is_run
 
 -- no packet comes or goes as it is taken
 listed_waiting : (rings : List (List Packet)) (next : Waiting Packet) → first_waiting rings ≡ Some next → listed_count next.rings + 1 ≡ listed_count rings
@@ -248,9 +248,9 @@ serves_one s n w mid w' run later more (next, program, now, e, is_program, is_ru
 
 -- what was served in the first i rounds
 pub record Rounds (s : Scheme) (m0 m : Core) (i runs steps cuts : ℕ) : Type 0 where
-  pub told : List Bool
+  pub answers : List Bool
   pub serves : (later : List Bool) (more : ℕ) (w : World) → Serves s.setting s.nodes.rings (32 - i) m.state.world later more w
-      → Serves s.setting s.nodes.rings 32 m0.state.world (told ++ later) (runs + more) w
+      → Serves s.setting s.nodes.rings 32 m0.state.world (answers ++ later) (runs + more) w
   pub took : Took m0.state.world m.state.world steps cuts
   pub few_runs : runs ≤ i
   pub few_steps : steps ≤ runs * 263168
@@ -262,7 +262,7 @@ pub record Rounds (s : Scheme) (m0 m : Core) (i runs steps cuts : ℕ) : Type 0 
 
 pub no_round : (s : Scheme) (m : Core) → Rests s m → Rounds s m m 0 0 0 0
 no_round s m rests = record {
-  told = [];
+  answers = [];
   serves = λ later more w serves. subst (λ n. Serves s.setting s.nodes.rings 32 m.state.world later n w) (omega arith) serves;
   took = record { steps_are = omega arith; cuts_are = omega arith };
   few_runs = omega arith;
@@ -287,15 +287,15 @@ pub one_round : (s : Scheme) (m0 m m' : Core) (i runs steps cuts : ℕ) (run : t
 one_round s m0 m m' i runs steps cuts run less r o few_steps few_cuts k =
     let t : Took m.state.world m'.state.world run.steps run.cuts = o.6 in
     record {
-      told = r.told ++ o.2;
+      answers = r.answers ++ o.2;
       serves = λ later more w serves.
           let one : Serves s.setting s.nodes.rings (suc (32 - (i + 1))) m.state.world (o.2 ++ later) (more + 1) w = serves_one s
           (32 - (i + 1)) m.state.world m'.state.world w run later more o serves in
           let left : suc (32 - (i + 1)) ≡ 32 - i = omega (arith, less) in
           let sum : runs + (more + 1) ≡ (runs + 1) + more = omega arith in
           let all = r.serves (o.2 ++ later) (more + 1) w (subst (λ n. Serves s.setting s.nodes.rings n m.state.world (o.2 ++ later) (more + 1) w) left one) in
-          subst (λ n. Serves s.setting s.nodes.rings 32 m0.state.world ((r.told ++ o.2) ++ later) n w) sum
-          (subst (λ l. Serves s.setting s.nodes.rings 32 m0.state.world l (runs + (more + 1)) w) (sym (append_assoc r.told o.2 later)) all);
+          subst (λ n. Serves s.setting s.nodes.rings 32 m0.state.world ((r.answers ++ o.2) ++ later) n w) sum
+          (subst (λ l. Serves s.setting s.nodes.rings 32 m0.state.world l (runs + (more + 1)) w) (sym (append_assoc r.answers o.2 later)) all);
       took = record { steps_are = omega (arith, r.took.steps_are, t.steps_are); cuts_are = omega (arith, r.took.cuts_are, t.cuts_are) };
       few_runs = omega (arith, r.few_runs);
       few_steps = omega (arith, r.few_steps, few_steps);
@@ -308,13 +308,13 @@ one_round s m0 m m' i runs steps cuts run less r o few_steps few_cuts k =
 
 -- the rounds that there were are what is served
 rounds_end : (s : Scheme) (m0 m : Core) (i runs steps cuts : ℕ) (w : World) → Rounds s m0 m i runs steps cuts
-    → Serves s.setting s.nodes.rings (32 - i) m.state.world [] 0 w → (told : List Bool) × Serves s.setting s.nodes.rings 32 m0.state.world told runs w
+    → Serves s.setting s.nodes.rings (32 - i) m.state.world [] 0 w → (answers : List Bool) × Serves s.setting s.nodes.rings 32 m0.state.world answers runs w
 rounds_end s m0 m i runs steps cuts w r last =
-    (r.told ++ [], subst (λ n. Serves s.setting s.nodes.rings 32 m0.state.world (r.told ++ []) n w) (omega arith) (r.serves [] 0 w last))
+    (r.answers ++ [], subst (λ n. Serves s.setting s.nodes.rings 32 m0.state.world (r.answers ++ []) n w) (omega arith) (r.serves [] 0 w last))
 
 -- because none waits any more
 pub rounds_none : (s : Scheme) (m0 m : Core) (i runs steps cuts : ℕ) (w : World) → Rounds s m0 m i runs steps cuts → ServesOne s m.state.world None w
-    → (told : List Bool) × Serves s.setting s.nodes.rings 32 m0.state.world told runs w
+    → (answers : List Bool) × Serves s.setting s.nodes.rings 32 m0.state.world answers runs w
 rounds_none s m0 m i runs steps cuts w r (none, is) =
     rounds_end s m0 m i runs steps cuts w r (subst (Serves s.setting s.nodes.rings (32 - i) m.state.world [] 0) (sym is)
     (serves_none s.setting s.nodes.rings (32 - i) m.state.world none))
@@ -325,7 +325,7 @@ none_of s w w' (Some run) none is = absurd (none run refl)
 
 -- or because there were 32
 pub rounds_all : (s : Scheme) (m0 m : Core) (i runs steps cuts : ℕ) → 32 ≤ i → Rounds s m0 m i runs steps cuts
-    → (told : List Bool) × Serves s.setting s.nodes.rings 32 m0.state.world told runs m.state.world
+    → (answers : List Bool) × Serves s.setting s.nodes.rings 32 m0.state.world answers runs m.state.world
 rounds_all s m0 m i runs steps cuts all r =
     let none : 0 ≡ 32 - i = omega (arith, all) in
     rounds_end s m0 m i runs steps cuts m.state.world r (subst (λ n. Serves s.setting s.nodes.rings n m.state.world [] 0 m.state.world) none

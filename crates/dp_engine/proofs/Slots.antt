@@ -10,7 +10,7 @@ use Rattle.std.proofs.lemmas.Option.{none-some}
 use Rattle.std.proofs.lemmas.Iterator.Adapters.{position_from-zero}
 use Rattle.dp_ring.specs.Rings.{RingView, without_first}
 use Rattle.dp_engine.specs.Queues.{rings_in, RingsFirst, no_ring, ring_at, is_waiting, ring_of}
-use Rattle.dp_engine.proofs.Firsts.{first_place}
+use Rattle.dp_engine.proofs.Firsts.{first_slot}
 
 pub rings_below : (slots : List (Option RingView)) → length (rings_in slots) ≤ length slots
 rings_below [] = omega arith
@@ -36,7 +36,7 @@ first_set (None ∷ slots) k r first there = absurd (omega arith)
 first_set (Some q ∷ slots) zero r first there = first
 first_set (Some q ∷ slots) (suc k) r first there = first_set slots k r first (omega arith)
 
--- ---- the first place of a kind
+-- ---- the first slot of a kind
 
 filled_from : (slots : List (Option RingView)) (i : ℕ) → unwrap_or (position_from is_none i slots) (i + length slots) ≡ i + length (rings_in slots)
 filled_from [] i = refl
@@ -79,7 +79,7 @@ waits_there rings result is = subst (λ o. IfSome o (λ k. k < length rings)
         let within : position_or_len is_waiting rings < length rings = ltb-true _ _ there in
         (within, passes_at_first is_waiting rings no_ring within)
 
--- ---- a struct's places
+-- ---- a struct's slots
 
 module _ (slots : List (Option RingView)) (rings : List RingView) (same : rings_in slots ≡ rings) (inv : (length slots ≡ 8) × RingsFirst slots) where
   pub listed : (k : ℕ) → k < length rings → (k < length slots) × (k < 8)
@@ -105,7 +105,7 @@ module _ (slots : List (Option RingView)) (rings : List RingView) (same : rings_
   pub at_most : length rings ≤ 8
   at_most = omega (arith, rings_below slots, ap length same, inv.0)
 
-  -- the ring of a place is the one of that number
+  -- the ring of a slot is the one of that number
   pub ring_is : (k : ℕ) (d : Option RingView) → k < length rings → ring_of (get_or slots k d) ≡ ring_at rings k
   ring_is k d there = ap ring_of (filled_at k d there)
 
@@ -125,11 +125,11 @@ module _ (slots : List (Option RingView)) (rings : List RingView) (same : rings_
 
   -- where one of them has changed, the number of the first that waits is another
   pub renewed : (k : ℕ) (d o : Option RingView) (f : RingView → RingView) (count first : ℕ) → k < length rings → o ≡ Some (f (ring_of (get_or slots k d)))
-      → count ≡ length (rings_in slots) → first ≡ first_place (set rings k (f (ring_at rings k)))
+      → count ≡ length (rings_in slots) → first ≡ first_slot (set rings k (f (ring_at rings k)))
       → ((length (set slots k o) ≡ 8) × RingsFirst (set slots k o)) × (count ≡ length (rings_in (set slots k o)))
-      × (first ≡ first_place (rings_in (set slots k o)))
+      × (first ≡ first_slot (rings_in (set slots k o)))
   renewed k d o f count first there is count_is first_is =
       let now = changed k d o f there is in
       let many : length (rings_in (set slots k o)) ≡ length rings = ap length now.1 ∙ length-set rings k (f (ring_at rings k)) in
       let before : length (rings_in slots) ≡ length rings = ap length same in
-      (now.0, omega (arith, many, before, count_is), first_is ∙ ap first_place (sym now.1))
+      (now.0, omega (arith, many, before, count_is), first_is ∙ ap first_slot (sym now.1))

@@ -12,17 +12,17 @@ use Rattle.dp_engine.specs.Stacks.{bottom, block_at, LieUnder, IsStacked, left_i
 
 -- ---- what is taken at the bottom
 
-spare_some : (place size : ℕ) → 128 < size → spare place size ≡ record { offset = place; size = size; state = Free; pad = 0 } ∷ []
-spare_some place size above = ap (λ (b : Bool). cond b (record { offset = place; size = size; state = Free; pad = 0 } ∷ []) []) (lt-ltb 128 size above)
+spare_some : (offset size : ℕ) → 128 < size → spare offset size ≡ record { offset = offset; size = size; state = Free; pad = 0 } ∷ []
+spare_some offset size above = ap (λ (b : Bool). cond b (record { offset = offset; size = size; state = Free; pad = 0 } ∷ []) []) (lt-ltb 128 size above)
 
-spare_none : (place size : ℕ) → size ≤ 128 → spare place size ≡ []
-spare_none place size below = ap (λ (b : Bool). cond b (record { offset = place; size = size; state = Free; pad = 0 } ∷ []) []) (le-ltb 128 size below)
+spare_none : (offset size : ℕ) → size ≤ 128 → spare offset size ≡ []
+spare_none offset size below = ap (λ (b : Bool). cond b (record { offset = offset; size = size; state = Free; pad = 0 } ∷ []) []) (le-ltb 128 size below)
 
 kept_none : (size : ℕ) → 128 < size → kept size ≡ 0
 kept_none size above = ap (λ (b : Bool). cond b 0 size) (lt-ltb 128 size above)
 
 abbrev made : ℕ → ℕ → ℕ → Element
-made place size pad = record { offset = place; size = size; state = Busy; pad = pad }
+made offset size pad = record { offset = offset; size = size; state = Busy; pad = pad }
 
 same_made : (p s d p' s' d' : ℕ) → p ≡ p' → s ≡ s' → d ≡ d' → made p s d ≡ made p' s' d'
 same_made p s d p' s' d' x y z i = record { offset = x i; size = y i; state = Busy; pad = z i }
@@ -94,8 +94,8 @@ pub first_taken : (size n d : ℕ) (new : List Element) → size % 64 ≡ 0 → 
     → IsStacked (block_at (d - 64) n) new × (left_in new + (64 + n) ≡ size) × (d % 64 ≡ 0) × (64 ≤ d)
 first_taken size n d new even steps room taken =
     let (is, at) = bottom_taken size n d [] new tt even steps room taken in
-    let place : size - (64 + n) ≡ d - 64 = omega arith in (
-      subst (IsStacked (block_at (d - 64) n)) (sym is) (refl, omega arith, omega arith, ap (λ (p : ℕ). block_at p n) place),
+    let offset : size - (64 + n) ≡ d - 64 = omega arith in (
+      subst (IsStacked (block_at (d - 64) n)) (sym is) (refl, omega arith, omega arith, ap (λ (p : ℕ). block_at p n) offset),
       ap (λ (es : List Element). left_in es + (64 + n)) is ∙ (omega arith),
       omega arith,
       omega arith,
@@ -146,7 +146,7 @@ top_has p n e (x ∷ es) lie =
     let t = block_at p n in
     subst (λ (zs : List Element). Has (freed t) zs) (sym (past (data_of t) e (x ∷ es) lie.0 lie.1)) (inr (top_has p n x es lie.2))
 
--- then both the bottom and its own place are free
+-- then both the bottom and its own offset are free
 pub top_freed : (p n : ℕ) (es : List Element) → IsStacked (block_at p n) es → 2 ≤ count_of is_busy es
     → Has (bottom (left_in es)) (merged (data_of (block_at p n)) es) × Has (freed (block_at p n)) (merged (data_of (block_at p n)) es)
 top_freed p n [] stacked more = absurd stacked
@@ -218,10 +218,10 @@ append_size : (es fs : List Element) → size_of (es ++ fs) ≡ size_of es + siz
 append_size [] fs = omega arith
 append_size (e ∷ es) fs = let more = append_size es fs in omega arith
 
-spare_size : (place size : ℕ) → size_of (spare place size) + kept size ≡ size
-spare_size place size = go (ltb 128 size)
+spare_size : (offset size : ℕ) → size_of (spare offset size) + kept size ≡ size
+spare_size offset size = go (ltb 128 size)
   where
-    go : (b : Bool) → size_of (cond b (record { offset = place; size = size; state = Free; pad = 0 } ∷ []) []) + cond b 0 size ≡ size
+    go : (b : Bool) → size_of (cond b (record { offset = offset; size = size; state = Free; pad = 0 } ∷ []) []) + cond b 0 size ≡ size
     go true = omega arith
     go false = omega arith
 

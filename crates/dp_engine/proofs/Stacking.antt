@@ -62,18 +62,18 @@ pub made_two : (name : List ℕ) (s : PoolSpec) (size : ℕ) (home : Home) (old 
     pool_fits s ≡ true → size ≡ s.room + 128
     → IsMade name s.count size s.cache home old before p new after → TakesTwo before (rounded (objects_len s)) (rounded (queue_len s)) after
 made_two name s size home old new before after p fits sized made =
-    let (places, (power, above, half), is) = made.len_is in
-    let same : places ≡ power_above s.count = power_is s.count places power (omega arith) (omega (arith, half)) in
+    let (slots, (power, above, half), is) = made.len_is in
+    let same : slots ≡ power_above s.count = power_is s.count slots power (omega arith) (omega (arith, half)) in
     let len_is : made.len ≡ queue_len s = is ∙ ap (λ (n : ℕ). 4 * n) same in record {
       mid = made.left;
-      place = p.zones.object_offset;
+      offset = p.zones.object_offset;
       next = p.zones.queue_offset;
       first = subst (λ (n : ℕ). Taken before (rounded (s.count * ((n + 63) / 64 * 64))) 64 p.zones.object_offset made.left) sized made.objects_reserved.taken;
       second = subst (λ (n : ℕ). Taken made.left (rounded n) 64 p.zones.queue_offset after) len_is made.queue_reserved.taken;
     }
 
 pub two_size : (n m : ℕ) (old new : List Element) → TakesTwo old n m new → size_of new ≡ size_of old
-two_size n m old new two = taken_size m 64 two.next two.mid new two.second ∙ taken_size n 64 two.place old two.mid two.first
+two_size n m old new two = taken_size m 64 two.next two.mid new two.second ∙ taken_size n 64 two.offset old two.mid two.first
 
 pub pool_more : (heap heap' : HeapView) (table table' : List Reserved) (spare : ZoneView) (s : PoolSpec) (left : ℕ) → IsStack heap table spare →
     left_in heap.elements ≡ left
@@ -82,7 +82,7 @@ pub pool_more : (heap heap' : HeapView) (table table' : List Reserved) (spare : 
     → IsStack heap' table' spare × (left_in heap'.elements + pool_bytes s ≡ left)
 pool_more heap heap' table table' spare s left is at room two home counted names =
     let t = block_at (spare.offset - 64) (length spare.bytes) in
-    let once = stack_taken t heap.elements two.mid (rounded (objects_len s)) two.place refl is.stacked (omega arith) (omega arith) two.first in
+    let once = stack_taken t heap.elements two.mid (rounded (objects_len s)) two.offset refl is.stacked (omega arith) (omega arith) two.first in
     let less = once.1 in
     let twice = stack_taken t two.mid heap'.elements (rounded (queue_len s)) two.next refl once.0 (omega arith) (omega arith) two.second in
     let least = twice.1 in
@@ -90,12 +90,12 @@ pool_more heap heap' table table' spare s left is at room two home counted names
     (record { home = is.home ∙ sym home; even = is.even; high = is.high; stacked = twice.0; counted = omega arith }, omega arith)
 
 -- the queue has room once the objects are taken
-pub queue_fits : (heap : HeapView) (table : List Reserved) (spare : ZoneView) (s : PoolSpec) (left place : ℕ) (mid : List Element) →
+pub queue_fits : (heap : HeapView) (table : List Reserved) (spare : ZoneView) (s : PoolSpec) (left offset : ℕ) (mid : List Element) →
     IsStack heap table spare → left_in heap.elements ≡ left
-    → pool_bytes s + 128 < left → Taken heap.elements (rounded (objects_len s)) 64 place mid → NothingFits (rounded (queue_len s)) 64 mid → ⊥
-queue_fits heap table spare s left place mid is at room taken none =
+    → pool_bytes s + 128 < left → Taken heap.elements (rounded (objects_len s)) 64 offset mid → NothingFits (rounded (queue_len s)) 64 mid → ⊥
+queue_fits heap table spare s left offset mid is at room taken none =
     let t = block_at (spare.offset - 64) (length spare.bytes) in
-    let once = stack_taken t heap.elements mid (rounded (objects_len s)) place refl is.stacked (omega arith) (omega arith) taken in
+    let once = stack_taken t heap.elements mid (rounded (objects_len s)) offset refl is.stacked (omega arith) (omega arith) taken in
     let less = once.1 in
     stack_fits t mid (rounded (queue_len s)) once.0 (omega arith) (omega arith) none
 
@@ -113,8 +113,8 @@ released heap table spare left new is at some new_is =
     let p = spare.offset in let high = is.high in
     let counted = is.counted in let many = names_counted table in
     let (low, top) = top_freed (p - 64) (length spare.bytes) heap.elements is.stacked (omega arith) in
-    let place : p - 64 + 0 + 64 ≡ p = omega arith in
-    let back : merged (p - 64 + 0 + 64) heap.elements ≡ new = ap (λ (d : ℕ). merged d heap.elements) place ∙ sym new_is in (
+    let offset : p - 64 + 0 + 64 ≡ p = omega arith in
+    let back : merged (p - 64 + 0 + 64) heap.elements ≡ new = ap (λ (d : ℕ). merged d heap.elements) offset ∙ sym new_is in (
       subst (λ (es : List Element). Has (bottom left) es) back (subst (λ (n : ℕ). Has (bottom n) (merged (p - 64 + 0 + 64) heap.elements)) at low),
       subst (λ (es : List Element). Has (freed (block_at (p - 64) (length spare.bytes))) es) back top,
       ap (λ (n : ℕ). n % 64) (sym at) ∙ stacked_even (block_at (p - 64) (length spare.bytes)) heap.elements is.stacked,
@@ -125,11 +125,11 @@ pub last_objects : (left len : ℕ) (es : List Element) → Has (bottom left) es
 last_objects left len es has even room none = has_fits (bottom left) es (rounded len) 64 (left - rounded len) has
     (holds left (rounded len) even (omega arith) (omega arith)) none
 
-pub last_queue : (p n place : ℕ) (s : PoolSpec) (es mid : List Element) → pool_fits s ≡ true → 64 ≤ p → p % 64 ≡ 0 → n ≡ rounded (queue_len s) →
+pub last_queue : (p n offset : ℕ) (s : PoolSpec) (es mid : List Element) → pool_fits s ≡ true → 64 ≤ p → p % 64 ≡ 0 → n ≡ rounded (queue_len s) →
     Has (freed (block_at (p - 64) n)) es
-    → Taken es (rounded (objects_len s)) 64 place mid → NothingFits (rounded (queue_len s)) 64 mid → ⊥
-last_queue p n place s es mid fits high even is has taken none =
+    → Taken es (rounded (objects_len s)) 64 offset mid → NothingFits (rounded (queue_len s)) 64 mid → ⊥
+last_queue p n offset s es mid fits high even is has taken none =
     let sizes = long s fits in let objects = sizes.0 in let queue = sizes.2 in let some = (within s fits).count.0 in
-    let never : CanHold (freed (block_at (p - 64) n)) (rounded (objects_len s)) 64 place → ⊥ = λ can. let low = can.2 in let up = can.3 in omega arith in
+    let never : CanHold (freed (block_at (p - 64) n)) (rounded (objects_len s)) 64 offset → ⊥ = λ can. let low = can.2 in let up = can.3 in omega arith in
     has_fits (freed (block_at (p - 64) n)) mid (rounded (queue_len s)) 64 p
-    (has_stays (freed (block_at (p - 64) n)) es mid (rounded (objects_len s)) 64 place has never taken) (refl, even, omega arith, omega arith) none
+    (has_stays (freed (block_at (p - 64) n)) es mid (rounded (objects_len s)) 64 offset has never taken) (refl, even, omega arith, omega arith) none

@@ -19,7 +19,7 @@ use Rattle.dp_engine.specs.Engines.{over_ports, records_of, sent_by, StandIn, Is
 -- a record's part and the rings' part make a turn
 pub turn_is : (s : Scheme) (port : ℕ) (bytes : List ℕ) (w mid w' : World) (outcome : runs.Outcome) (more all : ℕ) → all ≡ runs.runs_of outcome + more
     → (now : List Bool) × ArrivesAt s port bytes w outcome now mid → (later : List Bool) × Serves s.setting s.nodes.rings 32 mid later more w'
-    → (told : List Bool) × Turn s.setting s.nodes port bytes w outcome all told w'
+    → (answers : List Bool) × Turn s.setting s.nodes port bytes w outcome all answers w'
 turn_is s port bytes w mid w' outcome more all sum (now, (spec, program, is_spec, is_program, arrives)) (later, serves) = (
   now ++ later,
   record {
@@ -33,7 +33,7 @@ turn_is s port bytes w mid w' outcome more all sum (now, (spec, program, is_spec
     later = later;
     more = more;
     serves = serves;
-    told_is = refl;
+    answers_are = refl;
     runs_is = sum;
   },
 )

@@ -31,10 +31,10 @@ use Rattle.dp_engine.specs.Laws.{get_map}
 
 -- ---- lists, element by element
 
-pub at_place : {A : Type 0} (xs : List A) (i : ℕ) → i < length xs → (x : A) × (slice_get xs i ≡ Some x)
-at_place [] i lt = absurd (omega arith)
-at_place (x ∷ xs) zero lt = (x, refl)
-at_place (x ∷ xs) (suc i) lt = at_place xs i (omega arith)
+pub at_slot : {A : Type 0} (xs : List A) (i : ℕ) → i < length xs → (x : A) × (slice_get xs i ≡ Some x)
+at_slot [] i lt = absurd (omega arith)
+at_slot (x ∷ xs) zero lt = (x, refl)
+at_slot (x ∷ xs) (suc i) lt = at_slot xs i (omega arith)
 
 pub take_more : {A : Type 0} (xs : List A) (i : ℕ) (x : A) → slice_get xs i ≡ Some x → take (suc i) xs ≡ take i xs ++ x ∷ []
 take_more [] i x e = cc
@@ -114,7 +114,7 @@ slot_of : (slots : List (Option Packet)) (h : ℕ) (k : Packet) → 1 ≤ in_slo
 slot_of slots h k one named =
     let (k', has) = in_slot_some (slice_get slots h) one in has ∙ ap (λ k. Some (Some k)) (sym (ap held_of has) ∙ named)
 
--- a packet in a transmit list has a handle at its place
+-- a packet in a transmit list has a handle at its slot
 pub waits_at : (s : Store) (zones : List PoolZones) (registers : List (Option ℕ)) (numbers : List ℕ) (rings boxes : List RingView) (calls : ℕ) (steps : Ran)
     (core : Core) (port i : ℕ) (packets : List Packet) (k : Packet)
     → core_of s (frames_of zones rings boxes) registers numbers (lists_of rings boxes) calls steps ≡ core

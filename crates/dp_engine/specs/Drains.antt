@@ -15,7 +15,7 @@ use Rattle.dp_engine.specs.Handles.{Core}
 abbrev pub record_of : TimeUnit → Time → Buffers → Packet → List ℕ
 record_of unit time buffers k = record_text unit (record { time = time; bytes = packet_bytes buffers k })
 
--- this holds of the packet at a place of a transmit list
+-- this holds of the packet at a slot of a transmit list
 abbrev pub AtPacket : Core → ℕ → ℕ → (Packet → Type 0) → Type 0
 AtPacket core port at P = (packets : List Packet) (k : Packet) → slice_get core.state.world.outboxes port ≡ Some packets → slice_get packets at ≡ Some k → P k
 

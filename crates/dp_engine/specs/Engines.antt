@@ -23,7 +23,7 @@ use Rattle.dp_engine.specs.Spaces.{SpaceView}
 use Rattle.dp_engine.specs.Tallies.{counted, packet_count}
 
 -- what contracts see of an engine: what stays, its programs, its world, what it has counted of each port and each ring (eight
--- places, of which the first are in use), and its region
+-- slots, of which the first are in use), and its region
 pub record EngineState : Type 0 where
   pub setting : Setting
   pub nodes : Nodes

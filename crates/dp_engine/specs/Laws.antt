@@ -143,10 +143,10 @@ get_drop (suc n) (x ∷ xs) k = get_drop n xs k ∙ ap (slice_get (x ∷ xs)) on
     one_more : suc (n + k) ≡ suc n + k
     one_more = omega arith
 
--- what holds at each place holds of all
-each_place : {X : Type 0} → (P : X → Type 0) (xs : List X) → ((k : ℕ) (x : X) → slice_get xs k ≡ Some x → P x) → AllByRecursion P xs
-each_place P [] all = tt
-each_place P (x ∷ xs) all = (all 0 x refl, each_place P xs (λ k y h. all (suc k) y h))
+-- what holds at each slot holds of all
+each_slot : {X : Type 0} → (P : X → Type 0) (xs : List X) → ((k : ℕ) (x : X) → slice_get xs k ≡ Some x → P x) → AllByRecursion P xs
+each_slot P [] all = tt
+each_slot P (x ∷ xs) all = (all 0 x refl, each_slot P xs (λ k y h. all (suc k) y h))
 
 -- a checked question is the checked node of its entry
 node_of : (env : Environment) (entry : Entry) (program : List Instr) (q : Question) → q.program ≡ program → q.env ≡ env → q.entry ≡ entry → IsChecked q
@@ -195,7 +195,7 @@ plan_of env tables questions pattern limits nodes many checked hops =
       };
       tables_fit = record {
         count = length-map tables (λ (t : RouteTable). t.routes) ∙ many;
-        hops = each_place (AllByRecursion (λ (route : Route). route.hop ≤ largest_hop)) (routes_of tables) (λ k routes h.
+        hops = each_slot (AllByRecursion (λ (route : Route). route.hop ≤ largest_hop)) (routes_of tables) (λ k routes h.
             let (t, is_t, is_routes) = get_map (λ (t : RouteTable). t.routes) tables k routes h in
             subst (AllByRecursion (λ (route : Route). route.hop ≤ largest_hop)) is_routes (hops k t is_t));
       };

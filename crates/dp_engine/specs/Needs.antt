@@ -26,7 +26,7 @@ objects_len s = object_len s.count (s.room + HEADER_SIZE)
 abbrev pub queue_len : PoolSpec → ℕ
 queue_len s = 4 * power_above s.count
 
--- what a pool takes, and what a ring of so many places does
+-- what a pool takes, and what a ring of so many slots does
 abbrev pub pool_bytes : PoolSpec → ℕ
 pool_bytes s = zone_bytes (objects_len s) + zone_bytes (queue_len s)
 
@@ -38,7 +38,7 @@ abbrev pub total : {X : Type 0} → (X → ℕ) → List X → ℕ
 total f [] = 0
 total f (x ∷ xs) = f x + total f xs
 
--- how many places the rings have, and the transmit lists of the ports
+-- how many slots the rings have, and the transmit lists of the ports
 abbrev pub ring_counts : Environment → List ℕ
 ring_counts e = map (λ r. r.count) e.rings
 

@@ -3,15 +3,15 @@ use Rattle.std.specs.Prelude.{◌≡◌, ℕ, ◌==◌, Bool, not, List, [], ◌
 use Rattle.std.specs.List.{AllByRecursion}
 use Rattle.dp_ring.specs.Rings.{RingView}
 
--- ---- places for rings
+-- ---- slots for rings
 
--- the rings of a list of places for them, of which the first are filled
+-- the rings of a list of slots for them, of which the first are filled
 abbrev pub rings_in : List (Option RingView) → List RingView
 rings_in [] = []
 rings_in (None ∷ slots) = []
 rings_in (Some r ∷ slots) = r ∷ rings_in slots
 
--- the filled places come first
+-- the filled slots come first
 abbrev pub RingsFirst : List (Option RingView) → Type 0
 RingsFirst [] = Unit {0}
 RingsFirst (None ∷ slots) = AllByRecursion (λ o. o ≡ None) slots
@@ -38,7 +38,7 @@ ring_at rings k = slice_index_or rings k no_ring
 abbrev pub is_waiting : RingView → Bool
 is_waiting r = not (length r.entries == 0)
 
--- ---- a place for a ring
+-- ---- a slot for a ring
 
 -- its ring
 abbrev pub ring_of : Option RingView → RingView

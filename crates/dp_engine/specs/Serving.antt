@@ -14,18 +14,18 @@ use Rattle.dp_engine.specs.Schemes.{Scheme}
 
 -- what becomes of a record at a port with its program
 abbrev pub ArrivesAt : Scheme → ℕ → List ℕ → World → Outcome → List Bool → World → Type 0
-ArrivesAt s port bytes w outcome told w' =
+ArrivesAt s port bytes w outcome answers w' =
     (spec : PortSpec) × (program : List Instr)
     × (slice_get s.setting.env.ports port ≡ Some spec) × (slice_get s.nodes.ports port ≡ Some program)
-    × Arrives s.setting program port spec bytes w outcome told w'
+    × Arrives s.setting program port spec bytes w outcome answers w'
 
 -- no ring has a packet, and nothing happens; or the first that has one is served
 abbrev pub ServesOne : Scheme → World → Option took.NodeRun → World → Type 0
 ServesOne s w None w' = (first_waiting w.rings ≡ None) × (w' ≡ w)
 ServesOne s w (Some run) w' =
-    (next : Waiting Packet) × (program : List Instr) × (told : List Bool)
+    (next : Waiting Packet) × (program : List Instr) × (answers : List Bool)
     × (first_waiting w.rings ≡ Some next) × (slice_get s.nodes.rings next.ring ≡ Some program)
-    × NodeRun s.setting program next.packet next.ring (record w { rings = next.rings }) told w'
+    × NodeRun s.setting program next.packet next.ring (record w { rings = next.rings }) answers w'
     × Took w w' run.steps run.cuts
 
 -- a machine between two node runs of a scheme

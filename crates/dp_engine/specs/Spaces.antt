@@ -20,7 +20,7 @@ pub record Returns (n : ℕ) (old new : SpaceView) : Type 0 where
   pub size : new.size ≡ old.size
   pub out : new.out + n ≡ old.out
 
--- the first places hold, in order, what P says of the first list; the others are empty
+-- the first slots hold, in order, what P says of the first list; the others are empty
 abbrev pub Fills : {X V : Type 0} → (X → V → Type 0) → X → Option V → Type 0
 Fills P x None = ⊥
 Fills P x (Some v) = P x v
@@ -30,7 +30,7 @@ AreFilled P [] slots = AllByRecursion (λ o. o ≡ None) slots
 AreFilled P (x ∷ xs) [] = ⊥
 AreFilled P (x ∷ xs) (o ∷ slots) = Fills P x o × AreFilled P xs slots
 
--- an empty ring of so many places, in a zone of the region
+-- an empty ring of so many slots, in a zone of the region
 pub record IsNewRing (home : Home) (count : ℕ) (r : RingView) : Type 0 where
   pub count_is : r.count ≡ count
   pub empty : r.entries ≡ []
@@ -45,7 +45,7 @@ pub record IsNewPool (home : Home) (s : PoolSpec) (p : PoolView) : Type 0 where
   pub all_in : p.out ≡ replicate s.count false
   pub home_is : p.zones.home ≡ home
 
--- how many places are filled
+-- how many slots are filled
 abbrev pub filled : {V : Type 0} → List (Option V) → ℕ
 filled [] = 0
 filled (o ∷ slots) = (if is_some o then 1 else 0) + filled slots

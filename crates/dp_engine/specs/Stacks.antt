@@ -22,7 +22,7 @@ bottom size = record { offset = 0; size = size; state = Free; pad = 0 }
 
 -- the element of a block of n bytes that lie right behind its header
 abbrev pub block_at : ℕ → ℕ → Element
-block_at place n = record { offset = place; size = 64 + n; state = Busy; pad = 0 }
+block_at offset n = record { offset = offset; size = 64 + n; state = Busy; pad = 0 }
 
 -- they are busy, and the last of them is t, above the others' data
 abbrev pub LieUnder : Element → List Element → Type 0
@@ -64,7 +64,7 @@ pub record IsStack (heap : HeapView) (table : List Reserved) (spare : ZoneView) 
 -- a block of n bytes is taken, and then one of m bytes
 pub record TakesTwo (old : List Element) (n m : ℕ) (new : List Element) : Type 0 where
   pub mid : List Element
-  pub place : ℕ
+  pub offset : ℕ
   pub next : ℕ
-  pub first : Taken old n 64 place mid
+  pub first : Taken old n 64 offset mid
   pub second : Taken mid m 64 next new

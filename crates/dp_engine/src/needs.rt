@@ -62,7 +62,7 @@ fn pools_bytes(specs: &[PoolSpec]) -> u64
     sum
 }
 
-// What rings of so many places take.
+// What rings of so many slots take.
 fn rings_bytes(counts: &[u32]) -> u64
     requires few { length counts.now ≤ 8 }
     requires fit { AllByRecursion IsCount counts.now }
@@ -76,7 +76,7 @@ fn rings_bytes(counts: &[u32]) -> u64
     sum
 }
 
-/// How many places the rings have.
+/// How many slots the rings have.
 pub(crate) fn ring_counts(rings: &[RingSpec]) -> ArrayVec<u32, 8>
     requires { length rings.now ≤ 8 }
     ensures { result.items ≡ map (λ r. r.count) rings.now }
@@ -88,7 +88,7 @@ pub(crate) fn ring_counts(rings: &[RingSpec]) -> ArrayVec<u32, 8>
     counts
 }
 
-/// How many places the transmit lists of the ports have.
+/// How many slots the transmit lists of the ports have.
 pub(crate) fn list_counts(ports: &[PortSpec]) -> ArrayVec<u32, 8>
     requires { length ports.now ≤ 8 }
     ensures { result.items ≡ map (λ p. p.queue) ports.now }
@@ -101,7 +101,7 @@ pub(crate) fn list_counts(ports: &[PortSpec]) -> ArrayVec<u32, 8>
 }
 
 /// How many bytes an engine of this environment needs: for each pool a zone of its objects and one of its queue, and for
-/// each ring and each port's transmit list one of 4 bytes a place. A zone takes 64 bytes beside its length, which is
+/// each ring and each port's transmit list one of 4 bytes a slot. A zone takes 64 bytes beside its length, which is
 /// rounded up to 64.
 #[tactic(auto, using(crate::specs::Laws::known))]
 pub fn need(env: &Env) -> u64

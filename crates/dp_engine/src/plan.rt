@@ -83,7 +83,7 @@ impl Plan {
         self.pattern = Some(pattern);
     }
 
-    // The environment. What is true of every plan is told here.
+    // The environment. What is true of every plan is said here.
     pub(crate) fn env(&self) -> &Env
         ensures same { result.now ≡ self.now.setting.env }
         ensures pipeline { IsPipeline self.now.setting self.now.nodes }

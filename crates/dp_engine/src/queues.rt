@@ -31,7 +31,7 @@ impl Model for Queues {
         × (q.first ≡ position_or_len is_waiting (rings_in q.rings)) };
 }
 
-// The first place without a ring.
+// The first slot without a ring.
 fn first_empty(slots: &[Option<Ring>]) -> Option<usize>
     ensures { result ≡ position is_none slots.now }
 {
@@ -49,7 +49,7 @@ fn ring_in(rings: &[Option<Ring>; 8], k: u8) -> &Ring
     }
 }
 
-// Puts an entry into a place's ring.
+// Puts an entry into a slot's ring.
 fn push_in(slot: &mut Option<Ring>, entry: u32) -> bool
     requires { IsSome slot.old }
     ensures taken { result ≡ nat_lt 0 (room_in (ring_of slot.old)) }
@@ -61,7 +61,7 @@ fn push_in(slot: &mut Option<Ring>, entry: u32) -> bool
     }
 }
 
-// Takes the first entry out of a place's ring.
+// Takes the first entry out of a slot's ring.
 fn pop_in(slot: &mut Option<Ring>) -> Option<u32>
     requires { IsSome slot.old }
     ensures first { result ≡ slice_get (ring_of slot.old).entries 0 }
@@ -88,7 +88,7 @@ fn first_from(rings: &[Option<Ring>; 8], from: u8, count: u8) -> u8
 }
 
 impl Queues {
-    /// These rings, by their places.
+    /// These rings, by their slots.
     pub fn over(rings: [Option<Ring>; 8]) -> Queues
         requires { RingsFirst rings }
         ensures { result ≡ rings_in rings }
@@ -168,7 +168,7 @@ impl Queues {
         }
     }
 
-    /// The rings again, each at the place of its number.
+    /// The rings again, each at the slot of its number.
     pub fn into_rings(self) -> [Option<Ring>; 8]
         ensures same { rings_in result ≡ self }
         ensures first { RingsFirst result }

@@ -47,7 +47,7 @@ pub(crate) fn arrive<W: Watch>(
     requires rests { Rests plan.now m.old }
     requires few { m.old.state.world.calls + most_steps + 1 < 2 ^ 64 }
     requires few_cuts { m.old.state.world.cuts + 1 < 2 ^ 64 }
-    ensures arrives { (told : List Bool) × ArrivesAt plan.now port bytes.now m.old.state.world (outcome_of result.0) told m.new.state.world }
+    ensures arrives { (answers : List Bool) × ArrivesAt plan.now port bytes.now m.old.state.world (outcome_of result.0) answers m.new.state.world }
     ensures took { Took m.old.state.world m.new.state.world result.1.steps result.1.cuts }
     ensures few_steps { result.1.steps ≤ runs_of (outcome_of result.0) * most_steps }
     ensures few_cuts { result.1.cuts ≤ 1 }
@@ -109,7 +109,7 @@ pub(crate) fn serve<W: Watch>(plan: &Plan, m: &mut Machine, watch: &mut W) -> Se
     requires rests { Rests plan.now m.old }
     requires few { m.old.state.world.calls + 32 * most_steps < 2 ^ 64 }
     requires few_cuts { m.old.state.world.cuts + 32 < 2 ^ 64 }
-    ensures serves { (told : List Bool) × Serves plan.now.setting plan.now.nodes.rings 32 m.old.state.world told result.runs m.new.state.world }
+    ensures serves { (answers : List Bool) × Serves plan.now.setting plan.now.nodes.rings 32 m.old.state.world answers result.runs m.new.state.world }
     ensures took { Took m.old.state.world m.new.state.world result.steps result.cuts }
     ensures few_runs { result.runs ≤ 32 }
     ensures few_steps { result.steps ≤ result.runs * most_steps }

@@ -16,7 +16,7 @@ use dp_ring::Ring;
 use dp_zone::Zones;
 use std::marker::Model;
 
-/// What stands in the zones of a space: pools of mbufs, rings, and the transmit lists of ports. Of each the first places
+/// What stands in the zones of a space: pools of mbufs, rings, and the transmit lists of ports. Of each the first slots
 /// are filled.
 pub struct Parts {
     pub pools: [Option<Pool>; 8],
@@ -82,7 +82,7 @@ impl Space {
         Ok(lay_out(region, env))
     }
 
-    // Takes the zone of a place's ring back.
+    // Takes the zone of a slot's ring back.
     fn end_ring(&mut self, slot: Option<Ring>)
         requires { IfSome slot (λ r. r.home ≡ self.old.home) }
         ensures { Returns (if is_some slot then 1 else 0) self.old self.new }
@@ -92,7 +92,7 @@ impl Space {
         }
     }
 
-    // Takes the zones of a place's pool back.
+    // Takes the zones of a slot's pool back.
     fn end_pool(&mut self, slot: Option<Pool>)
         requires { IfSome slot (λ p. p.zones.home ≡ self.old.home) }
         ensures { Returns (2 * (if is_some slot then 1 else 0)) self.old self.new }

@@ -48,7 +48,7 @@ impl Model for Stack {
     ghost invariant = { λ s. IsStack s.heap s.zones s.spare };
 }
 
-// Puts a value into an empty place.
+// Puts a value into an empty slot.
 fn put<T>(slot: &mut Option<T>, value: T)
     requires { slot.old ≡ None }
     ensures { slot.new ≡ Some value }
@@ -57,7 +57,7 @@ fn put<T>(slot: &mut Option<T>, value: T)
     let None = old else { unreachable!() };
 }
 
-/// Puts a pool into an empty place.
+/// Puts a pool into an empty slot.
 pub(crate) fn put_pool(slot: &mut Option<Pool>, pool: Pool)
     requires { slot.old ≡ None }
     ensures { slot.new ≡ Some pool }
@@ -65,7 +65,7 @@ pub(crate) fn put_pool(slot: &mut Option<Pool>, pool: Pool)
     put(slot, pool);
 }
 
-// Puts a ring into an empty place.
+// Puts a ring into an empty slot.
 fn put_ring(slot: &mut Option<Ring>, ring: Ring)
     requires { slot.old ≡ None }
     ensures { slot.new ≡ Some ring }
@@ -98,7 +98,7 @@ fn make(heap: &mut Heap, zones: &mut Zones, k: usize, spec: PoolSpec) -> Pool
     requires names { AllBefore (first_pool + 10 * k) (names_of zones.old) }
     requires few { length (names_of zones.old) + 2 ≤ 64 }
     requires objects { ¬ NothingFits (rounded (objects_len spec)) 64 heap.old.elements }
-    requires queue { (place : ℕ) (mid : List Element) → Taken heap.old.elements (rounded (objects_len spec)) 64 place mid →
+    requires queue { (offset : ℕ) (mid : List Element) → Taken heap.old.elements (rounded (objects_len spec)) 64 offset mid →
         ¬ NothingFits (rounded (queue_len spec)) 64 mid }
     ensures pool { IsNewPool heap.old.home spec result }
     ensures taken { TakesTwo heap.old.elements (rounded (objects_len spec)) (rounded (queue_len spec)) heap.new.elements }
@@ -160,7 +160,7 @@ impl Stack {
         Ring::over(zone, count)
     }
 
-    /// Empty rings of a kind, of so many places each.
+    /// Empty rings of a kind, of so many slots each.
     pub fn take_rings(&mut self, kind: Kind, counts: &[u32]) -> [Option<Ring>; 8]
         requires number { length counts.now ≤ 8 }
         requires counts { AllByRecursion IsCount counts.now }
@@ -204,7 +204,7 @@ impl Stack {
         requires names { AllBefore first_pool self.old.names }
         requires few { length self.old.names + 2 * length specs.now ≤ 64 }
         ensures pools { AreFilled (IsNewPool self.old.home) specs.now result }
-        ensures places { length result ≡ 8 }
+        ensures slots { length result ≡ 8 }
         ensures left { self.new.left + total pool_bytes specs.now ≡ self.old.left }
         ensures same { (self.new.home ≡ self.old.home) × (self.new.size ≡ self.old.size) × (self.new.spare ≡ self.old.spare) }
         ensures names { AllBefore (first_pool + 10 * length specs.now) self.new.names × (length self.new.names ≡ length self.old.names + 2 * length specs.now) }

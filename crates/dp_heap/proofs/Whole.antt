@@ -4,9 +4,8 @@ use Rattle.std.specs.Prelude.{not}
 use Rattle.std.proofs.lemmas.Bool.{true≢false}
 use Rattle.dp_heap.specs.declared.elements.Element.{Element}
 use Rattle.dp_heap.specs.declared.elements.State.TheVariants.{Free}
-use Rattle.dp_heap.specs.Elements.{is_free, is_busy, count_of}
+use Rattle.dp_heap.specs.Elements.{is_free, is_busy, count_of, apart}
 use Rattle.dp_heap.specs.Laid.{Laid, Kept}
-use Rattle.dp_heap.specs.Elements.{apart}
 use Rattle.dp_heap.proofs.Laid.{first_offset}
 use Rattle.dp_heap.proofs.Undo.{is_open, open_same}
 

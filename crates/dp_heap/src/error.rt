@@ -4,7 +4,7 @@ ghost use Rattle.dp_heap.specs.Refusals.{number_of};
 
 use thiserror::Error;
 
-/// Why `malloc` and `zmalloc` refuse. Of several causes the first is told.
+/// Why `malloc` and `zmalloc` refuse. Of several causes the first is given.
 #[derive(Clone, Copy, Debug, PartialEq, Eq, Error)]
 pub enum HeapError {
     /// The size is 0.

@@ -1,8 +1,8 @@
 -- Facts that change keep what one says more than the other.
 use Rattle.std.proofs.Common.{◌≡◌, ℕ, zero, suc, ◌≤◌, Bool, true, false, ◌&&◌, ◌||◌, ◌==◌, cond, List, [], ◌∷◌, Option, Some, None, refl, sym, ap, ◌∙◌}
-use Rattle.std.proofs.Common.{⊎_elim, subst, arith}
-use Rattle.std.specs.Prelude.{nat_le, slice_get, slice_set, option_and_then}
-use Rattle.std.specs.List.{list_all}
+use Rattle.std.proofs.Common.{⊎_elim, subst, arith, ◌+◌, length, min, inl, inr, ◌⊎◌}
+use Rattle.std.specs.Prelude.{nat_le, slice_get, slice_set, option_and_then, ◌≢◌}
+use Rattle.std.specs.List.{list_all, AllZip, position_from}
 use Rattle.std.specs.Option.{option_map_or}
 use Rattle.std.proofs.lemmas.Bool.{leb-true, leb-false, and_parts, eq-eqb, eqb-true, ne_eqb, cases_eq}
 use Rattle.std.proofs.lemmas.Bool.Decides.{Decides-eqb}
@@ -10,27 +10,21 @@ use Rattle.dp_model.specs.declared.row.Fact.{Fact}
 use Rattle.dp_model.specs.declared.row.Fact.TheVariants.{Empty, Held}
 use Rattle.dp_model.specs.declared.row.Row.{Row}
 use Rattle.dp_model.specs.Groups.{are_groups, belongs, size, least, share_left, is_in, share_of_group, reshared_fact, reshared}
-use Rattle.std.specs.List.{AllZip}
 use Rattle.std.proofs.lemmas.Option.{same_Some}
 use Rattle.dp_model.specs.Laws.Groups.{group_at_is, group_at_belongs, group_at_none, dissolved_out, dissolved_stays, groups_of_row, least_belongs, unnamed}
 use Rattle.dp_model.specs.Laws.Groups.{fact_at, changed_is, belongs_at, belongs_there, belongs_set, belongs_other, belongs_in, belongs_out, in_one, size_same}
 use Rattle.dp_model.specs.Laws.Groups.{other_group, sole_no_group, loose_no_group, left_name}
-use Rattle.dp_infer.proofs.Stronger.{StrongerFact, AtMost, zip_length}
-use Rattle.std.proofs.Common.{◌+◌, length, min}
+use Rattle.dp_infer.proofs.Stronger.{StrongerFact, AtMost, zip_length, StrongerHolding, StrongerOption, Stronger}
 use Rattle.dp_model.specs.declared.row.Holding.{Holding}
 use Rattle.dp_model.specs.Rows.{is_empty, shared, twin, twin_share, joins, holding, held, held_at, with_fact, emptied, changed, owns_head}
 use Rattle.dp_model.specs.Rows.{chained_share, entails_share, after_chain, group_at, with_shares, renamed, dissolved, after_free, after_leave, after_chained}
 use Rattle.dp_model.specs.Rows.{after_clone, if_single, is_fact_of_row, is_well_formed_row}
 use Rattle.dp_model.specs.Rules.{is_empty_at}
 use Rattle.dp_model.specs.Laws.Lists.{get_set_other}
-use Rattle.std.proofs.Common.{inl, inr, ◌⊎◌}
 use Rattle.dp_model.specs.Laws.Cases.{by_cases}
-use Rattle.std.specs.List.{position_from}
 use Rattle.std.proofs.lemmas.Iterator.Adapters.{position_from-zero}
-use Rattle.std.specs.Prelude.{◌≢◌}
 use Rattle.dp_infer.proofs.Sharing.{KeepsGroups, keeps_moved, keeps_out, keeps_dissolved, set_out, share_same, share_zero, share_cases, share_chained}
 use Rattle.dp_infer.proofs.Sharing.{sole_more}
-use Rattle.dp_infer.proofs.Stronger.{StrongerHolding, StrongerOption, Stronger}
 use Rattle.dp_infer.proofs.Registers.{zip_set, fact_set, held_both}
 
 -- a packet has a segment, and groups are groups

@@ -14,7 +14,7 @@ use Rattle.dp_model.specs.declared.rule.Rule.{Rule}
 use Rattle.dp_model.specs.Environments.{Environment}
 use Rattle.dp_model.specs.Jumps.{IsForward}
 use Rattle.dp_model.specs.Rows.{entails, leads, entry_row, is_well_formed_row}
-use Rattle.dp_model.specs.Rules.{Question, row_passes, holds, holds_at, uses, places_exist, later_rules, IsAccepted, IsRefused}
+use Rattle.dp_model.specs.Rules.{Question, row_passes, holds, holds_at, uses, indices_exist, later_rules, IsAccepted, IsRefused}
 use Rattle.dp_cert.specs.Spelling.{Certificate, certificate_of}
 use Rattle.dp_check.specs.Faults.{question, IsChecked, IsRefusedWith}
 use Rattle.dp_infer.specs.Joins.{joined, dead_row, begun, found_rows}
@@ -96,7 +96,7 @@ live_hold q rows label i row accepted cert_fits so at_i at_row live =
     let all = live_rules q label i u accepted at_i at_u s.other_live in
     let each = all_from (holds_at q label i u) later_rules all in
     let well = leads_well q label i row u s fits (fits_from u (all_at is_well_formed_row q.rows label u cert_fits at_u)) all in
-    let places = (and_parts (places_exist q.env i) (list_all (λ to. nat_lt to.to (length q.program)) (leads q.env label u i)) each.0).0 in
+    let places = (and_parts (indices_exist q.env i) (list_all (λ to. nat_lt to.to (length q.program)) (leads q.env label u i)) each.0).0 in
     let entailed = so.done label (slice_get_within q.program label i at_i) i row at_i at_row live in
     both_are (both_are places well.within)
     (both_are (all_held_keeps row u (uses i) s each.1.0)

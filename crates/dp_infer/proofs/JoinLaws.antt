@@ -1,8 +1,8 @@
 -- Two rows that both say all that a third does have a least row in common.
 use Rattle.std.proofs.Common.{◌≡◌, ℕ, min, max, Bool, true, false, ◌&&◌, List, [], ◌∷◌, refl, arith}
-use Rattle.std.specs.Prelude.{nat_le}
-use Rattle.std.specs.List.{AllZip, list_all}
-use Rattle.std.proofs.lemmas.Bool.{leb-true, le-leb, and_parts}
+use Rattle.std.specs.Prelude.{nat_le, ◌==◌, slice_get, Option, Some, None}
+use Rattle.std.specs.List.{AllZip, list_all, AllByRecursion}
+use Rattle.std.proofs.lemmas.Bool.{leb-true, le-leb, and_parts, eq-eqb, ne_eqb, eqb-true, cases_eq, leb-false}
 use Rattle.dp_model.specs.declared.row.Fact.{Fact}
 use Rattle.dp_model.specs.declared.row.Fact.TheVariants.{Empty, Held}
 use Rattle.dp_model.specs.declared.row.Row.{Row}
@@ -10,14 +10,9 @@ use Rattle.dp_model.specs.declared.row.Holding.{Holding}
 use Rattle.dp_model.specs.Rows.{holding, held, entails_share, owns_head, is_fact_of_row, is_well_formed_row}
 use Rattle.dp_model.specs.Groups.{group_of, is_in, is_group, size, same_registers, belongs, share_of_group, are_groups}
 use Rattle.std.proofs.Common.{zero, suc, ◌+◌, ◌-◌, ◌≤◌, cond, ap, sym, ◌∙◌, subst, map, length, ⊎_elim}
-use Rattle.std.specs.Prelude.{◌==◌}
-use Rattle.std.specs.List.{AllByRecursion}
 use Rattle.std.specs.Option.{option_map_or}
-use Rattle.std.proofs.lemmas.Bool.{eq-eqb, ne_eqb, eqb-true, cases_eq}
 use Rattle.dp_model.specs.Laws.Lists.{all_at}
 use Rattle.dp_model.specs.Laws.Groups.{same_at, belongs_at, group_is, belongs_there, size_same, is_in_group, groups_of_row}
-use Rattle.std.proofs.lemmas.Bool.{leb-false}
-use Rattle.std.specs.Prelude.{slice_get, Option, Some, None}
 use Rattle.dp_model.specs.Laws.Cases.{by_cases}
 use Rattle.dp_infer.proofs.Sharing.{KeepsGroups, share_same, share_zero, share_is, share_cases, same_from, all_from_each, one_of, and_comm}
 use Rattle.dp_infer.specs.Joins.{is_share, joined_share, joined_fact, common_fact, joined_facts, paired, joined, met}

@@ -10,7 +10,7 @@ use Rattle.dp_model.specs.declared.rule.Rule.{Rule}
 use Rattle.dp_model.specs.declared.rule.Rule.TheVariants.{J1, J2, J3, J4, J5, J6, J7, J8, J9, J10, J11}
 use Rattle.dp_model.specs.Environments.{Environment}
 use Rattle.dp_model.specs.Rows.{entails, leads, is_well_formed_row}
-use Rattle.dp_model.specs.Rules.{Question, targets_fit, holds_at, places_exist, uses}
+use Rattle.dp_model.specs.Rules.{Question, targets_fit, holds_at, indices_exist, uses}
 use Rattle.dp_infer.specs.Laws.{LeadsEntail, HaveLeastRow}
 use Rattle.dp_infer.proofs.Stronger.{stronger, row_test, both_are}
 use Rattle.dp_infer.proofs.RowsAfter.{StrongerLead, leads_keep}
@@ -41,7 +41,7 @@ pub rules_hold : (q : Question) (label : ℕ) (i : Instr) (a b : Row) (rule : Ru
 rules_hold q label i a b J1 fits fits' e target h = refl
 rules_hold q label i a b J2 fits fits' e target h = refl
 rules_hold q label i a b J3 fits fits' e target h =
-    let (places, within) = and_parts (places_exist q.env i) (list_all (λ to. nat_lt to.to (length q.program)) (leads q.env label b i)) h in
+    let (places, within) = and_parts (indices_exist q.env i) (list_all (λ to. nat_lt to.to (length q.program)) (leads q.env label b i)) h in
     both_are places (labels_keep (λ to. nat_lt to (length q.program)) (leads q.env label a i) (leads q.env label b i)
     (leads_keep q.env label a b i (stronger a b e) (fits_from a fits) (fits_from b fits') target) within)
 rules_hold q label i a b J4 fits fits' e target h = all_held_keeps a b (uses i) (stronger a b e) h

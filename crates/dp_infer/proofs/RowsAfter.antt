@@ -11,7 +11,7 @@ use Rattle.dp_model.specs.Arithmetic.{greatest, bytes_in}
 use Rattle.dp_model.specs.Environments.{Environment, room_at}
 use Rattle.dp_model.specs.declared.row.Holding.{Holding}
 use Rattle.dp_model.specs.Rows.{holding, bound, with_fact, with_bound, changed, after_clone, after_prepend, after_adj, after_append, after_trim}
-use Rattle.dp_model.specs.Rows.{after_alloc, onward, fork, leads}
+use Rattle.dp_model.specs.Rows.{after_alloc, onward, fork, leads, after_free, after_leave, after_chained}
 use Rattle.dp_infer.proofs.Stronger.{StrongerHolding, Stronger, holding_same}
 use Rattle.dp_infer.proofs.Registers.{bound_at, bound_set, fact_set}
 use Rattle.dp_infer.proofs.Numbers.{all_ones_more, shifted_more, times_more}
@@ -19,7 +19,6 @@ use Rattle.dp_infer.proofs.Changes.{AreWellFormed, changed_keeps, single_more, c
 use Rattle.dp_infer.proofs.Sharing.{keeps_out}
 use Rattle.dp_model.specs.Laws.Groups.{sole_no_group}
 use Rattle.dp_model.specs.Rules.{targets_fit}
-use Rattle.dp_model.specs.Rows.{after_free, after_leave, after_chained}
 
 -- to the same label, with a row that says all that the other does
 abbrev pub StrongerLead : Lead → Lead → Type 0

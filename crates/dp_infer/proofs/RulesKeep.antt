@@ -4,7 +4,7 @@ use Rattle.std.specs.Prelude.{nat_le}
 use Rattle.std.specs.List.{AllZip, list_all}
 use Rattle.std.specs.Option.{option_map_or}
 use Rattle.std.proofs.Math.Bool.{or-true}
-use Rattle.std.proofs.lemmas.Bool.{leb-true, le-leb, and_parts, eq-eqb}
+use Rattle.std.proofs.lemmas.Bool.{leb-true, le-leb, and_parts, eq-eqb, or_cases, eqb-true}
 use Rattle.dp_model.specs.declared.row.Fact.{Fact}
 use Rattle.dp_model.specs.declared.row.Row.{Row}
 use Rattle.dp_model.specs.declared.row.Lead.{Lead}
@@ -14,12 +14,10 @@ use Rattle.dp_model.specs.declared.instr.Instr.TheVariants.{Alloc, Clone, Prepen
 use Rattle.dp_model.specs.Arithmetic.{bytes_in}
 use Rattle.dp_model.specs.Environments.{Environment}
 use Rattle.dp_model.specs.declared.row.Holding.{Holding}
-use Rattle.dp_model.specs.Rows.{holding, held_at, bound, entails_option, fact_of_ring}
+use Rattle.dp_model.specs.Rows.{holding, held_at, bound, entails_option, fact_of_ring, owns_head}
 use Rattle.dp_model.specs.Rules.{holds_with, targets_fit, bytes_fit, share_fits, segments_fit, may_leave, may_end}
 use Rattle.dp_infer.proofs.Sharing.{sole_more, owns_more}
 use Rattle.std.proofs.Common.{⊎_elim}
-use Rattle.std.proofs.lemmas.Bool.{or_cases, eqb-true}
-use Rattle.dp_model.specs.Rows.{owns_head}
 use Rattle.dp_infer.proofs.Stronger.{StrongerHolding, Stronger, both_are, stronger_option, option_test, option_further}
 use Rattle.dp_infer.proofs.Registers.{bound_at, held_both}
 use Rattle.dp_infer.proofs.Changes.{AreWellFormed}

@@ -2,7 +2,7 @@
 use Rattle.std.proofs.Common.{◌≡◌, ℕ, suc, ◌+◌, ◌<◌, Bool, true, false, not, ◌||◌, List, [], ◌∷◌, length, Option, Some, None, refl, sym, ap, ◌∙◌, inl, inr}
 use Rattle.std.proofs.Common.{subst, arith}
 use Rattle.std.specs.Prelude.{nat_lt, slice_get}
-use Rattle.std.specs.List.{list_all}
+use Rattle.std.specs.List.{list_all, AllZip}
 use Rattle.std.specs.Option.{option_map_or}
 use Rattle.std.proofs.lemmas.Bool.{and_parts, cases_lt}
 use Rattle.std.proofs.lemmas.Option.{slice_get_within}
@@ -11,8 +11,7 @@ use Rattle.dp_model.specs.declared.row.Lead.{Lead}
 use Rattle.dp_model.specs.declared.instr.Instr.{Instr}
 use Rattle.dp_model.specs.Jumps.{IsForward}
 use Rattle.dp_model.specs.Rows.{entails, leads, entry_row, is_well_formed_row}
-use Rattle.dp_model.specs.Rules.{Question, row_passes, holds_at, holds_if_live, places_exist, later_rules, IsAccepted}
-use Rattle.std.specs.List.{AllZip}
+use Rattle.dp_model.specs.Rules.{Question, row_passes, holds_at, holds_if_live, indices_exist, later_rules, IsAccepted}
 use Rattle.dp_infer.specs.Joins.{passed_on, passed_from, spread}
 use Rattle.dp_infer.proofs.Stronger.{Stronger, further, both_are}
 use Rattle.dp_infer.proofs.Changes.{AreWellFormed}
@@ -53,7 +52,7 @@ own_leads : (q : Question) (label : ℕ) (i : Instr) (u : Row) → list_all (hol
 own_leads q label i u all =
     let each = all_from (holds_at q label i u) later_rules all in
     record {
-      within = (and_parts (places_exist q.env i) (list_all (λ to. nat_lt to.to (length q.program)) (leads q.env label u i)) each.0).1;
+      within = (and_parts (indices_exist q.env i) (list_all (λ to. nat_lt to.to (length q.program)) (leads q.env label u i)) each.0).1;
       entailed = each.1.1.1.1.1.1.1.1.0;
     }
 

@@ -8,7 +8,7 @@ use Rattle.dp_model.specs.declared.row.Row.{Row}
 use Rattle.dp_model.specs.Groups.{keeps_groups}
 use Rattle.dp_infer.proofs.Sharing.{KeepsGroups, keeps_from, keeps_test, keeps_same, keeps_further, share_same, share_further}
 use Rattle.dp_model.specs.declared.row.Holding.{Holding}
-use Rattle.dp_model.specs.Rows.{holding, entails_share, entails_holding, entails_option, entails_fact, at_each_place, entails}
+use Rattle.dp_model.specs.Rows.{holding, entails_share, entails_holding, entails_option, entails_fact, at_each_index, entails}
 
 -- the first promises at least what the second does
 pub record StrongerHolding (a b : Holding) : Type 0 where
@@ -84,15 +84,15 @@ option_test None (Some b) h = absurd h
 option_test (Some a) None h = absurd h
 
 pub zip_from : {A B : Type 0} (test : A → B → Bool) (R : A → B → Type 0) → ((x : A) (y : B) → test x y ≡ true → R x y) → (xs : List A) (ys : List B) →
-    at_each_place test xs ys ≡ true → AllZip R xs ys
+    at_each_index test xs ys ≡ true → AllZip R xs ys
 zip_from test R each [] [] e = tt
-zip_from test R each (x ∷ xs) (y ∷ ys) e = let (here, rest) = and_parts (test x y) (at_each_place test xs ys) e in
+zip_from test R each (x ∷ xs) (y ∷ ys) e = let (here, rest) = and_parts (test x y) (at_each_index test xs ys) e in
     (each x y here, zip_from test R each xs ys rest)
 zip_from test R each [] (y ∷ ys) e = absurd cc
 zip_from test R each (x ∷ xs) [] e = absurd cc
 
 pub zip_test : {A B : Type 0} (test : A → B → Bool) (R : A → B → Type 0) → ((x : A) (y : B) → R x y → test x y ≡ true) → (xs : List A) (ys : List B) →
-    AllZip R xs ys → at_each_place test xs ys ≡ true
+    AllZip R xs ys → at_each_index test xs ys ≡ true
 zip_test test R each [] [] h = refl
 zip_test test R each (x ∷ xs) (y ∷ ys) h = both_are (each x y h.0) (zip_test test R each xs ys h.1)
 zip_test test R each [] (y ∷ ys) h = absurd h
@@ -106,10 +106,10 @@ zip_length R (x ∷ xs) [] h = absurd h
 
 pub stronger : (a b : Row) → entails a b ≡ true → Stronger a b
 stronger a b e =
-    let (e0, bounds) = and_parts (a.live && b.live && at_each_place entails_fact a.facts b.facts && keeps_groups a.facts b.facts)
-    (at_each_place nat_le a.bounds b.bounds) e in
-    let (e1, groups) = and_parts (a.live && b.live && at_each_place entails_fact a.facts b.facts) (keeps_groups a.facts b.facts) e0 in
-    let (e2, facts) = and_parts (a.live && b.live) (at_each_place entails_fact a.facts b.facts) e1 in
+    let (e0, bounds) = and_parts (a.live && b.live && at_each_index entails_fact a.facts b.facts && keeps_groups a.facts b.facts)
+    (at_each_index nat_le a.bounds b.bounds) e in
+    let (e1, groups) = and_parts (a.live && b.live && at_each_index entails_fact a.facts b.facts) (keeps_groups a.facts b.facts) e0 in
+    let (e2, facts) = and_parts (a.live && b.live) (at_each_index entails_fact a.facts b.facts) e1 in
     let (live, other_live) = and_parts a.live b.live e2 in
     record {
       live = live;

@@ -67,7 +67,7 @@ fn pass_from(rows: &mut [Row], env: &Env, label: u16, instr: &Instr)
     requires in_range { label < length rows.old }
     requires at_most { length rows.old ≤ 1024 }
     requires well_formed { IsTrue (list_all is_well_formed_row rows.old) }
-    ensures told { rows.new ≡ spec.passed_from env.now label instr.now rows.old }
+    ensures found { rows.new ≡ spec.passed_from env.now label instr.now rows.old }
     ensures well_formed { IsTrue (list_all is_well_formed_row rows.new) }
 {
     let row = rows[label as usize];
@@ -82,7 +82,7 @@ fn spread(program: &[Instr], env: &Env, rows: &mut [Row])
     requires same_length { length rows.old ≡ length program.now }
     requires at_most { length program.now ≤ 1024 }
     requires well_formed { IsTrue (list_all is_well_formed_row rows.old) }
-    ensures told { rows.new ≡ spec.spread env.now program.now 0 rows.old }
+    ensures found { rows.new ≡ spec.spread env.now program.now 0 rows.old }
     ensures well_formed { IsTrue (list_all is_well_formed_row rows.new) }
 {
     for label in 0..program.len() as u16 {
@@ -101,7 +101,7 @@ fn found_rows(
     requires some { 1 ≤ length program.now }
     requires at_most { length program.now ≤ 1024 }
     ensures well_formed { IfOk result (λ v. IsTrue (list_all is_well_formed_row v.items)) }
-    ensures told { IfOk result (λ v. v.items ≡ spec.found_rows program.now env.now entry) }
+    ensures found { IfOk result (λ v. v.items ≡ spec.found_rows program.now env.now entry) }
 {
     let mut rows = begun(alloc, env.entry_row(entry), program.len())?;
     spread(program, env, &mut rows);
@@ -111,7 +111,7 @@ fn found_rows(
 /// The rows that say most, as a certificate.
 fn found(alloc: Global, program: &Program, env: &Env, entry: Entry) -> Result<Cert, AllocError>
     ensures some { 1 ≤ length program.now }
-    ensures told { IfOk result (λ cert. cert ≡ certificate_of (spec.found_rows program.now env.now entry)) }
+    ensures found { IfOk result (λ cert. cert ≡ certificate_of (spec.found_rows program.now env.now entry)) }
     ensures well_formed { IfOk result (λ cert. IsTrue (list_all is_well_formed_row cert.rows)) }
     ensures version { IfOk result (λ cert. cert.version ≡ version_for cert.rows) }
 {

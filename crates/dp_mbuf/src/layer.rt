@@ -49,12 +49,12 @@ impl PacketLayer for Mbufs {
         Mbufs::chain(self, &head, tail);
     }
 
-    fn load(&self, packet: Packet, place: u64, width: Width) -> u64 {
-        Mbufs::load(self, &packet, place, width)
+    fn load(&self, packet: Packet, offset: u64, width: Width) -> u64 {
+        Mbufs::load(self, &packet, offset, width)
     }
 
-    fn store_at(&mut self, packet: Packet, place: u64, width: Width, n: u64) {
-        Mbufs::store(self, &packet, place, width, n);
+    fn store_at(&mut self, packet: Packet, offset: u64, width: Width, n: u64) {
+        Mbufs::store(self, &packet, offset, width, n);
     }
 
     fn headroom(&self, packet: Packet) -> u16 {

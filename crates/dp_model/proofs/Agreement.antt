@@ -15,10 +15,10 @@ use Rattle.dp_model.specs.Safety.{Beginning, IsOfRecord, IsServed}
 
 -- ---- a record is received and its node runs: both in one, or one after the other
 
-pub receives_again : (c : Setting) (nodes : Nodes) (port : ℕ) (bytes : List ℕ) (w w' : World) (b : Beginning) (told : List Bool) →
-    (r : IsOfRecord c nodes port bytes w b) → NodeRun c b.program b.packet b.number b.world told w' →
-    Receives c r.program port r.spec bytes w (true ∷ told) w'
-receives_again c nodes port bytes w w' b told r run = record {
+pub receives_again : (c : Setting) (nodes : Nodes) (port : ℕ) (bytes : List ℕ) (w w' : World) (b : Beginning) (answers : List Bool) →
+    (r : IsOfRecord c nodes port bytes w b) → NodeRun c b.program b.packet b.number b.world answers w' →
+    Receives c r.program port r.spec bytes w (true ∷ answers) w'
+receives_again c nodes port bytes w w' b answers r run = record {
   fits = r.fits;
   given = r.given;
   numbers = r.numbers;
@@ -27,23 +27,23 @@ receives_again c nodes port bytes w w' b told r run = record {
   packet = _;
   packet_is = refl;
   filled = r.filled;
-  later = told;
-  told_is = refl;
-  run = subst (λ (x : Beginning). NodeRun c x.program x.packet x.number x.world told w') r.is run;
+  later = answers;
+  answers_are = refl;
+  run = subst (λ (x : Beginning). NodeRun c x.program x.packet x.number x.world answers w') r.is run;
 }
 
 -- ---- rings are served until none has a packet, or as often as may be
 
-pub serves_is : (c : Setting) (programs : List (List Instr)) (n : ℕ) (w : World) (told : List Bool) (runs : ℕ) (w' : World) →
-    Serves c programs n w told runs w' → IsServed c programs n w runs w'
-serves_is c programs zero w told runs w' (_, none, is) =
+pub serves_is : (c : Setting) (programs : List (List Instr)) (n : ℕ) (w : World) (answers : List Bool) (runs : ℕ) (w' : World) →
+    Serves c programs n w answers runs w' → IsServed c programs n w runs w'
+serves_is c programs zero w answers runs w' (_, none, is) =
     subst (λ r. IsServed c programs zero w r w') (sym none) (record { served = is; few = omega arith; why = inl refl })
-serves_is c programs (suc n) w told runs w' serves = go (first_waiting w.rings) refl serves (λ mid told more. serves_is c programs n mid told more w')
+serves_is c programs (suc n) w answers runs w' serves = go (first_waiting w.rings) refl serves (λ mid answers more. serves_is c programs n mid answers more w')
   where
-    go : (o : Option (Waiting Packet)) → first_waiting w.rings ≡ o → MatchOption o ((told ≡ []) × (runs ≡ 0) × (w' ≡ w)) (λ next. (program : List Instr)
+    go : (o : Option (Waiting Packet)) → first_waiting w.rings ≡ o → MatchOption o ((answers ≡ []) × (runs ≡ 0) × (w' ≡ w)) (λ next. (program : List Instr)
         × (now later : List Bool) × (mid : World) × (more : ℕ) × (slice_get programs next.ring ≡ Some program)
-        × NodeRun c program next.packet next.ring (record w { rings = next.rings }) now mid × Serves c programs n mid later more w' × (told ≡ now ++ later)
-        × (runs ≡ more + 1)) → ((mid : World) (told : List Bool) (more : ℕ) → Serves c programs n mid told more w' → IsServed c programs n mid more w') →
+        × NodeRun c program next.packet next.ring (record w { rings = next.rings }) now mid × Serves c programs n mid later more w' × (answers ≡ now ++ later)
+        × (runs ≡ more + 1)) → ((mid : World) (answers : List Bool) (more : ℕ) → Serves c programs n mid answers more w' → IsServed c programs n mid more w') →
         IsServed c programs (suc n) w runs w'
     go None e (_, none, is) on =
         subst (λ r. IsServed c programs (suc n) w r w') (sym none)

@@ -140,10 +140,10 @@ step_jumps c program label s m within st =
     let same : st.effect.state.jumps ≡ s.jumps = (acts_counts c label (with_step s) st.instr st.effect st.acts).jumps in
     subst (λ (m : Move). m.state.jumps ≤ 256) (sym st.is) (jumps_within label st.effect (omega (arith, same, within)))
 
-goes_jumps : (c : Setting) (program : List Instr) (n label : ℕ) (s : State) (told : List Bool) (next : Next) (s' : State) → s.jumps ≤ 256 →
-    Goes c program n label s told next s' → s'.jumps ≤ 256
-goes_jumps c program zero label s told next s' within (_, _, is) = subst (λ (x : State). x.jumps ≤ 256) (sym is) within
-goes_jumps c program (suc n) label s told next s' within (m, later, st, is_told, rest) =
+goes_jumps : (c : Setting) (program : List Instr) (n label : ℕ) (s : State) (answers : List Bool) (next : Next) (s' : State) → s.jumps ≤ 256 →
+    Goes c program n label s answers next s' → s'.jumps ≤ 256
+goes_jumps c program zero label s answers next s' within (_, _, is) = subst (λ (x : State). x.jumps ≤ 256) (sym is) within
+goes_jumps c program (suc n) label s answers next s' within (m, later, st, are_answered, rest) =
     go m.next rest (step_jumps c program label s m within st) (λ l. goes_jumps c program n l m.state later next s')
   where
     go : (x : Next) → Then x (λ l. Goes c program n l m.state later next s') ((next ≡ Ended) × (n ≡ 0) × (later ≡ []) × (s' ≡ m.state)) →
@@ -151,38 +151,38 @@ goes_jumps c program (suc n) label s told next s' within (m, later, st, is_told,
     go (At l) rest here on = on l here rest
     go Ended (_, _, _, is) here on = subst (λ (x : State). x.jumps ≤ 256) (sym is) here
 
-pub jumps_taken : (c : Setting) (program : List Instr) (k : Packet) (number n label : ℕ) (w : World) (told : List Bool) (s : State) →
-    Goes c program n 0 (first_state k number w) told (At label) s → (s.jumps ≤ 256) × (s.world.steps ≡ w.steps + n) × (s.world.cuts ≡ w.cuts)
-jumps_taken c program k number n label w told s goes =
-    let counts = goes_counts c program n 0 (first_state k number w) told (At label) s goes in
-    (goes_jumps c program n 0 (first_state k number w) told (At label) s (omega arith) goes, counts.steps, omega (arith, counts.cuts, counts.at_end))
+pub jumps_taken : (c : Setting) (program : List Instr) (k : Packet) (number n label : ℕ) (w : World) (answers : List Bool) (s : State) →
+    Goes c program n 0 (first_state k number w) answers (At label) s → (s.jumps ≤ 256) × (s.world.steps ≡ w.steps + n) × (s.world.cuts ≡ w.cuts)
+jumps_taken c program k number n label w answers s goes =
+    let counts = goes_counts c program n 0 (first_state k number w) answers (At label) s goes in
+    (goes_jumps c program n 0 (first_state k number w) answers (At label) s (omega arith) goes, counts.steps, omega (arith, counts.cuts, counts.at_end))
 
 -- ---- node runs and turns
-pub short_run : (c : Setting) (program : List Instr) (n : ℕ) (k : Packet) (number : ℕ) (w : World) (told : List Bool) (next : Next) (s : State) →
-    Goes c program n 0 (first_state k number w) told next s → n ≤ most_steps program
-short_run c program zero k number w told next s goes = omega arith
-short_run c program (suc n) k number w told next s (m, later, st, is_told, rest) =
+pub short_run : (c : Setting) (program : List Instr) (n : ℕ) (k : Packet) (number : ℕ) (w : World) (answers : List Bool) (next : Next) (s : State) →
+    Goes c program n 0 (first_state k number w) answers next s → n ≤ most_steps program
+short_run c program zero k number w answers next s goes = omega arith
+short_run c program (suc n) k number w answers next s (m, later, st, are_answered, rest) =
     omega (
       arith,
-      goes_short c program (suc n) 0 (first_state k number w) told next s (slice_get_within program 0 st.instr st.here) (omega arith) (
+      goes_short c program (suc n) 0 (first_state k number w) answers next s (slice_get_within program 0 st.instr st.here) (omega arith) (
         m,
         later,
         st,
-        is_told,
+        are_answered,
         rest,
       ),
     )
 
-pub node_took : (c : Setting) (program : List Instr) (k : Packet) (number : ℕ) (w w' : World) (told : List Bool) → NodeRun c program k number w told w' →
+pub node_took : (c : Setting) (program : List Instr) (k : Packet) (number : ℕ) (w w' : World) (answers : List Bool) → NodeRun c program k number w answers w' →
     TookAtMost w w' (most_steps program) 1
-node_took c program k number w w' told (n, s, goes, is) =
-    let counts = goes_counts c program n 0 (first_state k number w) told Ended s goes in
+node_took c program k number w w' answers (n, s, goes, is) =
+    let counts = goes_counts c program n 0 (first_state k number w) answers Ended s goes in
     let steps : w'.steps ≡ s.world.steps = ap (λ (w : World). w.steps) is in
     let cuts : w'.cuts ≡ s.world.cuts = ap (λ (w : World). w.cuts) is in (
       n,
       counts.more,
       record { steps_are = omega (arith, steps, counts.steps); cuts_are = omega (arith, cuts, counts.cuts) },
-      short_run c program n k number w told Ended s goes,
+      short_run c program n k number w answers Ended s goes,
       counts.at_end,
     )
 
@@ -206,30 +206,30 @@ took_more : (w w' : World) (a x b : ℕ) → a ≤ x → TookAtMost w w' a b →
 took_more w w' a x b more (steps, cuts, took, le, few) = (steps, cuts, took, omega (arith, le, more), few)
 
 arrives_took : (c : Setting) (nodes : Nodes) (most port : ℕ) (program : List Instr) (spec : PortSpec) (bytes : List ℕ) (w w' : World) (outcome : Outcome)
-    (told : List Bool) → AreShort most nodes.ports → slice_get nodes.ports port ≡ Some program → Arrives c program port spec bytes w outcome told w' →
+    (answers : List Bool) → AreShort most nodes.ports → slice_get nodes.ports port ≡ Some program → Arrives c program port spec bytes w outcome answers w' →
     TookAtMost w w' (runs_of outcome * (257 * most)) (runs_of outcome)
-arrives_took c nodes most port program spec bytes w w' Oversize told short is_program (_, _, is) =
+arrives_took c nodes most port program spec bytes w w' Oversize answers short is_program (_, _, is) =
     none_took w w' (0 * (257 * most)) (ap (λ (w : World). w.steps) is) (ap (λ (w : World). w.cuts) is)
-arrives_took c nodes most port program spec bytes w w' NoBuffer told short is_program (_, _, _, is) =
+arrives_took c nodes most port program spec bytes w w' NoBuffer answers short is_program (_, _, _, is) =
     none_took w w' (0 * (257 * most)) (ap (λ (w : World). w.steps) is) (ap (λ (w : World). w.cuts) is)
-arrives_took c nodes most port program spec bytes w w' Got told short is_program r =
+arrives_took c nodes most port program spec bytes w w' Got answers short is_program r =
     let (steps, cuts, took, le, few) = node_took c program r.packet port (record w { buffers = r.buffers; calls = w.calls + 1 }) w' r.later r.run in
     (steps, cuts, record { steps_are = took.steps_are; cuts_are = took.cuts_are }, omega (arith, le, short port program is_program), few)
 
-serves_took : (c : Setting) (nodes : Nodes) (most n : ℕ) (w w' : World) (told : List Bool) (runs : ℕ) → AreShort most nodes.rings →
-    Serves c nodes.rings n w told runs w' → (runs ≤ n) × TookAtMost w w' (runs * (257 * most)) runs
-serves_took c nodes most zero w w' told runs short (_, none, is) =
+serves_took : (c : Setting) (nodes : Nodes) (most n : ℕ) (w w' : World) (answers : List Bool) (runs : ℕ) → AreShort most nodes.rings →
+    Serves c nodes.rings n w answers runs w' → (runs ≤ n) × TookAtMost w w' (runs * (257 * most)) runs
+serves_took c nodes most zero w w' answers runs short (_, none, is) =
     subst (λ r. (r ≤ 0) × TookAtMost w w' (r * (257 * most)) r) (sym none) (
       omega arith,
       none_took w w' (0 * (257 * most)) (ap (λ (w : World). w.steps) is) (ap (λ (w : World). w.cuts) is),
     )
-serves_took c nodes most (suc n) w w' told runs short serves = go (first_waiting w.rings) refl serves
-    (λ mid told more. serves_took c nodes most n mid w' told more short)
+serves_took c nodes most (suc n) w w' answers runs short serves = go (first_waiting w.rings) refl serves
+    (λ mid answers more. serves_took c nodes most n mid w' answers more short)
   where
-    go : (o : Option (Waiting Packet)) → first_waiting w.rings ≡ o → MatchOption o ((told ≡ []) × (runs ≡ 0) × (w' ≡ w)) (λ next. (program : List Instr)
+    go : (o : Option (Waiting Packet)) → first_waiting w.rings ≡ o → MatchOption o ((answers ≡ []) × (runs ≡ 0) × (w' ≡ w)) (λ next. (program : List Instr)
         × (now later : List Bool) × (mid : World) × (more : ℕ) × (slice_get nodes.rings next.ring ≡ Some program)
-        × NodeRun c program next.packet next.ring (record w { rings = next.rings }) now mid × Serves c nodes.rings n mid later more w' × (told ≡ now ++ later)
-        × (runs ≡ more + 1)) → ((mid : World) (told : List Bool) (more : ℕ) → Serves c nodes.rings n mid told more w' →
+        × NodeRun c program next.packet next.ring (record w { rings = next.rings }) now mid × Serves c nodes.rings n mid later more w' × (answers ≡ now ++ later)
+        × (runs ≡ more + 1)) → ((mid : World) (answers : List Bool) (more : ℕ) → Serves c nodes.rings n mid answers more w' →
         (more ≤ n) × TookAtMost mid w' (more * (257 * most)) more) → (runs ≤ suc n) × TookAtMost w w' (runs * (257 * most)) runs
     go None e (_, none, is) on =
         subst (λ r. (r ≤ suc n) × TookAtMost w w' (r * (257 * most)) r) (sym none) (
@@ -253,10 +253,10 @@ serves_took c nodes most (suc n) w w' told runs short serves = go (first_waiting
               (took_both w mid w' (257 * most) 1 (more * (257 * most)) more first others),
         )
 
-pub turn_took : (c : Setting) (nodes : Nodes) (port : ℕ) (bytes : List ℕ) (w w' : World) (outcome : Outcome) (runs : ℕ) (told : List Bool) (most : ℕ) →
-    AreShort most nodes.ports → AreShort most nodes.rings → Turn c nodes port bytes w outcome runs told w' →
+pub turn_took : (c : Setting) (nodes : Nodes) (port : ℕ) (bytes : List ℕ) (w w' : World) (outcome : Outcome) (runs : ℕ) (answers : List Bool) (most : ℕ) →
+    AreShort most nodes.ports → AreShort most nodes.rings → Turn c nodes port bytes w outcome runs answers w' →
     (runs ≤ 33) × TookAtMost w w' (runs * (257 * most)) runs
-turn_took c nodes port bytes w w' outcome runs told most ports rings t =
+turn_took c nodes port bytes w w' outcome runs answers most ports rings t =
     let first = arrives_took c nodes most port t.program t.spec bytes w t.mid outcome t.now ports t.program_is t.arrives in
     let (within, others) = serves_took c nodes most 32 t.mid w' t.later t.more rings t.serves in
     subst (λ r. (r ≤ 33) × TookAtMost w w' (r * (257 * most)) r) (sym t.runs_is) (

@@ -20,32 +20,32 @@ over_pool : (Number → ℕ) → ℕ → ℕ → ℕ
 over_pool f pool zero = 0
 over_pool f pool (suc i) = f (record { pool = pool; index = i }) + over_pool f pool i
 
--- over all buffers of pools, the first of which has this place
+-- over all buffers of pools, the first of which has this number
 over_pools : (Number → ℕ) → List PoolSpec → ℕ → ℕ
-over_pools f [] place = 0
-over_pools f (spec ∷ pools) place = over_pool f place spec.count + over_pools f pools (suc place)
+over_pools f [] from = 0
+over_pools f (spec ∷ pools) from = over_pool f from spec.count + over_pools f pools (suc from)
 
 pool_le : (f : Number → ℕ) (pool i : ℕ) → ((n : Number) → f n ≤ 1) → over_pool f pool i ≤ i
 unfolding over_pool
 pool_le f pool zero few = omega arith
 pool_le f pool (suc i) few = omega (arith, few (record { pool = pool; index = i }), pool_le f pool i few)
 
-pools_le : (f : Number → ℕ) (pools : List PoolSpec) (place : ℕ) → ((n : Number) → f n ≤ 1) → over_pools f pools place ≤ sum_by (λ p. p.count) pools
+pools_le : (f : Number → ℕ) (pools : List PoolSpec) (from : ℕ) → ((n : Number) → f n ≤ 1) → over_pools f pools from ≤ sum_by (λ p. p.count) pools
 unfolding over_pools
-pools_le f [] place few = omega arith
-pools_le f (spec ∷ pools) place few =
-    omega (arith, pool_le f place spec.count few, pools_le f pools (suc place) few, sum_by-cons (λ (p : PoolSpec). p.count) spec pools)
+pools_le f [] from few = omega arith
+pools_le f (spec ∷ pools) from few =
+    omega (arith, pool_le f from spec.count few, pools_le f pools (suc from) few, sum_by-cons (λ (p : PoolSpec). p.count) spec pools)
 
 pool_add : (f g h : Number → ℕ) (pool i : ℕ) → ((n : Number) → h n ≡ f n + g n) → over_pool h pool i ≡ over_pool f pool i + over_pool g pool i
 unfolding over_pool
 pool_add f g h pool zero is = refl
 pool_add f g h pool (suc i) is = omega (arith, is (record { pool = pool; index = i }), pool_add f g h pool i is)
 
-pools_add : (f g h : Number → ℕ) (pools : List PoolSpec) (place : ℕ) → ((n : Number) → h n ≡ f n + g n) → over_pools h pools place
-    ≡ over_pools f pools place + over_pools g pools place
+pools_add : (f g h : Number → ℕ) (pools : List PoolSpec) (from : ℕ) → ((n : Number) → h n ≡ f n + g n) → over_pools h pools from
+    ≡ over_pools f pools from + over_pools g pools from
 unfolding over_pools
-pools_add f g h [] place is = refl
-pools_add f g h (spec ∷ pools) place is = omega (arith, pool_add f g h place spec.count is, pools_add f g h pools (suc place) is)
+pools_add f g h [] from is = refl
+pools_add f g h (spec ∷ pools) from is = omega (arith, pool_add f g h from spec.count is, pools_add f g h pools (suc from) is)
 
 -- a buffer counts in its pool
 pool_hit : (n : Number) (pool i : ℕ) → n.pool ≡ pool → n.index < i → 1 ≤ over_pool (λ m. one_if (same_number n m)) pool i
@@ -59,14 +59,14 @@ pool_hit n pool (suc i) is less = ⊎_elim
     omega (arith, one))
     (cases_lt n.index i)
 
-pools_hit : (n : Number) (pools : List PoolSpec) (place k : ℕ) (spec : PoolSpec) → n.pool ≡ place + k → slice_get pools k ≡ Some spec → n.index < spec.count →
-    1 ≤ over_pools (λ m. one_if (same_number n m)) pools place
+pools_hit : (n : Number) (pools : List PoolSpec) (from k : ℕ) (spec : PoolSpec) → n.pool ≡ from + k → slice_get pools k ≡ Some spec → n.index < spec.count →
+    1 ≤ over_pools (λ m. one_if (same_number n m)) pools from
 unfolding over_pools
-pools_hit n [] place k spec is there less = cc
-pools_hit n (first ∷ pools) place zero spec is there less =
+pools_hit n [] from k spec is there less = cc
+pools_hit n (first ∷ pools) from zero spec is there less =
     let same : first.count ≡ spec.count = ap (λ o. unwrap_or (option_map (λ (p : PoolSpec). p.count) o) 0) there in
-    omega (arith, pool_hit n place first.count (omega (arith, is)) (omega (arith, less, same)))
-pools_hit n (first ∷ pools) place (suc k) spec is there less = omega (arith, pools_hit n pools (suc place) k spec (omega (arith, is)) there less)
+    omega (arith, pool_hit n from first.count (omega (arith, is)) (omega (arith, less, same)))
+pools_hit n (first ∷ pools) from (suc k) spec is there less = omega (arith, pools_hit n pools (suc from) k spec (omega (arith, is)) there less)
 
 number_hit : (pools : List PoolSpec) (n : Number) → IsNumber pools n → 1 ≤ over_pools (λ m. one_if (same_number n m)) pools 0
 number_hit pools n is = go (slice_get pools n.pool) refl is

@@ -17,22 +17,22 @@ use Rattle.dp_model.specs.Laws.Places.{needed_holds}
 
 -- ---- one write
 
-pub range_written : (old new : List ℕ) (place : ℕ) → place + length new ≤ length old → slice_range (overwritten old place new) place (place + length new) ≡ new
-range_written old new place fits = same_lists _ _ (search (rules, places)) (λ k d h. grind (arith, places))
+pub range_written : (old new : List ℕ) (offset : ℕ) → offset + length new ≤ length old → slice_range (overwritten old offset new) offset (offset + length new) ≡ new
+range_written old new offset fits = same_lists _ _ (search (rules, places)) (λ k d h. grind (arith, places))
 
 -- a write within a buffer changes that buffer only
-pub write_changes : (old : Buffers) (n : Number) (place : ℕ) (new : List ℕ) → place + length new ≤ length (bytes_of old n) →
-    AllByRecursion (λ x. x < 256) new → ChangesOnly (n ∷ []) old (written old n place new)
-write_changes old n place new fits small =
-    let bytes = overwritten (bytes_of old n) place new in
+pub write_changes : (old : Buffers) (n : Number) (offset : ℕ) (new : List ℕ) → offset + length new ≤ length (bytes_of old n) →
+    AllByRecursion (λ x. x < 256) new → ChangesOnly (n ∷ []) old (written old n offset new)
+write_changes old n offset new fits small =
+    let bytes = overwritten (bytes_of old n) offset new in
     record {
       others = λ b apart. bytes_other old n b bytes (same_number_sym n b ∙ (or_parts (same_number b n) false apart).0);
-      lengths = λ b. written_each (λ xs. length xs ≡ length (bytes_of old b)) old n b bytes refl (λ e. length_overwritten (bytes_of old n) new place fits
+      lengths = λ b. written_each (λ xs. length xs ≡ length (bytes_of old b)) old n b bytes refl (λ e. length_overwritten (bytes_of old n) new offset fits
           ∙ ap (λ m. length (bytes_of old m)) e);
       bytes = λ well b. written_each (AllByRecursion (λ x. x < 256)) old n b bytes (well b)
-          (λ e. all_join (λ x. x < 256) (take place (bytes_of old n)) (new
-          ++ drop (place + length new) (bytes_of old n)) (all_take place (bytes_of old n) (well n))
-          (all_join (λ x. x < 256) new (drop (place + length new) (bytes_of old n)) small (all_drop (place + length new) (bytes_of old n) (well n))));
+          (λ e. all_join (λ x. x < 256) (take offset (bytes_of old n)) (new
+          ++ drop (offset + length new) (bytes_of old n)) (all_take offset (bytes_of old n) (well n))
+          (all_join (λ x. x < 256) new (drop (offset + length new) (bytes_of old n)) small (all_drop (offset + length new) (bytes_of old n) (well n))));
     }
 
 -- changes of some buffers, and then of one more
@@ -96,17 +96,17 @@ filled_changes room (n ∷ m ∷ ns) bytes old e have small =
     (all_take (room - 128) bytes small))
 
 -- a write elsewhere leaves the packet's bytes
-packet_quiet : (room : ℕ) (ns : List Number) (len : ℕ) (buffers : Buffers) (n : Number) (place : ℕ) (new : List ℕ) →
-    AllByRecursion (λ m. same_number n m ≡ false) ns → packet_bytes (written buffers n place new) (received room ns len)
+packet_quiet : (room : ℕ) (ns : List Number) (len : ℕ) (buffers : Buffers) (n : Number) (offset : ℕ) (new : List ℕ) →
+    AllByRecursion (λ m. same_number n m ≡ false) ns → packet_bytes (written buffers n offset new) (received room ns len)
     ≡ packet_bytes buffers (received room ns len)
-packet_quiet room [] len buffers n place new apart = refl
-packet_quiet room (m ∷ []) len buffers n place new apart =
-    ap (λ bytes. slice_range bytes 128 (128 + len) ++ []) (bytes_other buffers n m (overwritten (bytes_of buffers n) place new) apart.0)
-packet_quiet room (m ∷ l ∷ ns) len buffers n place new apart =
-    ap (λ bytes. slice_range bytes 128 (128 + (room - 128)) ++ packet_bytes (written buffers n place new) (received room (l ∷ ns) (len - (room - 128))))
-    (bytes_other buffers n m (overwritten (bytes_of buffers n) place new) apart.0)
+packet_quiet room [] len buffers n offset new apart = refl
+packet_quiet room (m ∷ []) len buffers n offset new apart =
+    ap (λ bytes. slice_range bytes 128 (128 + len) ++ []) (bytes_other buffers n m (overwritten (bytes_of buffers n) offset new) apart.0)
+packet_quiet room (m ∷ l ∷ ns) len buffers n offset new apart =
+    ap (λ bytes. slice_range bytes 128 (128 + (room - 128)) ++ packet_bytes (written buffers n offset new) (received room (l ∷ ns) (len - (room - 128))))
+    (bytes_other buffers n m (overwritten (bytes_of buffers n) offset new) apart.0)
     ∙ ap (λ bytes. slice_range (bytes_of buffers m) 128 (128 + (room - 128))
-    ++ bytes) (packet_quiet room (l ∷ ns) (len - (room - 128)) buffers n place new apart.1)
+    ++ bytes) (packet_quiet room (l ∷ ns) (len - (room - 128)) buffers n offset new apart.1)
 
 -- the segment that was written has what was written
 written_segment : (buffers : Buffers) (n : Number) (new : List ℕ) (len : ℕ) → len ≡ length new → 128 + length new ≤ length (bytes_of buffers n) →

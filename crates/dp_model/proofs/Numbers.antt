@@ -45,20 +45,20 @@ spelled_low (suc w) n =
 
 -- ---- what is stored is loaded
 
-pub stored_loaded : (place w n : ℕ) (s : Segment) (rest : Packet) (buffers : Buffers) → 1 ≤ w → place + w ≤ s.len →
-    s.offset + s.len ≤ length (bytes_of buffers s.buffer) → loaded place w (s ∷ rest) (stored place w n (s ∷ rest) buffers) ≡ n % 256 ^ w
-stored_loaded place w n s rest buffers some fits inside =
+pub stored_loaded : (start w n : ℕ) (s : Segment) (rest : Packet) (buffers : Buffers) → 1 ≤ w → start + w ≤ s.len →
+    s.offset + s.len ≤ length (bytes_of buffers s.buffer) → loaded start w (s ∷ rest) (stored start w n (s ∷ rest) buffers) ≡ n % 256 ^ w
+stored_loaded start w n s rest buffers some fits inside =
     let new = big_endian w n in
     let long = length_spelling w n in
     let old = bytes_of buffers s.buffer in
-    let bytes : segment_bytes (written buffers s.buffer (s.offset + place) new) s ≡ overwritten (slice_range old s.offset (s.offset + s.len)) place new =
-    ap (λ xs. slice_range xs s.offset (s.offset + s.len)) (bytes_same buffers s.buffer (overwritten old (s.offset + place) new)
+    let bytes : segment_bytes (written buffers s.buffer (s.offset + start) new) s ≡ overwritten (slice_range old s.offset (s.offset + s.len)) start new =
+    ap (λ xs. slice_range xs s.offset (s.offset + s.len)) (bytes_same buffers s.buffer (overwritten old (s.offset + start) new)
     (omega (arith, some, fits, inside)))
-    ∙ range_overwritten old new s.offset s.len place (omega (arith, long, fits)) inside in
+    ∙ range_overwritten old new s.offset s.len start (omega (arith, long, fits)) inside in
     let whole : length (slice_range old s.offset (s.offset + s.len)) ≡ s.len = length_part old s.offset s.len inside in
-    ap (λ xs. spelled (slice_range xs place (place + w))) bytes
-    ∙ (ap (λ l. spelled (slice_range (overwritten (slice_range old s.offset (s.offset + s.len)) place new) place (place + l))) (sym long)
-    ∙ (ap spelled (range_written (slice_range old s.offset (s.offset + s.len)) new place (omega (arith, whole, long, fits))) ∙ spelled_low w n))
+    ap (λ xs. spelled (slice_range xs start (start + w))) bytes
+    ∙ (ap (λ l. spelled (slice_range (overwritten (slice_range old s.offset (s.offset + s.len)) start new) start (start + l))) (sym long)
+    ∙ (ap spelled (range_written (slice_range old s.offset (s.offset + s.len)) new start (omega (arith, whole, long, fits))) ∙ spelled_low w n))
   where
     length_part : (xs : List ℕ) (offset len : ℕ) → offset + len ≤ length xs → length (slice_range xs offset (offset + len)) ≡ len
     length_part xs offset len inside = omega (arith, length-take (offset + len - offset) (drop offset xs), length-drop offset xs)

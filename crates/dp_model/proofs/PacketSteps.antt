@@ -1,14 +1,12 @@
 -- Each step leaves packets of 1 to 64 segments.
-use Rattle.std.proofs.Common.{◌≡◌, ℕ, zero, suc, Bool, List, [], ◌∷◌, ◌++◌, length, Option, Some, None, refl, sym, ap, subst, arith}
-use Rattle.std.proofs.Common.{length-append}
+use Rattle.std.proofs.Common.{◌≡◌, ℕ, zero, suc, Bool, List, [], ◌∷◌, ◌++◌, length, Option, Some, None, refl, sym, ap, subst, arith, length-append}
 use Rattle.std.specs.Prelude.{slice_get, slice_set}
 use Rattle.std.specs.List.{AllByRecursion}
 use Rattle.std.proofs.lemmas.List.{length-map}
 use Rattle.dp_model.specs.declared.env.PoolSpec.{PoolSpec}
 use Rattle.dp_model.specs.declared.instr.Instr.{Instr}
 use Rattle.dp_model.specs.Buffers.{Number}
-use Rattle.dp_model.specs.Packets.{Segment, Packet, allocated, cloned, at_front, at_end, more_before, less_before}
-use Rattle.dp_model.specs.Packets.{more_behind, less_behind}
+use Rattle.dp_model.specs.Packets.{Segment, Packet, allocated, cloned, at_front, at_end, more_before, less_before, more_behind, less_behind}
 use Rattle.dp_model.specs.Machine.{Setting, State, Next, At, Ended, Move, Acts, Holds, with_packet, without_packet, with_ring}
 use Rattle.dp_model.specs.Machine.{with_outbox, with_step, Step}
 use Rattle.dp_model.specs.Runs.{Then, Goes}
@@ -129,10 +127,10 @@ step_packets c program label s m are st =
     (record { held = (tt, (tt, (tt, (tt, (tt, (tt, (tt, (tt, tt)))))))); rings = here.rings; outboxes = here.outboxes }))
 
 -- ---- a run
-pub goes_packets : (c : Setting) (program : List Instr) (n label : ℕ) (s : State) (told : List Bool) (next : Next) (s' : State) → ArePackets s →
-    Goes c program n label s told next s' → ArePackets s'
-goes_packets c program zero label s told next s' are (_, _, is) = subst ArePackets (sym is) are
-goes_packets c program (suc n) label s told next s' are (m, later, st, is_told, rest) =
+pub goes_packets : (c : Setting) (program : List Instr) (n label : ℕ) (s : State) (answers : List Bool) (next : Next) (s' : State) → ArePackets s →
+    Goes c program n label s answers next s' → ArePackets s'
+goes_packets c program zero label s answers next s' are (_, _, is) = subst ArePackets (sym is) are
+goes_packets c program (suc n) label s answers next s' are (m, later, st, are_answered, rest) =
     go m.next rest (step_packets c program label s m are st) (λ l. goes_packets c program n l m.state later next s')
   where
     go : (x : Next) → Then x (λ l. Goes c program n l m.state later next s') ((next ≡ Ended) × (n ≡ 0) × (later ≡ []) × (s' ≡ m.state)) → ArePackets m.state →

@@ -1,4 +1,4 @@
--- How whole runs end: no packet is live, and the allocation calls are those that were told.
+-- How whole runs end: no packet is live, and the allocation calls are those that were answered.
 use Rattle.std.proofs.Common.{◌≡◌, ℕ, zero, suc, ◌+◌, Bool, true, List, [], ◌∷◌, ◌++◌, length, map, Option, Some, None, refl, sym, ◌∙◌, ap, subst, arith}
 use Rattle.std.proofs.Common.{length-append}
 use Rattle.std.specs.Prelude.{slice_get, MatchOption}
@@ -32,7 +32,7 @@ use Rattle.dp_model.specs.Laws.Waiting.{nothing_listed}
 run_outboxes : {T : Type 0} (c : Setting) (nodes : Nodes) (arrivals : List (Arrival T)) (w w' : World) (shown : Shown T) →
     segments_listed w.outboxes ≡ [] → Run c nodes arrivals w shown w' → segments_listed w'.outboxes ≡ []
 run_outboxes c nodes [] w w' shown none (_, is) = ap (λ (x : World). segments_listed x.outboxes) is ∙ none
-run_outboxes c nodes (a ∷ arrivals) w w' shown none (outcome, told, runs, mid, rest, turn, run, _) =
+run_outboxes c nodes (a ∷ arrivals) w w' shown none (outcome, answers, runs, mid, rest, turn, run, _) =
     run_outboxes c nodes arrivals (with_empty_outboxes mid) w' rest (nothing_listed mid.outboxes) run
 
 pub ends_with_nothing : {T : Type 0} (c : Setting) (nodes : Nodes) (arrivals : List (Arrival T)) (w w' : World) (shown : Shown T) (left : List ℕ) →
@@ -66,51 +66,51 @@ each_ring_counted c nodes arrivals w w' shown left tables checked start whole =
 
 -- ---- allocation calls
 
-node_counts : (c : Setting) (program : List Instr) (k : Packet) (number : ℕ) (w w' : World) (told : List Bool) → NodeRun c program k number w told w' →
-    w'.calls ≡ w.calls + length told
-node_counts c program k number w w' told (n, s, goes, is) =
-    ap (λ (x : World). x.calls) is ∙ (goes_counts c program n 0 (first_state k number w) told Ended s goes).calls
+node_counts : (c : Setting) (program : List Instr) (k : Packet) (number : ℕ) (w w' : World) (answers : List Bool) → NodeRun c program k number w answers w' →
+    w'.calls ≡ w.calls + length answers
+node_counts c program k number w w' answers (n, s, goes, is) =
+    ap (λ (x : World). x.calls) is ∙ (goes_counts c program n 0 (first_state k number w) answers Ended s goes).calls
 
-arrives_counts : (c : Setting) (program : List Instr) (port : ℕ) (spec : PortSpec) (bytes : List ℕ) (w w' : World) (outcome : Outcome) (told : List Bool) →
-    Arrives c program port spec bytes w outcome told w' → w'.calls ≡ w.calls + length told
-arrives_counts c program port spec bytes w w' Oversize told (_, none, is) =
-    let no_call : length told ≡ 0 = ap length none in
+arrives_counts : (c : Setting) (program : List Instr) (port : ℕ) (spec : PortSpec) (bytes : List ℕ) (w w' : World) (outcome : Outcome) (answers : List Bool) →
+    Arrives c program port spec bytes w outcome answers w' → w'.calls ≡ w.calls + length answers
+arrives_counts c program port spec bytes w w' Oversize answers (_, none, is) =
+    let no_call : length answers ≡ 0 = ap length none in
     let calls : w'.calls ≡ w.calls = ap (λ (x : World). x.calls) is in
     omega (arith, no_call, calls)
-arrives_counts c program port spec bytes w w' NoBuffer told (_, _, one, is) =
-    let a_call : length told ≡ 1 = ap length one in
+arrives_counts c program port spec bytes w w' NoBuffer answers (_, _, one, is) =
+    let a_call : length answers ≡ 1 = ap length one in
     let calls : w'.calls ≡ w.calls + 1 = ap (λ (x : World). x.calls) is in
     omega (arith, a_call, calls)
-arrives_counts c program port spec bytes w w' Got told r =
-    let long : length told ≡ suc (length r.later) = ap length r.told_is in
+arrives_counts c program port spec bytes w w' Got answers r =
+    let long : length answers ≡ suc (length r.later) = ap length r.answers_are in
     omega (arith, long, node_counts c program r.packet port (record w { buffers = r.buffers; calls = w.calls + 1 }) w' r.later r.run)
 
-serves_counts : (c : Setting) (programs : List (List Instr)) (n : ℕ) (w w' : World) (told : List Bool) (runs : ℕ) → Serves c programs n w told runs w' →
-    w'.calls ≡ w.calls + length told
-serves_counts c programs zero w w' told runs (none, _, is) =
-    let no_call : length told ≡ 0 = ap length none in
+serves_counts : (c : Setting) (programs : List (List Instr)) (n : ℕ) (w w' : World) (answers : List Bool) (runs : ℕ) → Serves c programs n w answers runs w' →
+    w'.calls ≡ w.calls + length answers
+serves_counts c programs zero w w' answers runs (none, _, is) =
+    let no_call : length answers ≡ 0 = ap length none in
     let calls : w'.calls ≡ w.calls = ap (λ (x : World). x.calls) is in
     omega (arith, no_call, calls)
-serves_counts c programs (suc n) w w' told runs serves = go (first_waiting w.rings) serves (λ mid told more. serves_counts c programs n mid w' told more)
+serves_counts c programs (suc n) w w' answers runs serves = go (first_waiting w.rings) serves (λ mid answers more. serves_counts c programs n mid w' answers more)
   where
-    go : (o : Option (Waiting Packet)) → MatchOption o ((told ≡ []) × (runs ≡ 0) × (w' ≡ w)) (λ next. (program : List Instr)
+    go : (o : Option (Waiting Packet)) → MatchOption o ((answers ≡ []) × (runs ≡ 0) × (w' ≡ w)) (λ next. (program : List Instr)
         × (now later : List Bool) × (mid : World) × (more : ℕ) × (slice_get programs next.ring ≡ Some program)
         × NodeRun c program next.packet next.ring (record w { rings = next.rings }) now mid
-        × Serves c programs n mid later more w' × (told ≡ now ++ later) × (runs ≡ more + 1)) →
-        ((mid : World) (told : List Bool) (more : ℕ) → Serves c programs n mid told more w' → w'.calls ≡ mid.calls + length told) →
-        w'.calls ≡ w.calls + length told
+        × Serves c programs n mid later more w' × (answers ≡ now ++ later) × (runs ≡ more + 1)) →
+        ((mid : World) (answers : List Bool) (more : ℕ) → Serves c programs n mid answers more w' → w'.calls ≡ mid.calls + length answers) →
+        w'.calls ≡ w.calls + length answers
     go None (none, _, is) on =
-        let no_call : length told ≡ 0 = ap length none in
+        let no_call : length answers ≡ 0 = ap length none in
         let calls : w'.calls ≡ w.calls = ap (λ (x : World). x.calls) is in
         omega (arith, no_call, calls)
-    go (Some next) (program, now, later, mid, more, is_program, run, serves, is_told, _) on =
-        let long : length told ≡ length now + length later = ap length is_told ∙ length-append now later in
+    go (Some next) (program, now, later, mid, more, is_program, run, serves, are_answered, _) on =
+        let long : length answers ≡ length now + length later = ap length are_answered ∙ length-append now later in
         omega (arith, long, on mid later more serves, node_counts c program next.packet next.ring (record w { rings = next.rings }) mid now run)
 
-turn_counts : (c : Setting) (nodes : Nodes) (port : ℕ) (bytes : List ℕ) (w w' : World) (outcome : Outcome) (runs : ℕ) (told : List Bool) →
-    Turn c nodes port bytes w outcome runs told w' → w'.calls ≡ w.calls + length told
-turn_counts c nodes port bytes w w' outcome runs told t =
-    let long : length told ≡ length t.now + length t.later = ap length t.told_is ∙ length-append t.now t.later in
+turn_counts : (c : Setting) (nodes : Nodes) (port : ℕ) (bytes : List ℕ) (w w' : World) (outcome : Outcome) (runs : ℕ) (answers : List Bool) →
+    Turn c nodes port bytes w outcome runs answers w' → w'.calls ≡ w.calls + length answers
+turn_counts c nodes port bytes w w' outcome runs answers t =
+    let long : length answers ≡ length t.now + length t.later = ap length t.answers_are ∙ length-append t.now t.later in
     omega (
       arith,
       long,
@@ -119,22 +119,22 @@ turn_counts c nodes port bytes w w' outcome runs told t =
     )
 
 run_counts : {T : Type 0} (c : Setting) (nodes : Nodes) (arrivals : List (Arrival T)) (w w' : World) (shown : Shown T) →
-    Run c nodes arrivals w shown w' → w'.calls ≡ w.calls + length shown.told
+    Run c nodes arrivals w shown w' → w'.calls ≡ w.calls + length shown.answers
 run_counts {T} c nodes [] w w' shown (none, is) =
-    let no_call : length shown.told ≡ 0 = ap (λ (s : Shown T). length s.told) none in
+    let no_call : length shown.answers ≡ 0 = ap (λ (s : Shown T). length s.answers) none in
     let calls : w'.calls ≡ w.calls = ap (λ (x : World). x.calls) is in
     omega (arith, no_call, calls)
-run_counts {T} c nodes (a ∷ arrivals) w w' shown (outcome, told, runs, mid, rest, turn, run, is) =
-    let long : length shown.told ≡ length told + length rest.told = ap (λ (s : Shown T). length s.told) is ∙ length-append told rest.told in
+run_counts {T} c nodes (a ∷ arrivals) w w' shown (outcome, answers, runs, mid, rest, turn, run, is) =
+    let long : length shown.answers ≡ length answers + length rest.answers = ap (λ (s : Shown T). length s.answers) is ∙ length-append answers rest.answers in
     omega (
       arith,
       long,
-      turn_counts c nodes a.port a.bytes w mid outcome runs told turn,
+      turn_counts c nodes a.port a.bytes w mid outcome runs answers turn,
       run_counts c nodes arrivals (with_empty_outboxes mid) w' rest run,
     )
 
 pub whole_counts : {T : Type 0} (c : Setting) (nodes : Nodes) (arrivals : List (Arrival T)) (w w' : World) (shown : Shown T) (left : List ℕ) →
-    IsStart c.env w → WholeRun c nodes arrivals w shown left w' → w'.calls ≡ length shown.told
+    IsStart c.env w → WholeRun c nodes arrivals w shown left w' → w'.calls ≡ length shown.answers
 whole_counts c nodes arrivals w w' shown left start whole =
     let same : w'.calls ≡ whole.last.calls = ap (λ (x : World). x.calls) whole.is in
     omega (arith, same, start.calls, run_counts c nodes arrivals w whole.last shown whole.run)

@@ -128,8 +128,8 @@ safe_beginning c entry program k number w node well = record {
   safe = accepted_is_safe c node.question k number w node.accepted well;
 }
 
-pub safe_ends : (c : Setting) (b : Beginning) → IsSafeBeginning c b → (told : List Bool) × (w' : World) × NodeRun c b.program b.packet b.number b.world told w'
-safe_ends c b s = subst (λ p. (told : List Bool) × (w' : World) × NodeRun c p b.packet b.number b.world told w') s.program_is s.safe.ends
+pub safe_ends : (c : Setting) (b : Beginning) → IsSafeBeginning c b → (answers : List Bool) × (w' : World) × NodeRun c b.program b.packet b.number b.world answers w'
+safe_ends c b s = subst (λ p. (answers : List Bool) × (w' : World) × NodeRun c p b.packet b.number b.world answers w') s.program_is s.safe.ends
 
 -- ---- the node run of the record
 pub record_safe : (c : Setting) (nodes : Nodes) (port : ℕ) (bytes : List ℕ) (w : World) (b : Beginning) → IsPipeline c nodes → IsAtRest c w →
@@ -143,8 +143,8 @@ record_safe c nodes port bytes w b checked rest r =
     (checked.checked.rooms port r.spec r.spec_is) checked.limits rest r.fits r.fresh r.filled))
 
 -- a whole run on a record that is received has such a beginning
-pub receives_of : (c : Setting) (nodes : Nodes) (program : List Instr) (port : ℕ) (spec : PortSpec) (bytes : List ℕ) (w w' : World) (told : List Bool) →
-    slice_get c.env.ports port ≡ Some spec → slice_get nodes.ports port ≡ Some program → (r : Receives c program port spec bytes w told w') →
+pub receives_of : (c : Setting) (nodes : Nodes) (program : List Instr) (port : ℕ) (spec : PortSpec) (bytes : List ℕ) (w w' : World) (answers : List Bool) →
+    slice_get c.env.ports port ≡ Some spec → slice_get nodes.ports port ≡ Some program → (r : Receives c program port spec bytes w answers w') →
     IsOfRecord c nodes port bytes w (record {
       entry = Port port;
       program = program;
@@ -152,7 +152,7 @@ pub receives_of : (c : Setting) (nodes : Nodes) (program : List Instr) (port : �
       number = port;
       world = record w { buffers = r.buffers; calls = w.calls + 1 };
     })
-receives_of c nodes program port spec bytes w w' told is_spec is_program r = record {
+receives_of c nodes program port spec bytes w w' answers is_spec is_program r = record {
   spec = spec;
   spec_is = is_spec;
   program = program;
@@ -178,16 +178,16 @@ rest_calls c w calls rest = record {
 }
 
 pub arrives_rest : (c : Setting) (nodes : Nodes) (program : List Instr) (port : ℕ) (spec : PortSpec) (bytes : List ℕ) (w w' : World) (outcome : Outcome)
-    (told : List Bool) → IsPipeline c nodes → slice_get nodes.ports port ≡ Some program → slice_get c.env.ports port ≡ Some spec → IsAtRest c w →
-    Arrives c program port spec bytes w outcome told w' → IsAtRest c w'
-arrives_rest c nodes program port spec bytes w w' Oversize told checked is_program is_spec rest (_, _, is) = subst (IsAtRest c) (sym is) rest
-arrives_rest c nodes program port spec bytes w w' NoBuffer told checked is_program is_spec rest (_, _, _, is) =
+    (answers : List Bool) → IsPipeline c nodes → slice_get nodes.ports port ≡ Some program → slice_get c.env.ports port ≡ Some spec → IsAtRest c w →
+    Arrives c program port spec bytes w outcome answers w' → IsAtRest c w'
+arrives_rest c nodes program port spec bytes w w' Oversize answers checked is_program is_spec rest (_, _, is) = subst (IsAtRest c) (sym is) rest
+arrives_rest c nodes program port spec bytes w w' NoBuffer answers checked is_program is_spec rest (_, _, _, is) =
     subst (IsAtRest c) (sym is) (rest_calls c w (w.calls + 1) rest)
-arrives_rest c nodes program port spec bytes w w' Got told checked is_program is_spec rest r =
+arrives_rest c nodes program port spec bytes w w' Got answers checked is_program is_spec rest r =
     let k : Packet = received (room_at c.env.pools spec.pool) r.numbers (length bytes) in
     let w1 : World = record w { buffers = r.buffers; calls = w.calls + 1 } in
     let b : Beginning = record { entry = Port port; program = program; packet = k; number = port; world = w1 } in
-    safe_rests c b r.later w' (record_safe c nodes port bytes w b checked rest (receives_of c nodes program port spec bytes w w' told is_spec is_program r))
+    safe_rests c b r.later w' (record_safe c nodes port bytes w b checked rest (receives_of c nodes program port spec bytes w w' answers is_spec is_program r))
     (subst (λ x. NodeRun c program x port w1 r.later w') r.packet_is r.run)
 
 -- ---- node runs on packets of rings
@@ -208,22 +208,22 @@ waiting_safe c nodes next program w checked rest e is_program =
 
 pub served_rest : (c : Setting) (nodes : Nodes) (n : ℕ) (w w' : World) → IsPipeline c nodes → IsAtRest c w → HasServed c nodes.rings n w w' → IsAtRest c w'
 served_rest c nodes zero w w' checked rest is = subst (IsAtRest c) (sym is) rest
-served_rest c nodes (suc n) w w' checked rest (next, program, told, mid, e, is_program, run, served) =
+served_rest c nodes (suc n) w w' checked rest (next, program, answers, mid, e, is_program, run, served) =
     served_rest c nodes n mid w' checked
     (safe_rests c (record { entry = Ring next.ring; program = program; packet = next.packet; number = next.ring; world = record w { rings = next.rings } })
-    told mid (waiting_safe c nodes next program w checked rest e is_program) run)
+    answers mid (waiting_safe c nodes next program w checked rest e is_program) run)
     served
 
-pub serves_rest : (c : Setting) (nodes : Nodes) (n : ℕ) (w w' : World) (told : List Bool) (runs : ℕ) → IsPipeline c nodes → IsAtRest c w →
-    Serves c nodes.rings n w told runs w' → IsAtRest c w'
-serves_rest c nodes zero w w' told runs checked rest (_, _, is) = subst (IsAtRest c) (sym is) rest
-serves_rest c nodes (suc n) w w' told runs checked rest serves = go (first_waiting w.rings) refl serves
-    (λ mid told more. serves_rest c nodes n mid w' told more checked)
+pub serves_rest : (c : Setting) (nodes : Nodes) (n : ℕ) (w w' : World) (answers : List Bool) (runs : ℕ) → IsPipeline c nodes → IsAtRest c w →
+    Serves c nodes.rings n w answers runs w' → IsAtRest c w'
+serves_rest c nodes zero w w' answers runs checked rest (_, _, is) = subst (IsAtRest c) (sym is) rest
+serves_rest c nodes (suc n) w w' answers runs checked rest serves = go (first_waiting w.rings) refl serves
+    (λ mid answers more. serves_rest c nodes n mid w' answers more checked)
   where
-    go : (o : Option (Waiting Packet)) → first_waiting w.rings ≡ o → MatchOption o ((told ≡ []) × (runs ≡ 0) × (w' ≡ w)) (λ next. (program : List Instr)
+    go : (o : Option (Waiting Packet)) → first_waiting w.rings ≡ o → MatchOption o ((answers ≡ []) × (runs ≡ 0) × (w' ≡ w)) (λ next. (program : List Instr)
         × (now later : List Bool) × (mid : World) × (more : ℕ) × (slice_get nodes.rings next.ring ≡ Some program)
-        × NodeRun c program next.packet next.ring (record w { rings = next.rings }) now mid × Serves c nodes.rings n mid later more w' × (told ≡ now ++ later)
-        × (runs ≡ more + 1)) → ((mid : World) (told : List Bool) (more : ℕ) → IsAtRest c mid → Serves c nodes.rings n mid told more w' → IsAtRest c w') →
+        × NodeRun c program next.packet next.ring (record w { rings = next.rings }) now mid × Serves c nodes.rings n mid later more w' × (answers ≡ now ++ later)
+        × (runs ≡ more + 1)) → ((mid : World) (answers : List Bool) (more : ℕ) → IsAtRest c mid → Serves c nodes.rings n mid answers more w' → IsAtRest c w') →
         IsAtRest c w'
     go None e (_, _, is) on = subst (IsAtRest c) (sym is) rest
     go (Some next) e (program, now, later, mid, more, is_program, run, serves, _, _) on =
@@ -245,15 +245,15 @@ ring_node c nodes w next count rest e =
     get_within nodes.rings next.ring (omega (arith, count, slice_get_within c.env.rings next.ring spec is_ring))
 
 pub serves_exist : (c : Setting) (nodes : Nodes) (n : ℕ) (w : World) → IsPipeline c nodes → IsAtRest c w →
-    (told : List Bool) × (runs : ℕ) × (w' : World) × Serves c nodes.rings n w told runs w'
+    (answers : List Bool) × (runs : ℕ) × (w' : World) × Serves c nodes.rings n w answers runs w'
 serves_exist c nodes zero w pipeline rest = ([], 0, w, (refl, refl, refl))
 serves_exist c nodes (suc n) w pipeline rest = go (first_waiting w.rings) refl (λ mid. serves_exist c nodes n mid pipeline)
   where
     go : (o : Option (Waiting Packet)) → first_waiting w.rings ≡ o → ((mid : World) → IsAtRest c mid →
-        (told : List Bool) × (runs : ℕ) × (w' : World) × Serves c nodes.rings n mid told runs w') →
-        (told : List Bool) × (runs : ℕ) × (w' : World) × MatchOption o ((told ≡ []) × (runs ≡ 0) × (w' ≡ w)) (λ next. (program : List Instr)
+        (answers : List Bool) × (runs : ℕ) × (w' : World) × Serves c nodes.rings n mid answers runs w') →
+        (answers : List Bool) × (runs : ℕ) × (w' : World) × MatchOption o ((answers ≡ []) × (runs ≡ 0) × (w' ≡ w)) (λ next. (program : List Instr)
         × (now later : List Bool) × (mid : World) × (more : ℕ) × (slice_get nodes.rings next.ring ≡ Some program)
-        × NodeRun c program next.packet next.ring (record w { rings = next.rings }) now mid × Serves c nodes.rings n mid later more w' × (told ≡ now ++ later)
+        × NodeRun c program next.packet next.ring (record w { rings = next.rings }) now mid × Serves c nodes.rings n mid later more w' × (answers ≡ now ++ later)
         × (runs ≡ more + 1))
     go None e on = ([], 0, w, (refl, refl, refl))
     go (Some next) e on =
@@ -277,10 +277,10 @@ received_ends : (c : Setting) (nodes : Nodes) (program : List Instr) (port : ℕ
     needed c.env.pools spec.pool (length bytes) ≤ spec.segs → is_denied c (between w) spec.pool (needed c.env.pools spec.pool (length bytes)) ≡ false
     → AreFresh c.env.pools (live (between w)) spec.pool (needed c.env.pools spec.pool (length bytes)) ns →
     Filled ns (received (room_at c.env.pools spec.pool) ns (length bytes)) bytes w.buffers buffers →
-    (told : List Bool) × (w' : World) × Receives c program port spec bytes w told w'
+    (answers : List Bool) × (w' : World) × Receives c program port spec bytes w answers w'
 received_ends c nodes program port spec bytes w ns buffers checked is_spec is_program rest fits given fresh filled =
     let node = checked.checked.ports port program is_program in
-    let (told, w', run) = safe_ends c (record {
+    let (answers, w', run) = safe_ends c (record {
       entry = Port port;
       program = program;
       packet = received (room_at c.env.pools spec.pool) ns (length bytes);
@@ -291,7 +291,7 @@ received_ends c nodes program port spec bytes w ns buffers checked is_spec is_pr
     (record w { buffers = buffers; calls = w.calls + 1 }) node
     (record_begins c node.question port spec bytes w ns buffers (sym node.env_is) node.entry_is is_spec (checked.checked.rooms port spec is_spec)
     checked.limits rest fits fresh filled)) in (
-      true ∷ told,
+      true ∷ answers,
       w',
       record {
         fits = fits;
@@ -302,8 +302,8 @@ received_ends c nodes program port spec bytes w ns buffers checked is_spec is_pr
         packet = received (room_at c.env.pools spec.pool) ns (length bytes);
         packet_is = refl;
         filled = filled;
-        later = told;
-        told_is = refl;
+        later = answers;
+        answers_are = refl;
         run = run;
       },
     )
@@ -312,7 +312,7 @@ received_ends c nodes program port spec bytes w ns buffers checked is_spec is_pr
 receives_exist : (c : Setting) (nodes : Nodes) (program : List Instr) (port : ℕ) (spec : PortSpec) (bytes : List ℕ) (w : World) → IsPipeline c nodes →
     slice_get c.env.ports port ≡ Some spec → slice_get nodes.ports port ≡ Some program → IsAtRest c w → AllByRecursion (λ x. x < 256) bytes →
     needed c.env.pools spec.pool (length bytes) ≤ spec.segs → is_denied c (between w) spec.pool (needed c.env.pools spec.pool (length bytes)) ≡ false →
-    (told : List Bool) × (w' : World) × Receives c program port spec bytes w told w'
+    (answers : List Bool) × (w' : World) × Receives c program port spec bytes w answers w'
 receives_exist c nodes program port spec bytes w pipeline is_spec is_program rest small fits given =
     let pools = c.env.pools in
     let need = needed pools spec.pool (length bytes) in
@@ -323,38 +323,38 @@ receives_exist c nodes program port spec bytes w pipeline is_spec is_program res
 
 pub arrives_exist : (c : Setting) (nodes : Nodes) (program : List Instr) (port : ℕ) (spec : PortSpec) (bytes : List ℕ) (w : World) → IsPipeline c nodes →
     slice_get c.env.ports port ≡ Some spec → slice_get nodes.ports port ≡ Some program → IsAtRest c w → AllByRecursion (λ x. x < 256) bytes →
-    (told : List Bool) × (w' : World) × Arrives c program port spec bytes w (outcome_for c spec bytes w) told w'
+    (answers : List Bool) × (w' : World) × Arrives c program port spec bytes w (outcome_for c spec bytes w) answers w'
 arrives_exist c nodes program port spec bytes w pipeline is_spec is_program rest small =
     go (nat_lt spec.segs (needed c.env.pools spec.pool (length bytes))) (is_denied c (between w) spec.pool (needed c.env.pools spec.pool (length bytes))) refl
     refl
   where
     go : (large denied : Bool) → nat_lt spec.segs (needed c.env.pools spec.pool (length bytes)) ≡ large →
         is_denied c (between w) spec.pool (needed c.env.pools spec.pool (length bytes)) ≡ denied →
-        (told : List Bool) × (w' : World) × Arrives c program port spec bytes w (if large then Oversize else if denied then NoBuffer else Got) told w'
+        (answers : List Bool) × (w' : World) × Arrives c program port spec bytes w (if large then Oversize else if denied then NoBuffer else Got) answers w'
     go true denied e f = ([], w, (ltb-true spec.segs (needed c.env.pools spec.pool (length bytes)) e, refl, refl))
     go false true e f = (false ∷ [], record w { calls = w.calls + 1 }, (ltb-false spec.segs (needed c.env.pools spec.pool (length bytes)) e, f, refl, refl))
     go false false e f = receives_exist c nodes program port spec bytes w pipeline is_spec is_program rest small
         (ltb-false spec.segs (needed c.env.pools spec.pool (length bytes)) e) f
 
 -- the outcome is the one that the pattern and the free buffers decide
-pub arrives_outcome : (c : Setting) (program : List Instr) (port : ℕ) (spec : PortSpec) (bytes : List ℕ) (w w' : World) (outcome : Outcome) (told : List Bool)
-    → Arrives c program port spec bytes w outcome told w' → outcome ≡ outcome_for c spec bytes w
-arrives_outcome c program port spec bytes w w' Oversize told (large, _, _) =
+pub arrives_outcome : (c : Setting) (program : List Instr) (port : ℕ) (spec : PortSpec) (bytes : List ℕ) (w w' : World) (outcome : Outcome) (answers : List Bool)
+    → Arrives c program port spec bytes w outcome answers w' → outcome ≡ outcome_for c spec bytes w
+arrives_outcome c program port spec bytes w w' Oversize answers (large, _, _) =
     let e = lt-ltb spec.segs (needed c.env.pools spec.pool (length bytes)) large in
     sym (ap (λ b. if b then Oversize else if is_denied c (between w) spec.pool (needed c.env.pools spec.pool (length bytes)) then NoBuffer else Got) e)
-arrives_outcome c program port spec bytes w w' NoBuffer told (fits, denied, _, _) =
+arrives_outcome c program port spec bytes w w' NoBuffer answers (fits, denied, _, _) =
     let e = le-ltb spec.segs (needed c.env.pools spec.pool (length bytes)) fits in
     sym (ap (λ b. if b then Oversize else if is_denied c (between w) spec.pool (needed c.env.pools spec.pool (length bytes)) then NoBuffer else Got) e
     ∙ ap (λ b. if b then NoBuffer else Got) denied)
-arrives_outcome c program port spec bytes w w' Got told r =
+arrives_outcome c program port spec bytes w w' Got answers r =
     let e = le-ltb spec.segs (needed c.env.pools spec.pool (length bytes)) r.fits in
     sym (ap (λ b. if b then Oversize else if is_denied c (between w) spec.pool (needed c.env.pools spec.pool (length bytes)) then NoBuffer else Got) e
     ∙ ap (λ b. if b then NoBuffer else Got) r.given)
 
 -- ---- a turn
-pub turn_rest : (c : Setting) (nodes : Nodes) (port : ℕ) (bytes : List ℕ) (w w' : World) (outcome : Outcome) (runs : ℕ) (told : List Bool) →
-    IsPipeline c nodes → IsAtRest c w → Turn c nodes port bytes w outcome runs told w' → IsAtRest c w'
-turn_rest c nodes port bytes w w' outcome runs told checked rest t =
+pub turn_rest : (c : Setting) (nodes : Nodes) (port : ℕ) (bytes : List ℕ) (w w' : World) (outcome : Outcome) (runs : ℕ) (answers : List Bool) →
+    IsPipeline c nodes → IsAtRest c w → Turn c nodes port bytes w outcome runs answers w' → IsAtRest c w'
+turn_rest c nodes port bytes w w' outcome runs answers checked rest t =
     serves_rest c nodes 32 t.mid w' t.later t.more checked
     (arrives_rest c nodes t.program port t.spec bytes w t.mid outcome t.now checked t.program_is t.spec_is rest t.arrives) t.serves
 
@@ -374,13 +374,13 @@ turn_of c nodes program port spec bytes w mid w' outcome now later more is_spec 
   later = later;
   more = more;
   serves = serves;
-  told_is = refl;
+  answers_are = refl;
   runs_is = refl;
 }
 
 pub turn_exists : (c : Setting) (nodes : Nodes) (port : ℕ) (spec : PortSpec) (bytes : List ℕ) (w : World) → IsPipeline c nodes → slice_get c.env.ports port
-    ≡ Some spec → IsAtRest c w → AllByRecursion (λ x. x < 256) bytes → (outcome : Outcome) × (runs : ℕ) × (told : List Bool) × (w' : World)
-    × Turn c nodes port bytes w outcome runs told w'
+    ≡ Some spec → IsAtRest c w → AllByRecursion (λ x. x < 256) bytes → (outcome : Outcome) × (runs : ℕ) × (answers : List Bool) × (w' : World)
+    × Turn c nodes port bytes w outcome runs answers w'
 turn_exists c nodes port spec bytes w pipeline is_spec rest small =
     let (program, is_program) = get_within nodes.ports port (omega (arith, pipeline.ports, slice_get_within c.env.ports port spec is_spec)) in
     let outcome = outcome_for c spec bytes w in
@@ -400,7 +400,7 @@ pub turn_runs_safe : (c : Setting) (nodes : Nodes) (port : ℕ) (bytes : List �
     IsOfTurn c nodes port bytes w b → IsSafeBeginning c b
 turn_runs_safe c nodes port bytes w b checked rest (inl r) = record_safe c nodes port bytes w b checked rest r
 turn_runs_safe c nodes port bytes w b checked rest (inr r) =
-    let mid = arrives_rest c nodes r.own port r.spec bytes w r.mid r.outcome r.told checked r.own_is r.spec_is rest r.arrives in
+    let mid = arrives_rest c nodes r.own port r.spec bytes w r.mid r.outcome r.answers checked r.own_is r.spec_is rest r.arrives in
     let last = served_rest c nodes r.served r.mid r.last checked mid r.has_served in
     subst (IsSafeBeginning c) (sym r.is) (waiting_safe c nodes r.next r.program r.last checked last r.waits r.program_is)
 
@@ -410,8 +410,8 @@ turn_safe c nodes port spec bytes w pipeline is_spec rest small = record {
   never_stuck = λ b of. safe_never_stuck c b (turn_runs_safe c nodes port bytes w b pipeline rest of);
   runs = λ b of. turn_runs_safe c nodes port bytes w b pipeline rest of;
   exists = turn_exists c nodes port spec bytes w pipeline is_spec rest small;
-  outcome = λ outcome runs told w' t.
+  outcome = λ outcome runs answers w' t.
       let same : t.spec ≡ spec = same_Some t.spec spec (sym t.spec_is ∙ is_spec) in
       subst (λ x. outcome ≡ outcome_for c x bytes w) same (arrives_outcome c t.program port t.spec bytes w t.mid outcome t.now t.arrives);
-  rests = λ outcome runs told w' t. turn_rest c nodes port bytes w w' outcome runs told pipeline rest t;
+  rests = λ outcome runs answers w' t. turn_rest c nodes port bytes w w' outcome runs answers pipeline rest t;
 }

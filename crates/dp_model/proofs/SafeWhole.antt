@@ -30,25 +30,25 @@ drained_rest c w rest = record {
 pub run_rest : {T : Type 0} (c : Setting) (nodes : Nodes) (arrivals : List (Arrival T)) (w w' : World) (shown : Shown T) →
     IsPipeline c nodes → IsAtRest c w → Run c nodes arrivals w shown w' → IsAtRest c w'
 run_rest c nodes [] w w' shown checked rest (_, is) = subst (IsAtRest c) (sym is) rest
-run_rest c nodes (a ∷ arrivals) w w' shown checked rest (outcome, told, runs, mid, others, turn, run, _) =
+run_rest c nodes (a ∷ arrivals) w w' shown checked rest (outcome, answers, runs, mid, others, turn, run, _) =
     run_rest c nodes arrivals (with_empty_outboxes mid) w' others checked
-    (drained_rest c mid (turn_rest c nodes a.port a.bytes w mid outcome runs told checked rest turn)) run
+    (drained_rest c mid (turn_rest c nodes a.port a.bytes w mid outcome runs answers checked rest turn)) run
 
 pub run_exists : {T : Type 0} (c : Setting) (nodes : Nodes) (arrivals : List (Arrival T)) (w : World) → IsPipeline c nodes → IsAtRest c w →
     AllByRecursion (CanArrive c) arrivals → (shown : Shown T) × (w' : World) × Run c nodes arrivals w shown w'
 run_exists c nodes [] w pipeline rest can =
-    (record { told = []; outcomes = []; captures = replicate (length c.env.ports) [] }, w, (refl, refl))
+    (record { answers = []; outcomes = []; captures = replicate (length c.env.ports) [] }, w, (refl, refl))
 run_exists {T} c nodes (a ∷ arrivals) w pipeline rest can =
     let (spec, is_spec) = get_within c.env.ports a.port can.0.port in
-    let (outcome, runs, told, mid, turn) = turn_exists c nodes a.port spec a.bytes w pipeline is_spec rest can.0.bytes in
-    let after = drained_rest c mid (turn_rest c nodes a.port a.bytes w mid outcome runs told pipeline rest turn) in
+    let (outcome, runs, answers, mid, turn) = turn_exists c nodes a.port spec a.bytes w pipeline is_spec rest can.0.bytes in
+    let after = drained_rest c mid (turn_rest c nodes a.port a.bytes w mid outcome runs answers pipeline rest turn) in
     let (others, w', run) = run_exists {T = T} c nodes arrivals (with_empty_outboxes mid) pipeline after can.1 in
     let shown : Shown T = record {
-      told = told ++ others.told;
+      answers = answers ++ others.answers;
       outcomes = outcome ∷ others.outcomes;
       captures = joined (records_at a.time mid) others.captures;
     } in
-    (shown, w', (outcome, told, runs, mid, others, turn, run, refl))
+    (shown, w', (outcome, answers, runs, mid, others, turn, run, refl))
 
 -- every node run of a run is safe
 pub run_runs_safe : {T : Type 0} (c : Setting) (nodes : Nodes) (arrivals : List (Arrival T)) (w : World) (b : Beginning) → IsPipeline c nodes → IsAtRest c w →

@@ -154,17 +154,17 @@ chain_well s s' h t k tail well apart hk ht few chains =
     (acted s (Chain h t) (record s { slots = slice_set (slice_set s.slots h (Some (k ++ tail))) t None }) refl well (k, tail, hk, ht, apart, few, refl))
 
 -- a store writes within the first segment
-pub store_well : (s s' : Store) (h place w n : ℕ) (k : Packet) → IsWellFormedStore s → Has s h k → place + w ≤ first_len k →
-    Becomes s s' h (λ k. k) (stored place w n) → IsWellFormedStore s'
-store_well s s' h place w n k well has le becomes =
+pub store_well : (s s' : Store) (h offset w n : ℕ) (k : Packet) → IsWellFormedStore s → Has s h k → offset + w ≤ first_len k →
+    Becomes s s' h (λ k. k) (stored offset w n) → IsWellFormedStore s'
+store_well s s' h offset w n k well has le becomes =
     let (inside, owned) = to_state s well in
     let c = setting_of s.pools in
     let lies = inside_held c (state_of s) h k inside has in
-    let wrote : IsInside c (with_buffers (stored place w n k s.buffers) (state_of s)) =
-    stored_within s.pools s.buffers (live (state_of s)) place w n k le lies inside in
-    let after : Store = record s { buffers = stored place w n k s.buffers; slots = slice_set s.slots h (Some k) } in
+    let wrote : IsInside c (with_buffers (stored offset w n k s.buffers) (state_of s)) =
+    stored_within s.pools s.buffers (live (state_of s)) offset w n k le lies inside in
+    let after : Store = record s { buffers = stored offset w n k s.buffers; slots = slice_set s.slots h (Some k) } in
     subst IsWellFormedStore (sym (becomes k has))
-    (of_state after (inside_set c (with_buffers (stored place w n k s.buffers) (state_of s)) h (Some k) wrote lies)
+    (of_state after (inside_set c (with_buffers (stored offset w n k s.buffers) (state_of s)) h (Some k) wrote lies)
     (same_owned s h k has owned))
   where
     same_owned : (s : Store) (h : ℕ) (k : Packet) → Has s h k → HasOwners (setting_of s.pools) (state_of s) →

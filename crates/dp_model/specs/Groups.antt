@@ -49,16 +49,16 @@ have_groups facts = list_any (λ fact. is_some (group_of fact)) facts
 
 -- ---- what follows from what
 
--- whether the test passes at each place of two lists, which are as long
-abbrev pub at_each_place : {A B : Type 0} → (A → B → Bool) → List A → List B → Bool
-at_each_place test [] [] = true
-at_each_place test (x ∷ xs) (y ∷ ys) = test x y && at_each_place test xs ys
-at_each_place test [] (y ∷ ys) = false
-at_each_place test (x ∷ xs) [] = false
+-- whether the test passes at each index of two lists, which are as long
+abbrev pub at_each_index : {A B : Type 0} → (A → B → Bool) → List A → List B → Bool
+at_each_index test [] [] = true
+at_each_index test (x ∷ xs) (y ∷ ys) = test x y && at_each_index test xs ys
+at_each_index test [] (y ∷ ys) = false
+at_each_index test (x ∷ xs) [] = false
 
 -- the group has the same registers in both
 abbrev pub same_registers : List Fact → List Fact → ℕ → Bool
-same_registers facts others g = at_each_place (λ fact other. beq (is_in g fact) (is_in g other)) facts others
+same_registers facts others g = at_each_index (λ fact other. beq (is_in g fact) (is_in g other)) facts others
 
 -- each group of the second is a group of the same registers in the first
 abbrev pub keeps_groups : List Fact → List Fact → Bool
@@ -85,7 +85,7 @@ share_left facts g = if size facts g == 1 then 2 else option_map_or share_of_gro
 abbrev pub belongs : List Fact → ℕ → ℕ → Bool
 belongs facts g p = option_map_or (is_in g) (slice_get facts p) false
 
--- the buffers of a packet, place by place
+-- the buffers of a packet, index by index
 abbrev pub buffers_of : Packet → List Number
 buffers_of k = map (λ s. s.buffer) k
 

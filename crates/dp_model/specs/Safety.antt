@@ -12,7 +12,7 @@ use Rattle.dp_model.specs.Buffers.{Number, Buffers}
 use Rattle.dp_model.specs.Packets.{Packet, needed, received, Filled, AreFresh, AreOwned, IsWellFormed}
 use Rattle.dp_model.specs.Rows.{entry_row}
 use Rattle.dp_model.specs.Rules.{Question, IsCertified}
-use Rattle.dp_model.specs.Machine.{Setting, World, State, live, Next, At, Move, Acts, IsPlace, Step, with_step, is_denied}
+use Rattle.dp_model.specs.Machine.{Setting, World, State, live, Next, At, Move, Acts, IsLabel, Step, with_step, is_denied}
 use Rattle.dp_model.specs.Meaning.{RowHolds, RingHolds}
 use Rattle.dp_model.specs.Runs.{Goes, first_state, NodeRun, most_steps, NeverStuck, between, Outcome, Got, NoBuffer, Oversize, Arrives, Waiting}
 use Rattle.dp_model.specs.Runs.{first_waiting, Nodes, Turn, Arrival, Shown, Run}
@@ -63,13 +63,13 @@ pub record IsSafeRun (c : Setting) (q : Question) (k : Packet) (number : ℕ) (w
   -- it begins in the row of its entry
   pub begins : (row : Row) × (entry_row q.env q.entry ≡ Some row) × RowHolds c.env row (first_state k number w)
   -- wherever it comes, all is safe, so it is never stuck
-  pub stays : (n label : ℕ) (told : List Bool) (s : State) → Goes c q.program n 0 (first_state k number w) told (At label) s → IsSafeAt c q label s
+  pub stays : (n label : ℕ) (answers : List Bool) (s : State) → Goes c q.program n 0 (first_state k number w) answers (At label) s → IsSafeAt c q label s
   -- it takes few steps
-  pub short : (n : ℕ) (told : List Bool) (next : Next) (s : State) → Goes c q.program n 0 (first_state k number w) told next s → n ≤ most_steps q.program
+  pub short : (n : ℕ) (answers : List Bool) (next : Next) (s : State) → Goes c q.program n 0 (first_state k number w) answers next s → n ≤ most_steps q.program
   -- it can end
-  pub ends : (told : List Bool) × (w' : World) × NodeRun c q.program k number w told w'
+  pub ends : (answers : List Bool) × (w' : World) × NodeRun c q.program k number w answers w'
   -- and where it ends the next one can begin
-  pub rests : (told : List Bool) (w' : World) → NodeRun c q.program k number w told w' → IsAtRest c w'
+  pub rests : (answers : List Bool) (w' : World) → NodeRun c q.program k number w answers w' → IsAtRest c w'
 
 -- ---- the node runs of a turn
 
@@ -105,9 +105,9 @@ pub record IsOfRecord (c : Setting) (nodes : Nodes) (port : ℕ) (bytes : List �
 abbrev pub HasServed : Setting → List (List Instr) → ℕ → World → World → Type 0
 HasServed c programs zero w w' = w' ≡ w
 HasServed c programs (suc n) w w' =
-    (next : Waiting Packet) × (program : List Instr) × (told : List Bool) × (mid : World)
+    (next : Waiting Packet) × (program : List Instr) × (answers : List Bool) × (mid : World)
     × (first_waiting w.rings ≡ Some next) × (slice_get programs next.ring ≡ Some program)
-    × NodeRun c program next.packet next.ring (record w { rings = next.rings }) told mid × HasServed c programs n mid w'
+    × NodeRun c program next.packet next.ring (record w { rings = next.rings }) answers mid × HasServed c programs n mid w'
 
 -- rings are served until none has a packet, or as often as may be
 pub record IsServed (c : Setting) (programs : List (List Instr)) (n : ℕ) (w : World) (runs : ℕ) (w' : World) : Type 0 where
@@ -122,9 +122,9 @@ pub record IsOfRing (c : Setting) (nodes : Nodes) (port : ℕ) (bytes : List ℕ
   pub own : List Instr
   pub own_is : slice_get nodes.ports port ≡ Some own
   pub outcome : Outcome
-  pub told : List Bool
+  pub answers : List Bool
   pub mid : World
-  pub arrives : Arrives c own port spec bytes w outcome told mid
+  pub arrives : Arrives c own port spec bytes w outcome answers mid
   pub served : ℕ
   pub few : served < most_ring_runs
   pub last : World
@@ -162,11 +162,11 @@ pub record IsSafeTurn (c : Setting) (nodes : Nodes) (port : ℕ) (spec : PortSpe
   -- they are all safe
   pub runs : (b : Beginning) → IsOfTurn c nodes port bytes w b → IsSafeBeginning c b
   -- there is such a turn
-  pub exists : (outcome : Outcome) × (runs : ℕ) × (told : List Bool) × (w' : World) × Turn c nodes port bytes w outcome runs told w'
+  pub exists : (outcome : Outcome) × (runs : ℕ) × (answers : List Bool) × (w' : World) × Turn c nodes port bytes w outcome runs answers w'
   -- each has the outcome that the pattern and the free buffers decide, and where it ends the next one can begin
-  pub outcome : (outcome : Outcome) (runs : ℕ) (told : List Bool) (w' : World) → Turn c nodes port bytes w outcome runs told w' →
+  pub outcome : (outcome : Outcome) (runs : ℕ) (answers : List Bool) (w' : World) → Turn c nodes port bytes w outcome runs answers w' →
       outcome ≡ outcome_for c spec bytes w
-  pub rests : (outcome : Outcome) (runs : ℕ) (told : List Bool) (w' : World) → Turn c nodes port bytes w outcome runs told w' → IsAtRest c w'
+  pub rests : (outcome : Outcome) (runs : ℕ) (answers : List Bool) (w' : World) → Turn c nodes port bytes w outcome runs answers w' → IsAtRest c w'
 
 -- ---- whole runs
 
@@ -180,9 +180,9 @@ pub record IsPipeline (c : Setting) (nodes : Nodes) : Type 0 where
 -- what each of its instructions does leads to one of them, or ends the node run, wherever the run comes
 abbrev pub LeadsWithin : Setting → Beginning → Type 0
 LeadsWithin c b =
-    (n label : ℕ) (told : List Bool) (s : State) (i : Instr) (m : Move) →
-    Goes c b.program n 0 (first_state b.packet b.number b.world) told (At label) s → slice_get b.program label ≡ Some i → Acts c label (with_step s) i m →
-    IsPlace b.program m.next
+    (n label : ℕ) (answers : List Bool) (s : State) (i : Instr) (m : Move) →
+    Goes c b.program n 0 (first_state b.packet b.number b.world) answers (At label) s → slice_get b.program label ≡ Some i → Acts c label (with_step s) i m →
+    IsLabel b.program m.next
 
 -- what holds of the node runs of every pipeline, from a world at rest on, whatever comes
 pub record KeepsSafe (c : Setting) (nodes : Nodes) : Type 0 where
@@ -201,9 +201,9 @@ pub record KeepsSafe (c : Setting) (nodes : Nodes) : Type 0 where
   -- a safe one goes from instruction to instruction
   pub leads : (b : Beginning) → IsSafeBeginning c b → LeadsWithin c b
   -- whatever becomes of a record, the world is at rest again
-  pub arrives : (program : List Instr) (port : ℕ) (spec : PortSpec) (bytes : List ℕ) (w w' : World) (outcome : Outcome) (told : List Bool) →
+  pub arrives : (program : List Instr) (port : ℕ) (spec : PortSpec) (bytes : List ℕ) (w w' : World) (outcome : Outcome) (answers : List Bool) →
       slice_get nodes.ports port ≡ Some program →
-      slice_get c.env.ports port ≡ Some spec → IsAtRest c w → Arrives c program port spec bytes w outcome told w' → IsAtRest c w'
+      slice_get c.env.ports port ≡ Some spec → IsAtRest c w → Arrives c program port spec bytes w outcome answers w' → IsAtRest c w'
 
 -- no program has more instructions than that
 abbrev pub AreShort : ℕ → List (List Instr) → Type 0

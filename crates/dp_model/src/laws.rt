@@ -25,10 +25,10 @@ pub fn accepted_programs_are_safe<T>()
     ensures turns { (c : Setting) (nodes : Nodes) (port : ℕ) (spec : PortSpec) (bytes : List ℕ) (w : World) →
         IsPipeline c nodes → slice_get c.env.ports port ≡ Some spec → IsAtRest c w → AllByRecursion (λ x. x < 256) bytes →
         IsSafeTurn c nodes port spec bytes w }
-    ensures calls { (c : Setting) (nodes : Nodes) (most port : ℕ) (bytes : List ℕ) (w w' : World) (outcome : Outcome) (runs : ℕ) (told : List Bool) →
+    ensures calls { (c : Setting) (nodes : Nodes) (most port : ℕ) (bytes : List ℕ) (w w' : World) (outcome : Outcome) (runs : ℕ) (answers : List Bool) →
         IsPipeline c nodes → AreShort most nodes.ports → AreShort most nodes.rings → IsAtRest c w →
-        Turn c nodes port bytes w outcome runs told w' →
-        (w'.calls ≡ w.calls + length told) × (length told ≤ 1 + (most_ring_runs + 1) * ((jump_budget + 1) * most)) }
+        Turn c nodes port bytes w outcome runs answers w' →
+        (w'.calls ≡ w.calls + length answers) × (length answers ≤ 1 + (most_ring_runs + 1) * ((jump_budget + 1) * most)) }
     ensures runs { (c : Setting) (nodes : Nodes) (arrivals : List (Arrival T)) (w : World) →
         TablesFit c → IsPipeline c nodes → IsStart c.env w → AllByRecursion (CanArrive c) arrivals →
         AreSafe c nodes arrivals w }
@@ -43,8 +43,8 @@ pub fn accepted_programs_are_sound()
 
 /// A turn of checked nodes leaves the world ready for the next, whatever its outcome.
 pub fn turns_stay_ready()
-    ensures { (c : Setting) (nodes : Nodes) (port : ℕ) (bytes : List ℕ) (w w' : World) (outcome : Outcome) (runs : ℕ) (told : List Bool) →
-        AreChecked c nodes → Ready c w → Turn c nodes port bytes w outcome runs told w' → Ready c w' }
+    ensures { (c : Setting) (nodes : Nodes) (port : ℕ) (bytes : List ℕ) (w w' : World) (outcome : Outcome) (runs : ℕ) (answers : List Bool) →
+        AreChecked c nodes → Ready c w → Turn c nodes port bytes w outcome runs answers w' → Ready c w' }
 {}
 
 /// The node runs of every pipeline are safe, whatever comes: those of each turn, and that on the packet that waits next; each goes from

@@ -112,15 +112,15 @@ pub trait PacketLayer {
         ensures packets { Chains (store self.old) head tail (store self.new) }
         ensures kept { frame self.new ≡ frame self.old };
 
-    /// The number at a place of the first segment, the highest byte first.
-    fn load(&self, packet: Packet, place: u64, width: Width) -> u64
-        requires { HasSome (store self.now) packet (λ k. place + bytes_in width ≤ first_len k) }
-        ensures { Of (store self.now) packet (λ k. result ≡ loaded place (bytes_in width) k (store self.now).buffers) };
+    /// The number at an offset of the first segment, the highest byte first.
+    fn load(&self, packet: Packet, offset: u64, width: Width) -> u64
+        requires { HasSome (store self.now) packet (λ k. offset + bytes_in width ≤ first_len k) }
+        ensures { Of (store self.now) packet (λ k. result ≡ loaded offset (bytes_in width) k (store self.now).buffers) };
 
-    /// Writes the low bytes of a number at a place of the first segment.
-    fn store_at(&mut self, packet: Packet, place: u64, width: Width, n: u64)
-        requires { HasSome (store self.old) packet (λ k. (place + bytes_in width ≤ first_len k) × IsHeadSole (segments_of (store self.old)) k) }
-        ensures packets { Becomes (store self.old) (store self.new) packet (λ k. k) (stored place (bytes_in width) n) }
+    /// Writes the low bytes of a number at an offset of the first segment.
+    fn store_at(&mut self, packet: Packet, offset: u64, width: Width, n: u64)
+        requires { HasSome (store self.old) packet (λ k. (offset + bytes_in width ≤ first_len k) × IsHeadSole (segments_of (store self.old)) k) }
+        ensures packets { Becomes (store self.old) (store self.new) packet (λ k. k) (stored offset (bytes_in width) n) }
         ensures kept { frame self.new ≡ frame self.old };
 
     /// The room in front of the first segment's bytes.
@@ -154,7 +154,7 @@ pub trait PacketLayer {
         requires { IsLive (store self.now) packet }
         ensures { Of (store self.now) packet (λ k. result ≡ length k) };
 
-    /// The bytes of a segment, by its place from 0.
+    /// The bytes of a segment, by its index from 0.
     fn segment_bytes(&self, packet: Packet, index: u32) -> &[u8]
         requires { HasSome (store self.now) packet (λ k. index < length k) }
         ensures { Of (store self.now) packet (λ k. (s : Segment) → slice_get k index ≡ Some s → result.now ≡ segment_bytes (store self.now).buffers s) };

@@ -53,8 +53,8 @@ pub fn layers_stay_well_formed()
         Becomes s s' h (at_end (less_behind n)) unwritten → IsWellFormedStore s' }
     ensures chain { (s s' : Store) (h t : ℕ) (k tail : Packet) → IsWellFormedStore s → h ≢ t → Has s h k → Has s t tail →
         length k + length tail ≤ most_segments → Chains s h t s' → IsWellFormedStore s' }
-    ensures store { (s s' : Store) (h place w n : ℕ) (k : Packet) → IsWellFormedStore s → Has s h k → place + w ≤ first_len k →
-        Becomes s s' h (λ k. k) (stored place w n) → IsWellFormedStore s' }
+    ensures store { (s s' : Store) (h offset w n : ℕ) (k : Packet) → IsWellFormedStore s → Has s h k → offset + w ≤ first_len k →
+        Becomes s s' h (λ k. k) (stored offset w n) → IsWellFormedStore s' }
 {}
 
 /// The two readings of the longest prefix agree: what the deepest route that matches gives is what the search depth
@@ -71,19 +71,19 @@ pub fn numbers_are_as_called()
     ensures enough { (n : ℕ) → n ≤ all_ones n }
     ensures least { (n j : ℕ) → n + 1 ≤ 2 ^ j → all_ones n + 1 ≤ 2 ^ j }
     ensures spelling { (w n : ℕ) → spelled (big_endian w n) ≡ n % 256 ^ w }
-    ensures stores { (place w n : ℕ) (s : Segment) (rest : Packet) (buffers : Buffers) → 1 ≤ w → place + w ≤ s.len →
-        s.offset + s.len ≤ length (bytes_of buffers s.buffer) → loaded place w (s ∷ rest) (stored place w n (s ∷ rest) buffers) ≡ n % 256 ^ w }
+    ensures stores { (offset w n : ℕ) (s : Segment) (rest : Packet) (buffers : Buffers) → 1 ≤ w → offset + w ≤ s.len →
+        s.offset + s.len ≤ length (bytes_of buffers s.buffer) → loaded offset w (s ∷ rest) (stored offset w n (s ∷ rest) buffers) ≡ n % 256 ^ w }
 {}
 
 /// Runs are as they read: rounds give each port the records of its input, in order; rings are served until none has a
 /// packet, or as often as may be; a record is received and its node runs, in one or one after the other.
 pub fn runs_are_as_they_read<T>()
     ensures rounds { (port : ℕ) (inputs : List (List (T × List ℕ))) → of_port port (interleaved inputs) ≡ slice_index_or inputs port [] }
-    ensures serves { (c : Setting) (programs : List (List Instr)) (n : ℕ) (w : World) (told : List Bool) (runs : ℕ) (w' : World) →
-        Serves c programs n w told runs w' → IsServed c programs n w runs w' }
-    ensures receives { (c : Setting) (nodes : Nodes) (port : ℕ) (bytes : List ℕ) (w w' : World) (b : Beginning) (told : List Bool) →
-        (r : IsOfRecord c nodes port bytes w b) → NodeRun c b.program b.packet b.number b.world told w' →
-        Receives c r.program port r.spec bytes w (true ∷ told) w' }
+    ensures serves { (c : Setting) (programs : List (List Instr)) (n : ℕ) (w : World) (answers : List Bool) (runs : ℕ) (w' : World) →
+        Serves c programs n w answers runs w' → IsServed c programs n w runs w' }
+    ensures receives { (c : Setting) (nodes : Nodes) (port : ℕ) (bytes : List ℕ) (w w' : World) (b : Beginning) (answers : List Bool) →
+        (r : IsOfRecord c nodes port bytes w b) → NodeRun c b.program b.packet b.number b.world answers w' →
+        Receives c r.program port r.spec bytes w (true ∷ answers) w' }
 {}
 
 /// Whole runs end as they read, for every list of programs, accepted or not: from a start on, no packet is left in a
@@ -97,7 +97,7 @@ pub fn whole_runs_end_with_whole_pools<T>()
     ensures rings { (c : Setting) (nodes : Nodes) (arrivals : List (Arrival T)) (w w' : World) (shown : Shown T) (left : List ℕ) →
         TablesFit c → AreChecked c nodes → IsStart c.env w → WholeRun c nodes arrivals w shown left w' → length left ≡ length c.env.rings }
     ensures calls { (c : Setting) (nodes : Nodes) (arrivals : List (Arrival T)) (w w' : World) (shown : Shown T) (left : List ℕ) →
-        IsStart c.env w → WholeRun c nodes arrivals w shown left w' → w'.calls ≡ length shown.told }
+        IsStart c.env w → WholeRun c nodes arrivals w shown left w' → w'.calls ≡ length shown.answers }
     ensures rests { (c : Setting) (w : World) → IsAtRest c w → IsAtRest c (with_empty_rings w) }
 {}
 
@@ -111,11 +111,11 @@ pub fn budgets_are_as_they_read()
     ensures order { (s : State) → length s.packets ≡ 8 →
         without_packets s ≡ without_packet 7 (without_packet 6 (without_packet 5 (without_packet 4
         (without_packet 3 (without_packet 2 (without_packet 1 (without_packet 0 s))))))) }
-    ensures taken { (c : Setting) (program : List Instr) (k : Packet) (number n label : ℕ) (w : World) (told : List Bool) (s : State) →
-        Goes c program n 0 (first_state k number w) told (At label) s → (s.jumps ≤ jump_budget) × (s.world.steps ≡ w.steps + n) × (s.world.cuts ≡ w.cuts) }
-    ensures node_runs { (c : Setting) (program : List Instr) (k : Packet) (number : ℕ) (w w' : World) (told : List Bool) →
-        NodeRun c program k number w told w' → TookAtMost w w' (most_steps program) 1 }
-    ensures turns { (c : Setting) (nodes : Nodes) (port : ℕ) (bytes : List ℕ) (w w' : World) (outcome : Outcome) (runs : ℕ) (told : List Bool) (most : ℕ) →
-        AreShort most nodes.ports → AreShort most nodes.rings → Turn c nodes port bytes w outcome runs told w' →
+    ensures taken { (c : Setting) (program : List Instr) (k : Packet) (number n label : ℕ) (w : World) (answers : List Bool) (s : State) →
+        Goes c program n 0 (first_state k number w) answers (At label) s → (s.jumps ≤ jump_budget) × (s.world.steps ≡ w.steps + n) × (s.world.cuts ≡ w.cuts) }
+    ensures node_runs { (c : Setting) (program : List Instr) (k : Packet) (number : ℕ) (w w' : World) (answers : List Bool) →
+        NodeRun c program k number w answers w' → TookAtMost w w' (most_steps program) 1 }
+    ensures turns { (c : Setting) (nodes : Nodes) (port : ℕ) (bytes : List ℕ) (w w' : World) (outcome : Outcome) (runs : ℕ) (answers : List Bool) (most : ℕ) →
+        AreShort most nodes.ports → AreShort most nodes.rings → Turn c nodes port bytes w outcome runs answers w' →
         (runs ≤ most_ring_runs + 1) × TookAtMost w w' (runs * ((jump_budget + 1) * most)) runs }
 {}

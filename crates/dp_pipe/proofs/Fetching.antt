@@ -15,17 +15,17 @@ long_is bytes many =
     ]
 
 pub file_is : (known : Option FileMap) (name bytes : List ℕ) → HasBytes known name bytes → length bytes ≤ 1048576 → IsFile known name bytes
-file_is known name bytes has few files told = ap if_short (has files told) ∙ short_is bytes few
+file_is known name bytes has few files answers = ap if_short (has files answers) ∙ short_is bytes few
 
 pub long_is_none : (known : Option FileMap) (name bytes : List ℕ) → HasBytes known name bytes → 1048576 < length bytes → IsNoFile known name
-long_is_none known name bytes has many files told = ap if_short (has files told) ∙ long_is bytes many
+long_is_none known name bytes has many files answers = ap if_short (has files answers) ∙ long_is bytes many
 
 pub missing_is_none : (known : Option FileMap) (name : List ℕ) → HasNone known name → IsNoFile known name
-missing_is_none known name none files told = ap if_short (none files told)
+missing_is_none known name none files answers = ap if_short (none files answers)
 
 -- what is known of files that stay the same
 pub file_stays : (old new : Option FileMap) (name bytes : List ℕ) → new ≡ old → IsFile new name bytes → IsFile old name bytes
-file_stays old new name bytes e file files told = file files (e ∙ told)
+file_stays old new name bytes e file files answers = file files (e ∙ answers)
 
 pub none_stays : (old new : Option FileMap) (name : List ℕ) → new ≡ old → IsNoFile new name → IsNoFile old name
-none_stays old new name e none files told = none files (e ∙ told)
+none_stays old new name e none files answers = none files (e ∙ answers)

@@ -1,7 +1,7 @@
 -- Inputs whose headers were read, and what is told of them.
 use Rattle.std.proofs.Common.{◌≡◌, ◌⊎◌, inl, inr, ℕ, zero, suc, ◌+◌, ◌<◌, ◌≤◌, List, [], ◌∷◌, ◌++◌, Option, Some, None, Bool, false, length, map, take}
 use Rattle.std.proofs.Common.{refl, ap, sym, ◌∙◌, subst, arith}
-use Rattle.std.specs.Prelude.{slice_get, slice_set, slice_index_or}
+use Rattle.std.specs.Prelude.{slice_get, slice_set, slice_index_or, Err}
 use Rattle.std.proofs.lemmas.List.{length-map, length-append, length-set}
 use Rattle.std.proofs.lemmas.Option.{same_Some, slice_get_within, slice_get-get_or}
 use Rattle.dp_model.specs.Laws.Lists.{get_set_other, get_set_same, each_at}
@@ -9,7 +9,6 @@ use Rattle.dp_pipe.proofs.Forwarded.{split}
 use Rattle.std.specs.List.{list_any, AllByRecursion}
 use Rattle.std.specs.Io.KnownBytes.{Appends, Keeps}
 use Rattle.dp_pcap.specs.declared.time.Unit.{Unit as TimeUnit}
-use Rattle.std.specs.Prelude.{Err}
 use Rattle.std.proofs.KnownBytes.{Keeps-refl}
 use Rattle.dp_pcap.specs.declared.error.PcapError.{PcapError}
 use Rattle.dp_pcap.specs.Source.{WhereKnown, HasRead, HeaderAnswers}
@@ -30,15 +29,15 @@ abbrev pub states_of : List Progress → List InputState
 states_of inputs = map (λ (p : Progress). p.state) inputs
 
 -- the state of one input more is told
-pub told_more : (inputs : List Progress) (ports : List PortReport) (k : ℕ) (p : Progress) (d : PortReport) → k < length inputs
+pub more_answers : (inputs : List Progress) (ports : List PortReport) (k : ℕ) (p : Progress) (d : PortReport) → k < length inputs
     → with_states (take (suc k) (states_of inputs)) ports
     ≡ slice_set (with_states (take k (states_of inputs)) ports) k (record (slice_index_or (with_states (take k (states_of inputs)) ports) k d)
     { state = (slice_index_or inputs k p).state })
-told_more [] ports k p d l = absurd (omega (arith, l))
-told_more (i ∷ inputs) [] zero p d l = refl
-told_more (i ∷ inputs) [] (suc k) p d l = refl
-told_more (i ∷ inputs) (n ∷ ports) zero p d l = refl
-told_more (i ∷ inputs) (n ∷ ports) (suc k) p d l = ap (λ more. record n { state = i.state } ∷ more) (told_more inputs ports k p d (omega (arith, l)))
+more_answers [] ports k p d l = absurd (omega (arith, l))
+more_answers (i ∷ inputs) [] zero p d l = refl
+more_answers (i ∷ inputs) [] (suc k) p d l = refl
+more_answers (i ∷ inputs) (n ∷ ports) zero p d l = refl
+more_answers (i ∷ inputs) (n ∷ ports) (suc k) p d l = ap (λ more. record n { state = i.state } ∷ more) (more_answers inputs ports k p d (omega (arith, l)))
 
 -- one more of the same
 pub same_more : {A B : Type 0} (y : B) (xs : List A) (k : ℕ) → k < length xs → map (λ _. y) (take (suc k) xs) ≡ map (λ _. y) (take k xs) ++ y ∷ []
@@ -59,11 +58,11 @@ no_place f zero a e = cc
 no_place f (suc q) a e = cc
 
 -- the known bytes of a device, where the list of those of all has them
-pub told_at : {W A : Type 0} (f : W → A) (xs : List W) (q : ℕ) (a : A) → slice_get (map f xs) q ≡ Some a → (w : W) × (slice_get xs q ≡ Some w) × (a ≡ f w)
-told_at f [] zero a e = absurd (no_place f zero a e)
-told_at f [] (suc q) a e = absurd (no_place f (suc q) a e)
-told_at f (x ∷ xs) zero a e = (x, refl, sym (same_Some _ _ e))
-told_at f (x ∷ xs) (suc q) a e = told_at f xs q a e
+pub answers_at : {W A : Type 0} (f : W → A) (xs : List W) (q : ℕ) (a : A) → slice_get (map f xs) q ≡ Some a → (w : W) × (slice_get xs q ≡ Some w) × (a ≡ f w)
+answers_at f [] zero a e = absurd (no_place f zero a e)
+answers_at f [] (suc q) a e = absurd (no_place f (suc q) a e)
+answers_at f (x ∷ xs) zero a e = (x, refl, sym (same_Some _ _ e))
+answers_at f (x ∷ xs) (suc q) a e = answers_at f xs q a e
 
 pub changed_none : {W : Type 0} (R : W → W → Type 0) (olds : List W) → Changed R 0 olds olds
 changed_none R olds = record { many = refl; done = λ q w w' l e e'. absurd (omega (arith, l)); rest = λ q l. refl }
@@ -94,12 +93,12 @@ pub all_changed : {W : Type 0} (R : W → W → Type 0) (n : ℕ) (olds news : L
 all_changed R n olds news c e q w w' here there = c.done q w w' (omega (arith, e, slice_get_within olds q w here)) here there
 
 -- a fact of the known bytes of devices, before and after
-pub in_told : {W A : Type 0} (f : W → A) (P : A → A → Type 0) (olds news : List W) (q : ℕ) →
+pub in_answers : {W A : Type 0} (f : W → A) (P : A → A → Type 0) (olds news : List W) (q : ℕ) →
     ((w w' : W) → slice_get olds q ≡ Some w → slice_get news q ≡ Some w' → P (f w) (f w'))
     → (a a' : A) → slice_get (map f olds) q ≡ Some a → slice_get (map f news) q ≡ Some a' → P a a'
-in_told f P olds news q is a a' e e' =
-    let (w, here, a_is) = told_at f olds q a e in
-    let (w', there, a_is') = told_at f news q a' e' in
+in_answers f P olds news q is a a' e e' =
+    let (w, here, a_is) = answers_at f olds q a e in
+    let (w', there, a_is') = answers_at f news q a' e' in
     subst (λ x. P x a') (sym a_is) (subst (P (f w)) (sym a_is') (is w w' here there))
 
 -- a device is what it was
@@ -154,11 +153,11 @@ pub headers_stopped : {W : Type 0} (contents : W → Option (List ℕ)) (R : W �
     AppendsPart (contents w) (contents u) (header_text unit)
     → HeadersStopped unit (map contents olds) (map contents (slice_set news n u)) n
 headers_stopped contents R unit n olds news w u c whole at part = record {
-  before = λ q old new l. in_told contents (λ a a'. Appends a a' (header_text unit)) olds (slice_set news n u) q
+  before = λ q old new l. in_answers contents (λ a a'. Appends a a' (header_text unit)) olds (slice_set news n u) q
       (λ x x' here there. whole x x' (before_of R n olds news u c q x x' l here there)) old new;
-  own = in_told contents (λ a a'. AppendsPart a a' (header_text unit)) olds (slice_set news n u) n
+  own = in_answers contents (λ a a'. AppendsPart a a' (header_text unit)) olds (slice_set news n u) n
       (λ x x' here there. rw (old_of R n olds news w x c at here, new_of n news w u x' at there) part);
-  behind = λ q old new l. in_told contents Keeps olds (slice_set news n u) q
+  behind = λ q old new l. in_answers contents Keeps olds (slice_set news n u) q
       (λ x x' here there. kept_same contents x x' (behind_of R n olds news u c q x x' l here there)) old new;
 }
 
@@ -240,13 +239,13 @@ pub all_stand : {R : Type 0} (remaining : R → Option (List ℕ)) (failures : R
     → ReadFirst remaining failures is_broken n olds news inputs → AllStand (map remaining olds) (map remaining news) inputs (all_begun inputs)
 all_stand {R = R} remaining failures is_broken n olds news inputs c = record {
   many = sym (length-map inputs begun);
-  each = λ q p i at at'. let (w, there, is) = told_at begun inputs q i at' in
+  each = λ q p i at at'. let (w, there, is) = answers_at begun inputs q i at' in
       let same : w ≡ p = same_Some w p (sym there ∙ at) in
       rw (is, same) (stand_begun p (each_at IsBegun inputs q p c.begun at));
-  read = λ q p i old new at at' here there. let (w, there_w, is) = told_at begun inputs q i at' in
+  read = λ q p i old new at at' here there. let (w, there_w, is) = answers_at begun inputs q i at' in
       let same : w ≡ p = same_Some w p (sym there_w ∙ at) in
       let is_open = (each_at IsBegun inputs q p c.begun at).state in
-      in_told remaining (λ a a'. WhereKnown a a' (λ bytes rest. HasReadSo i.state p.source i.records bytes rest)) olds news q
+      in_answers remaining (λ a a'. WhereKnown a a' (λ bytes rest. HasReadSo i.state p.source i.records bytes rest)) olds news q
       (λ x x' here_x there_x. rw (is, same, is_open) (c.read q p x x' at here_x there_x)) old new here there;
 }
 
@@ -255,10 +254,10 @@ pub read_begun : {R : Type 0} (remaining : R → Option (List ℕ)) (failures : 
     Bool) (n : ℕ) (olds news : List R) (inputs : List Progress) (u : R)
     → ReadFirst remaining failures is_broken n olds news inputs → AreRead (map remaining olds) (map remaining (slice_set news n u)) (all_begun inputs)
 read_begun {R = R} remaining failures is_broken n olds news inputs u c q i old new at here there =
-    let (p, there_p, is) = told_at begun inputs q i at in
+    let (p, there_p, is) = answers_at begun inputs q i at in
     let is_open = (each_at IsBegun inputs q p c.begun there_p).state in
     let below : q < n = omega (arith, slice_get_within inputs q p there_p, c.many) in
-    in_told remaining (λ a a'. WhereKnown a a' (λ bytes rest. Gives i.state i.unit i.records bytes)) olds (slice_set news n u) q
+    in_answers remaining (λ a a'. WhereKnown a a' (λ bytes rest. Gives i.state i.unit i.records bytes)) olds (slice_set news n u) q
     (λ x x' here_x there_x. rw (is, is_open) (known_begun p (remaining x) (remaining x')
     (c.read q p x x' there_p here_x (sym (get_set_other news n q u (λ e. absurd (omega (arith, below, e)))) ∙ there_x)))) old new here there
   where
@@ -276,8 +275,8 @@ pub header_fault : {R : Type 0} (remaining : R → Option (List ℕ)) (failures 
     → HasHeaderFault (map remaining olds) (map remaining (slice_set news n u)) n error
 header_fault remaining failures is_broken n olds news inputs r u error c at known = record {
   before = (all_begun inputs, omega (arith, length-map inputs begun, c.many), read_begun remaining failures is_broken n olds news inputs u c);
-  fault = in_told remaining (λ a a'. WhereKnown a a' (λ bytes rest. HeaderAnswers bytes rest (Err error))) olds (slice_set news n u) n
+  fault = in_answers remaining (λ a a'. WhereKnown a a' (λ bytes rest. HeaderAnswers bytes rest (Err error))) olds (slice_set news n u) n
       (λ x x' here there. rw (old_of _ n olds news r x c.changed at here, new_of n news r u x' at there) known);
-  behind = λ q old new l. in_told remaining Keeps olds (slice_set news n u) q
+  behind = λ q old new l. in_answers remaining Keeps olds (slice_set news n u) q
       (λ x x' here there. kept_same remaining x x' (behind_of _ n olds news u c.changed q x x' l here there)) old new;
 }

@@ -189,20 +189,20 @@ module _ (p : Plan) (pattern : List ℕ) (first last : EngineState) (unit : Time
   abbrev pub earlier : PacketRun p pattern f.before
   earlier = run_of p pattern first f.engine f.before f.captures ready is f.run
 
-  pub turned : Turn (setting_in p pattern) (programs_in p) f.last.port f.last.bytes f.engine.world f.turn.outcome f.turn.runs f.turn.told f.behind.world
-  turned = subst (λ (c : Setting). Turn c (programs_in p) f.last.port f.last.bytes f.engine.world f.turn.outcome f.turn.runs f.turn.told f.behind.world)
+  pub turned : Turn (setting_in p pattern) (programs_in p) f.last.port f.last.bytes f.engine.world f.turn.outcome f.turn.runs f.turn.answers f.behind.world
+  turned = subst (λ (c : Setting). Turn c (programs_in p) f.last.port f.last.bytes f.engine.world f.turn.outcome f.turn.runs f.turn.answers f.behind.world)
       engine_setting
-      (subst (λ (n : Nodes). Turn f.engine.setting n f.last.port f.last.bytes f.engine.world f.turn.outcome f.turn.runs f.turn.told f.behind.world)
+      (subst (λ (n : Nodes). Turn f.engine.setting n f.last.port f.last.bytes f.engine.world f.turn.outcome f.turn.runs f.turn.answers f.behind.world)
       (ap (λ (e : EngineState). e.nodes) f.run.stays ∙ is.nodes) f.turn.turn)
 
   pub pushed : Run (setting_in p pattern) (programs_in p) (f.before ++ f.last ∷ []) first.world
-      (with_turn f.last.time f.turn.outcome f.turn.told f.behind.world (shown_in f.run)) (with_empty_outboxes f.behind.world)
+      (with_turn f.last.time f.turn.outcome f.turn.answers f.behind.world (shown_in f.run)) (with_empty_outboxes f.behind.world)
   pushed = run_push (setting_in p pattern) (programs_in p) f.before f.last first.world f.engine.world f.behind.world (shown_in f.run)
-      f.turn.outcome f.turn.runs f.turn.told boxes
+      f.turn.outcome f.turn.runs f.turn.answers boxes
       (ran p pattern first f.engine f.before f.captures is f.run) turned
 
   abbrev pub through : PacketRun p pattern (f.before ++ f.last ∷ [])
-  through = packet_run p pattern (f.before ++ f.last ∷ []) first.world (with_empty_outboxes f.behind.world) (f.run.told ++ f.turn.told) (f.run.outcomes
+  through = packet_run p pattern (f.before ++ f.last ∷ []) first.world (with_empty_outboxes f.behind.world) (f.run.answers ++ f.turn.answers) (f.run.outcomes
       ++ f.turn.outcome ∷ [])
       (joined f.captures (records_at f.last.time f.behind.world)) ready is.start pushed
 
@@ -212,9 +212,9 @@ module _ (p : Plan) (pattern : List ℕ) (first last : EngineState) (unit : Time
     mid = f.behind.world;
     outcome = f.turn.outcome;
     runs = f.turn.runs;
-    told = f.turn.told;
+    answers = f.turn.answers;
     turn = turned;
-    told_is = refl;
+    answers_are = refl;
     outcomes_are = refl;
     captures_are = refl;
     last_is = refl;

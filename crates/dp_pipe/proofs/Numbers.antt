@@ -132,9 +132,9 @@ pub numbers_reported : (p : Plan) (pattern : List ℕ) (arrivals : List (Arrival
 numbers_reported p pattern arrivals run e progress inputs sent r few_ports few_rings many states c is_report =
     let ports_same : length e.setting.env.ports ≡ length p.env.ports = ap (λ (s : Setting). length s.env.ports) c.setting in
     let rings_same : length e.setting.env.rings ≡ length p.env.rings = ap (λ (s : Setting). length s.env.rings) c.setting in
-    let told = map (port_report Open) (take (length e.setting.env.ports) e.tallies) in
+    let answers = map (port_report Open) (take (length e.setting.env.ports) e.tallies) in
     record {
-      many = ap length is_report.ports ∙ states_many (map (λ (x : Progress). x.state) progress) told
+      many = ap length is_report.ports ∙ states_many (map (λ (x : Progress). x.state) progress) answers
           ∙ length-map (take (length e.setting.env.ports) e.tallies) (port_report Open)
           ∙ length-take-le (length e.setting.env.ports) e.tallies (omega (arith, ports_same, few_ports, c.tallies_many)) ∙ ports_same;
       ports = λ q i at.
@@ -143,7 +143,7 @@ numbers_reported p pattern arrivals run e progress inputs sent r few_ports few_r
           (omega (arith, ports_same, few_ports, c.tallies_many)) in
           let numbers = reported q arrivals run.outcomes (tallies_at e.tallies q) (sent q) (c.tallies q within) in
           ap (λ l. slice_get l q) is_report.ports
-          ∙ states_at (map (λ (x : Progress). x.state) progress) told q i.state (port_report Open (tallies_at e.tallies q))
+          ∙ states_at (map (λ (x : Progress). x.state) progress) answers q i.state (port_report Open (tallies_at e.tallies q))
           (ap (λ l. slice_get l q) (sym states) ∙ state_at inputs q i at) here
           ∙ ap (λ (x : PortReport). Some (record x { state = i.state })) numbers;
       rings = is_report.rings ∙ ap (λ l. take (length e.setting.env.rings) (with_left l (left_in_rings e.world))) c.left

@@ -30,7 +30,7 @@ pub record AreLaws : Type 0 where
       → KeepsRunsSafe c nodes arrivals w
   pub copies : (c : Setting) (nodes : Nodes) (arrivals : List (Arrival Time)) (w w' : World) (shown : Shown Time)
       → fault_of c.env ≡ None → IsStart c.env w → Run c nodes arrivals w shown w'
-      → Captures c.env c.tables nodes arrivals shown.told shown.captures w'.cuts
+      → Captures c.env c.tables nodes arrivals shown.answers shown.captures w'.cuts
 
 -- a pipeline of checked programs, within the limits, whose tables are as its environment has them
 pub record IsReady (p : Plan) (pattern : List ℕ) : Type 0 where
@@ -44,22 +44,22 @@ pub safe_runs : (p : Plan) (pattern : List ℕ) (arrivals : List (Arrival Time))
     → KeepsRunsSafe (setting_in p pattern) (programs_in p) arrivals w
 safe_runs p pattern arrivals w ready start = ready.laws.safe (setting_in p pattern) (programs_in p) arrivals w ready.tables ready.pipeline start
 
-abbrev pub packet_run : (p : Plan) (pattern : List ℕ) (arrivals : List (Arrival Time)) (first last : World) (told : List Bool) (outcomes : List Outcome)
+abbrev pub packet_run : (p : Plan) (pattern : List ℕ) (arrivals : List (Arrival Time)) (first last : World) (answers : List Bool) (outcomes : List Outcome)
     (captures : List (List (Time × List ℕ)))
     → IsReady p pattern → IsStart p.env first
-    → Run (setting_in p pattern) (programs_in p) arrivals first (record { told = told; outcomes = outcomes; captures = captures }) last →
+    → Run (setting_in p pattern) (programs_in p) arrivals first (record { answers = answers; outcomes = outcomes; captures = captures }) last →
     PacketRun p pattern arrivals
-packet_run p pattern arrivals first last told outcomes captures ready start run = record {
+packet_run p pattern arrivals first last answers outcomes captures ready start run = record {
   first = first;
   start = start;
-  told = told;
+  answers = answers;
   outcomes = outcomes;
   captures = captures;
   last = last;
   run = run;
   never_stuck = λ b of. safe_never_stuck (setting_in p pattern) b ((safe_runs p pattern arrivals first ready start).runs b of);
   copies = ready.laws.copies (setting_in p pattern) (programs_in p) arrivals first last
-      (record { told = told; outcomes = outcomes; captures = captures }) ready.limits start run;
+      (record { answers = answers; outcomes = outcomes; captures = captures }) ready.limits start run;
 }
 
 zip_length : {X Y : Type 0} (P : X → Y → Type 0) (xs : List X) (ys : List Y) → AllZip P xs ys → length ys ≡ length xs
@@ -73,7 +73,7 @@ pub rings_there : (p : Plan) (pattern : List ℕ) (arrivals : List (Arrival Time
     length run.last.rings ≡ length p.env.rings
 rings_there p pattern arrivals ready run =
     let rest = (safe_runs p pattern arrivals run.first ready run.start).rests
-    (record { told = run.told; outcomes = run.outcomes; captures = run.captures }) run.last run.run in
+    (record { answers = run.answers; outcomes = run.outcomes; captures = run.captures }) run.last run.run in
     zip_length _ p.env.rings run.last.rings rest.ready.world.rings
 
 pub ran : (p : Plan) (pattern : List ℕ) (first last : EngineState) (arrivals : List (Arrival Time)) (captures : List (List (Time × List ℕ))) →
@@ -87,7 +87,7 @@ ran p pattern first last arrivals captures is r =
 abbrev pub run_of : (p : Plan) (pattern : List ℕ) (first last : EngineState) (arrivals : List (Arrival Time)) (captures : List (List (Time × List ℕ)))
     → IsReady p pattern → IsFirst p pattern first → HasRun first last arrivals captures → PacketRun p pattern arrivals
 run_of p pattern first last arrivals captures ready is r =
-    packet_run p pattern arrivals first.world last.world r.told r.outcomes captures ready is.start (ran p pattern first last arrivals captures is r)
+    packet_run p pattern arrivals first.world last.world r.answers r.outcomes captures ready is.start (ran p pattern first last arrivals captures is r)
 
 -- no count is anything but 0 at first
 none_in : (n q : ℕ) → tallies_at (replicate n no_tallies) q ≡ no_tallies

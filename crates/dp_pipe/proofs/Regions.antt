@@ -1,9 +1,8 @@
 -- The region of a file is one that there may be.
 use Rattle.std.proofs.Common.{◌≡◌, ℕ, ◌≤◌, ◌%◌, ℤ, Bool, true, false, Option, Some, None, Result, Ok, Err, pos, negsuc, refl, ap, sym, ◌∙◌, subst}
-use Rattle.std.specs.Prelude.{nat_le, ◌==◌, ◌&&◌, if◌then◌else◌, option_and_then, ok_or}
+use Rattle.std.specs.Prelude.{nat_le, ◌==◌, ◌&&◌, if◌then◌else◌, option_and_then, ok_or, codes}
 use Rattle.std.proofs.lemmas.Bool.{and_parts, leb-true, eqb-true}
 use Rattle.std.proofs.lemmas.Option.{same_Some}
-use Rattle.std.specs.Prelude.{codes}
 use Rattle.toml.specs.Data.{Members, as_integer, get_member}
 use Rattle.dp_region.specs.Region.{IsRegionSize}
 use Rattle.dp_pipe.specs.Keys.{up_to}

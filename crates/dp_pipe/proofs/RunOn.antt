@@ -24,13 +24,13 @@ arrival port time bytes = record { port = port; time = time; bytes = bytes }
 -- what the run of an engine shows
 abbrev pub shown_in : {e e' : EngineState} {arrivals : List (Arrival Time)} {captures : List (List (Time × List ℕ))} → HasRun e e' arrivals captures
     → Shown Time
-shown_in {e} {e'} {arrivals} {captures} run = record { told = run.told; outcomes = run.outcomes; captures = captures }
+shown_in {e} {e'} {arrivals} {captures} run = record { answers = run.answers; outcomes = run.outcomes; captures = captures }
 
 -- each record has an outcome
 pub outcomes_many : (c : Setting) (nodes : Nodes) (arrivals : List (Arrival Time)) (w w' : World) (shown : Shown Time)
     → Run c nodes arrivals w shown w' → length shown.outcomes ≡ length arrivals
 outcomes_many c nodes [] w w' shown (none, is) = ap (λ (s : Shown Time). length s.outcomes) none
-outcomes_many c nodes (a ∷ arrivals) w w' shown (outcome, told, runs, mid, rest, turn, run, is) =
+outcomes_many c nodes (a ∷ arrivals) w w' shown (outcome, answers, runs, mid, rest, turn, run, is) =
     ap (λ (s : Shown Time). length s.outcomes) is ∙ ap suc (outcomes_many c nodes arrivals (with_empty_outboxes mid) w' rest run)
 
 -- as many captures as ports, at most
@@ -41,7 +41,7 @@ captures_many c nodes [] w w' shown (none, is) = omega (arith, ap (λ (s : Shown
     length_none : (n : ℕ) → length {A = List (Time × List ℕ)} (replicate n []) ≡ n
     length_none zero = refl
     length_none (suc n) = ap suc (length_none n)
-captures_many c nodes (a ∷ arrivals) w w' shown (outcome, told, runs, mid, rest, turn, run, is) =
+captures_many c nodes (a ∷ arrivals) w w' shown (outcome, answers, runs, mid, rest, turn, run, is) =
     omega (
       arith,
       ap (λ (s : Shown Time). length s.captures) is,
@@ -109,10 +109,10 @@ pub run_on : (e e1 e2 e3 : EngineState) (port : ℕ) (time : Time) (bytes : List
 run_on e e1 e2 e3 port time bytes arrivals captures unit mids holds there boxes run turn all =
     let setting1 = ap (λ (x : EngineState). x.setting) run.stays in
     let nodes1 = ap (λ (x : EngineState). x.nodes) run.stays in
-    let turned : Turn e.setting e.nodes port bytes e1.world turn.outcome turn.runs turn.told e2.world =
-    subst (λ (x : EngineState). Turn x.setting x.nodes port bytes e1.world turn.outcome turn.runs turn.told e2.world) (run.stays) turn.turn in
+    let turned : Turn e.setting e.nodes port bytes e1.world turn.outcome turn.runs turn.answers e2.world =
+    subst (λ (x : EngineState). Turn x.setting x.nodes port bytes e1.world turn.outcome turn.runs turn.answers e2.world) (run.stays) turn.turn in
     let pushed = run_push e.setting e.nodes arrivals (arrival port time bytes) e.world e1.world e2.world (shown_in run) turn.outcome turn.runs
-    turn.told boxes run.run turned in
+    turn.answers boxes run.run turned in
     let n = length e.setting.env.ports in
     let world3 : e3.world ≡ with_empty_outboxes e2.world =
     ap (λ (x : EngineState). x.world) all.is ∙ ap (λ l. record e2.world { outboxes = l }) (ap (λ m. emptied m e2.world.outboxes) (sym boxes)
@@ -126,10 +126,10 @@ run_on e e1 e2 e3 port time bytes arrivals captures unit mids holds there boxes 
     (all.is ∙ ap (λ w. record e2 { world = w; tallies = e3.tallies }) (sym (ap (λ (x : EngineState). x.world) all.is))) in
     let turns3 : e3.turns ≡ e1.turns + 1 = ap (λ (x : EngineState). x.turns) stays3 in
     record {
-      told = run.told ++ turn.told;
+      answers = run.answers ++ turn.answers;
       outcomes = run.outcomes ++ turn.outcome ∷ [];
       run = subst (Run e.setting e.nodes (arrivals ++ arrival port time bytes ∷ []) e.world
-          (with_turn time turn.outcome turn.told e2.world (shown_in run))) (sym world3) pushed;
+          (with_turn time turn.outcome turn.answers e2.world (shown_in run))) (sym world3) pushed;
       turns = omega (arith, turns3, run.turns, length-append arrivals (arrival port time bytes ∷ []));
       each = all.each ∙ ap (λ (x : EngineState). length x.tallies) turn.is ∙ length-set e1.tallies port (counted turn.outcome (tallies_at e1.tallies port))
           ∙ run.each;

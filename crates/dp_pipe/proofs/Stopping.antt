@@ -22,8 +22,7 @@ use Rattle.dp_pipe.specs.declared.forwarding.Progress.{Progress}
 use Rattle.dp_pipe.specs.declared.forwarding.RunCause.{RunCause}
 use Rattle.dp_pipe.specs.declared.forwarding.RunCause.TheVariants.{In, Out}
 use Rattle.dp_pipe.specs.Forwarding.{Input, HasReadSo, Gives, AreRead, Refuses, Stands, AllStand, ReadsTurn, Follows, Advances, Along, Stops, arrivals_of}
-use Rattle.dp_pipe.specs.Forwarding.{TakesTurn, DrainsStopped}
-use Rattle.dp_pipe.specs.Forwarding.{unit_for}
+use Rattle.dp_pipe.specs.Forwarding.{TakesTurn, DrainsStopped, unit_for}
 use Rattle.dp_pipe.proofs.Forwarded.{split}
 use Rattle.dp_pipe.proofs.Indices.{set_here, set_itself}
 use Rattle.dp_pipe.proofs.RunOn.{arrival}

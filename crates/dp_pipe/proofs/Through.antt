@@ -22,7 +22,7 @@ use Rattle.dp_pipe.specs.declared.forwarding.RunCause.TheVariants.{Memory, NoRoo
 use Rattle.dp_pipe.specs.Forwarding.{Input, AllStand, asked, Along, HasRun, AreRounds, FailedAt, arrivals_of}
 use Rattle.dp_pipe.specs.Forwarding.{records_in, records_many, capture_at, tally_of, AreRead, unit_for, units_of}
 use Rattle.dp_pipe.specs.Running.{all_begun, begun, IsBegun, GoesForward, answer_of, HeadersFail, IsHeaderCause, IsWriteCause}
-use Rattle.dp_pipe.proofs.Heading.{told_at}
+use Rattle.dp_pipe.proofs.Heading.{answers_at}
 
 -- ---- before the first round
 
@@ -51,7 +51,7 @@ no_capture (suc n) (suc q) = no_capture n q
 
 run_none : (e : EngineState) → HasRun e e [] (replicate (length e.setting.env.ports) [])
 run_none e = record {
-  told = [];
+  answers = [];
   outcomes = [];
   run = (refl, refl);
   turns = omega arith;
@@ -81,7 +81,7 @@ along_none unit e olds news mids progress first many inputs_many unit_is stand b
   inputs_many = length-map progress begun ∙ inputs_many;
   unit_is = unit_is;
   stand = stand;
-  order = λ q i at. let (p, there, is) = told_at begun progress q i at in
+  order = λ q i at. let (p, there, is) = answers_at begun progress q i at in
       let is_open = (each_at IsBegun progress q p begins there).state in
       rw (is, is_open) (sym (asked_none q));
   total = rw (no_arrivals progress) (sym (many_none progress));

@@ -3,7 +3,7 @@ use Rattle.std.specs.Prelude.{ℕ, List, ◌++◌, codes}
 use Rattle.std.specs.Fmt.{decimal}
 use Rattle.dp_model.specs.declared.env.Entry.{Entry}
 use Rattle.dp_model.specs.declared.env.Entry.TheVariants as entry
-use Rattle.dp_model.specs.Environments.{number_of_cause, place_of_cause}
+use Rattle.dp_model.specs.Environments.{number_of_cause, index_of_cause}
 use Rattle.dp_lang.specs.Causes as lang
 use Rattle.dp_cert.specs.Faults as cert
 use Rattle.dp_lpm.specs.Faults as lpm
@@ -52,7 +52,7 @@ abbrev pub text_of : PipeError → List ℕ
 text_of Memory = codes "memory"
 text_of NotToml = codes "1 NotToml"
 text_of (BadKey kind index) = codes "2 BadKey " ++ (part_text kind ++ (codes " " ++ decimal index))
-text_of (BadEnv error) = codes "3 BadEnv " ++ (decimal (number_of_cause error) ++ (codes " " ++ decimal (place_of_cause error)))
+text_of (BadEnv error) = codes "3 BadEnv " ++ (decimal (number_of_cause error) ++ (codes " " ++ decimal (index_of_cause error)))
 text_of (BadTable table route cause) = codes "4 BadTable " ++ (decimal table
     ++ (codes " " ++ (decimal route ++ (codes " " ++ decimal (number_of_route cause)))))
 text_of (File node) = codes "5 File " ++ node_text node

@@ -110,9 +110,9 @@ capture_of records = map captured records
 
 -- from one engine to a later one there was a run on these arrivals, with these captures, and it was counted
 pub record HasRun (e e' : EngineState) (arrivals : List (Arrival Time)) (captures : List (List (Time × List ℕ))) : Type 0 where
-  pub told : List Bool
+  pub answers : List Bool
   pub outcomes : List Outcome
-  pub run : Run e.setting e.nodes arrivals e.world (record { told = told; outcomes = outcomes; captures = captures }) e'.world
+  pub run : Run e.setting e.nodes arrivals e.world (record { answers = answers; outcomes = outcomes; captures = captures }) e'.world
   pub turns : e'.turns ≡ e.turns + length arrivals
   pub each : length e'.tallies ≡ length e.tallies
   pub tallies : (port : ℕ) (sent : List (Time × List ℕ)) → slice_get captures port ≡ Some sent
@@ -171,8 +171,8 @@ is_over (Cut byte) = true
 pub record TakesTurn (port : ℕ) (e e' : EngineState) (bytes : List ℕ) : Type 0 where
   pub outcome : Outcome
   pub runs : ℕ
-  pub told : List Bool
-  pub turn : Turn e.setting e.nodes port bytes e.world outcome runs told e'.world
+  pub answers : List Bool
+  pub turn : Turn e.setting e.nodes port bytes e.world outcome runs answers e'.world
   pub is : e' ≡ record e { world = e'.world; turns = e.turns + 1; tallies = counted_at port outcome e.tallies }
   -- each port has its transmit list
   pub lists : length e'.world.outboxes ≡ length e'.setting.env.ports

@@ -35,14 +35,14 @@ use Rattle.dp_pipe.specs.Running.{setting_in, programs_in, IsIdle, HasHeaderFaul
 pub record PacketRun (p : Plan) (pattern : List ℕ) (arrivals : List (Arrival Time)) : Type 0 where
   pub first : World
   pub start : IsStart p.env first
-  pub told : List Bool
+  pub answers : List Bool
   pub outcomes : List Outcome
   pub captures : List (List (Time × List ℕ))
   pub last : World
-  pub run : Run (setting_in p pattern) (programs_in p) arrivals first (record { told = told; outcomes = outcomes; captures = captures }) last
+  pub run : Run (setting_in p pattern) (programs_in p) arrivals first (record { answers = answers; outcomes = outcomes; captures = captures }) last
   pub never_stuck : (b : Beginning) → IsOfRun (setting_in p pattern) (programs_in p) arrivals first b →
       NeverStuck (setting_in p pattern) b.program b.packet b.number b.world
-  pub copies : Captures p.env (routes_of p.tables) (programs_in p) arrivals told captures last.cuts
+  pub copies : Captures p.env (routes_of p.tables) (programs_in p) arrivals answers captures last.cuts
 
 -- ---- what was written
 
@@ -152,9 +152,9 @@ pub record GoesOnBy (p : Plan) (pattern : List ℕ) (before : List (Arrival Time
   pub mid : World
   pub outcome : Outcome
   pub runs : ℕ
-  pub told : List Bool
-  pub turn : Turn (setting_in p pattern) (programs_in p) last.port last.bytes earlier.last outcome runs told mid
-  pub told_is : run.told ≡ earlier.told ++ told
+  pub answers : List Bool
+  pub turn : Turn (setting_in p pattern) (programs_in p) last.port last.bytes earlier.last outcome runs answers mid
+  pub answers_are : run.answers ≡ earlier.answers ++ answers
   pub outcomes_are : run.outcomes ≡ earlier.outcomes ++ outcome ∷ []
   pub captures_are : run.captures ≡ joined earlier.captures (records_at last.time mid)
   pub last_is : run.last ≡ with_empty_outboxes mid

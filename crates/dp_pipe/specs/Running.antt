@@ -1,6 +1,5 @@
 -- What the run of a pipeline answers: what it read, the run of packets that it made, what it wrote, and what it reports.
-use Rattle.std.specs.Prelude.{◌≡◌, ℕ, ◌<◌, ◌≤◌, ◌⊎◌, List, [], ◌∷◌, length, map, take, replicate, Option}
-use Rattle.std.specs.Prelude.{Some, slice_get, Result, Ok, Err, ⊤}
+use Rattle.std.specs.Prelude.{◌≡◌, ℕ, ◌<◌, ◌≤◌, ◌⊎◌, List, [], ◌∷◌, length, map, take, replicate, Option, Some, slice_get, Result, Ok, Err, ⊤}
 use Rattle.std.specs.List.{AllByRecursion}
 use Rattle.std.specs.Io.KnownBytes.{Appends, Keeps}
 use Rattle.dp_pcap.specs.declared.time.Unit.{Unit as TimeUnit}

@@ -87,7 +87,7 @@ impl fmt::Display for PipeError {
             PipeError::Memory => write!(f, "memory"),
             PipeError::NotToml => write!(f, "1 NotToml"),
             PipeError::BadKey { part, index } => write!(f, "2 BadKey {part} {index}"),
-            PipeError::BadEnv(error) => write!(f, "3 BadEnv {} {}", error.number(), error.place()),
+            PipeError::BadEnv(error) => write!(f, "3 BadEnv {} {}", error.number(), error.index()),
             PipeError::BadTable {
                 table,
                 route,

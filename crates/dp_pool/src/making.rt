@@ -1,8 +1,7 @@
 //! Pools that are made, and taken apart.
 
 ghost use Rattle.std.specs.Prelude.{◌≡◌, ◌+◌, ◌*◌, ◌<◌, ◌≤◌, ◌++◌, true, false, codes, length, replicate, IfOk, IfErr, IfSome, IfNone, OnErr, MatchResult};
-ghost use Rattle.std.specs.Prelude.{count_by, not, max};
-ghost use Rattle.std.specs.Prelude.{◌⊎◌};
+ghost use Rattle.std.specs.Prelude.{count_by, not, max, ◌⊎◌};
 ghost use Rattle.std.specs.Int.{IsNextPowerOfTwo};
 ghost use Rattle.dp_heap.specs.Elements.{rounded, merged, IsOut, count_of, is_busy};
 ghost use Rattle.dp_zone.specs.Zones.{IsZoneRefused, without_name};

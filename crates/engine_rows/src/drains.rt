@@ -22,7 +22,7 @@ fn whole_in(bytes: usize) -> u32 {
 
 // Whether all is well with a drain of the three records by a writer that takes so many bytes a call and fails behind the
 // first `left`: these are written, as many records are told as end within them, and nothing is left to be sent or in use.
-fn is_told(rt: &HostRuntime, most: usize, left: usize) -> Result<bool, Fail>
+fn are_answered(rt: &HostRuntime, most: usize, left: usize) -> Result<bool, Fail>
     requires { 0 < most }
 {
     let pool = PoolSpec {
@@ -66,7 +66,7 @@ fn is_told(rt: &HostRuntime, most: usize, left: usize) -> Result<bool, Fail>
 fn a_writer_that_fails_at_each_byte(rt: HostRuntime) -> Result<(), Fail> {
     for most in [1usize, 10, 1000] {
         for left in 0..205usize {
-            assert!(rt; is_told(&rt, most, left)?, "{most} {left}");
+            assert!(rt; are_answered(&rt, most, left)?, "{most} {left}");
         }
     }
     Ok(())

@@ -199,7 +199,7 @@ fn causes_have_numbers_places_and_texts(rt: HostRuntime) -> Result<(), Fail> {
         ),
     ] {
         assert_eq!(rt; cause.number(), number, "{cause:?}");
-        assert_eq!(rt; cause.place(), place, "{cause:?}");
+        assert_eq!(rt; cause.index(), place, "{cause:?}");
         let shown = format!(in rt.alloc(); "{cause}")?;
         assert_eq!(rt; shown.as_str(), text, "{cause:?}");
     }

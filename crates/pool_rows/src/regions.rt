@@ -82,7 +82,7 @@ fn bytes_stay_as_the_holder_left_them(rt: HostRuntime) -> Result<(), Fail> {
     Ok(())
 }
 
-// With the first allocation refused, `Memory` is told.
+// With the first allocation refused, it is `Memory`.
 #[test]
 fn want_of_memory_is_told(rt: HostRuntime) {
     match Region::new(rt.alloc(), 4096) {

@@ -33,7 +33,7 @@ impl Engine {
         requires exists { port < length self.old.setting.env.ports }
         requires limit { self.old.turns < most_turns }
         requires size { length bytes.now ≤ LARGEST_RECORD }
-        ensures turn { (told : List Bool) × IsTurn self.old.setting self.old.nodes port bytes.now self.old.world (outcome_of result.outcome) result.runs told
+        ensures turn { (answers : List Bool) × IsTurn self.old.setting self.old.nodes port bytes.now self.old.world (outcome_of result.outcome) result.runs answers
             self.new.world }
         ensures never_stuck { (b : Beginning) → IsOfTurn self.old.setting self.old.nodes port bytes.now self.old.world b →
             NeverStuck self.old.setting b.program b.packet b.number b.world }
@@ -57,7 +57,7 @@ impl Engine {
         requires exists { port < length self.old.setting.env.ports }
         requires limit { self.old.turns < most_turns }
         requires size { length bytes.now ≤ LARGEST_RECORD }
-        ensures turn { (told : List Bool) × IsTurn self.old.setting self.old.nodes port bytes.now self.old.world (outcome_of result.outcome) result.runs told
+        ensures turn { (answers : List Bool) × IsTurn self.old.setting self.old.nodes port bytes.now self.old.world (outcome_of result.outcome) result.runs answers
             self.new.world }
         ensures never_stuck { (b : Beginning) → IsOfTurn self.old.setting self.old.nodes port bytes.now self.old.world b →
             NeverStuck self.old.setting b.program b.packet b.number b.world }

@@ -85,23 +85,23 @@ impl Machine {
         self.mbufs.append(&packet, n);
     }
 
-    // The number at a place of the first segment, the highest byte first.
-    pub(crate) fn load(&self, p: PacketRegister, place: u64, width: Width) -> u64
-        requires { (k : Packet) × Holds self.now.state p k × (place + bytes_in width ≤ first_len k) }
-        ensures { (k : Packet) → Holds self.now.state p k → result ≡ loaded place (bytes_in width) k self.now.state.world.buffers }
+    // The number at an offset of the first segment, the highest byte first.
+    pub(crate) fn load(&self, p: PacketRegister, offset: u64, width: Width) -> u64
+        requires { (k : Packet) × Holds self.now.state p k × (offset + bytes_in width ≤ first_len k) }
+        ensures { (k : Packet) → Holds self.now.state p k → result ≡ loaded offset (bytes_in width) k self.now.state.world.buffers }
     {
         let packet = handle_in(&self.registers, p);
-        self.mbufs.load(&packet, place, width)
+        self.mbufs.load(&packet, offset, width)
     }
 
-    // Writes the low bytes of a number at a place of the first segment.
-    pub(crate) fn store(&mut self, p: PacketRegister, place: u64, width: Width, n: u64)
-        requires { (k : Packet) × Holds self.old.state p k × (place + bytes_in width ≤ first_len k) × IsHeadSole (live self.old.state) k }
+    // Writes the low bytes of a number at an offset of the first segment.
+    pub(crate) fn store(&mut self, p: PacketRegister, offset: u64, width: Width, n: u64)
+        requires { (k : Packet) × Holds self.old.state p k × (offset + bytes_in width ≤ first_len k) × IsHeadSole (live self.old.state) k }
         ensures { (k : Packet) → Holds self.old.state p k → self.new ≡ moved
-            (with_buffers (stored place (bytes_in width) n k self.old.state.world.buffers) self.old.state) self.old }
+            (with_buffers (stored offset (bytes_in width) n k self.old.state.world.buffers) self.old.state) self.old }
     {
         let packet = handle_in(&self.registers, p);
-        self.mbufs.store(&packet, place, width, n);
+        self.mbufs.store(&packet, offset, width, n);
     }
 
     // The second packet behind the first. Its register is empty then.

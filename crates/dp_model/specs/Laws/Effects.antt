@@ -15,35 +15,35 @@ use Rattle.dp_model.specs.Laws.Cases.{matched}
 
 -- what an instruction did to a state, with what stood there before
 pub data Effect (c : Setting) (s : State) (m : Move) : Type 0 where
-  Kept : m.state ≡ s → m.told ≡ [] → Effect c s m
-  Calculated : (numbers : List ℕ) → m.state ≡ record s { numbers = numbers } → m.told ≡ [] → Effect c s m
-  Refused : m.state ≡ with_call s → m.told ≡ false ∷ [] → Effect c s m
+  Kept : m.state ≡ s → m.answers ≡ [] → Effect c s m
+  Calculated : (numbers : List ℕ) → m.state ≡ record s { numbers = numbers } → m.answers ≡ [] → Effect c s m
+  Refused : m.state ≡ with_call s → m.answers ≡ false ∷ [] → Effect c s m
   Allocated : (p pool : ℕ) (ns : List Number) (buffers : Buffers) → IsEmpty s p → AreFresh c.env.pools (live s) pool 1 ns →
       ChangesOnly ns s.world.buffers buffers → m.state ≡ with_call (with_packet p (allocated c.env.pools ns) (with_buffers buffers s)) →
-      m.told ≡ true ∷ [] → Effect c s m
+      m.answers ≡ true ∷ [] → Effect c s m
   Cloned : (p q pool : ℕ) (k : Packet) (ns : List Number) → Holds s q k → IsEmpty s p → AreFresh c.env.pools (live s) pool (length k) ns →
-      m.state ≡ with_call (with_packet p (cloned ns k) s) → m.told ≡ true ∷ [] → Effect c s m
-  Freed : (p : ℕ) (k : Packet) → Holds s p k → m.state ≡ without_packet p s → m.told ≡ [] → Effect c s m
+      m.state ≡ with_call (with_packet p (cloned ns k) s) → m.answers ≡ true ∷ [] → Effect c s m
+  Freed : (p : ℕ) (k : Packet) → Holds s p k → m.state ≡ without_packet p s → m.answers ≡ [] → Effect c s m
   Prepended : (p n : ℕ) (k : Packet) → Holds s p k → n ≤ headroom k → IsHeadSole (live s) k →
-      m.state ≡ with_packet p (at_front (more_before n) k) (with_buffers (zeroed_before n k s.world.buffers) s) → m.told ≡ [] → Effect c s m
+      m.state ≡ with_packet p (at_front (more_before n) k) (with_buffers (zeroed_before n k s.world.buffers) s) → m.answers ≡ [] → Effect c s m
   Appended : (p n : ℕ) (k : Packet) → Holds s p k → n ≤ tailroom c.env.pools k → IsTailSole (live s) k →
-      m.state ≡ with_packet p (at_end (more_behind n) k) (with_buffers (zeroed_behind n k s.world.buffers) s) → m.told ≡ [] → Effect c s m
-  Adjusted : (p n : ℕ) (k : Packet) → Holds s p k → n ≤ first_len k → m.state ≡ with_packet p (at_front (less_before n) k) s → m.told ≡ [] → Effect c s m
-  Trimmed : (p n : ℕ) (k : Packet) → Holds s p k → n ≤ last_len k → m.state ≡ with_packet p (at_end (less_behind n) k) s → m.told ≡ [] → Effect c s m
+      m.state ≡ with_packet p (at_end (more_behind n) k) (with_buffers (zeroed_behind n k s.world.buffers) s) → m.answers ≡ [] → Effect c s m
+  Adjusted : (p n : ℕ) (k : Packet) → Holds s p k → n ≤ first_len k → m.state ≡ with_packet p (at_front (less_before n) k) s → m.answers ≡ [] → Effect c s m
+  Trimmed : (p n : ℕ) (k : Packet) → Holds s p k → n ≤ last_len k → m.state ≡ with_packet p (at_end (less_behind n) k) s → m.answers ≡ [] → Effect c s m
   Chained : (p q : ℕ) (k t : Packet) → Holds s p k → Holds s q t → p ≢ q → length k + length t ≤ most_segments →
-      m.state ≡ without_packet q (with_packet p (k ++ t) s) → m.told ≡ [] → Effect c s m
+      m.state ≡ without_packet q (with_packet p (k ++ t) s) → m.answers ≡ [] → Effect c s m
   Stored : (p offset w n : ℕ) (k : Packet) → Holds s p k → offset + w ≤ first_len k → IsHeadSole (live s) k →
-      m.state ≡ with_buffers (stored offset w n k s.world.buffers) s → m.told ≡ [] → Effect c s m
+      m.state ≡ with_buffers (stored offset w n k s.world.buffers) s → m.answers ≡ [] → Effect c s m
   Sent : (p port : ℕ) (k : Packet) (packets : List Packet) → Holds s p k → slice_get s.world.outboxes port ≡ Some packets →
-      m.state ≡ with_outbox port (packets ++ k ∷ []) (without_packet p s) → m.told ≡ [] → Effect c s m
+      m.state ≡ with_outbox port (packets ++ k ∷ []) (without_packet p s) → m.answers ≡ [] → Effect c s m
   Queued : (p ring : ℕ) (k : Packet) (packets : List Packet) → Holds s p k → slice_get s.world.rings ring ≡ Some packets →
-      m.state ≡ with_ring ring (packets ++ k ∷ []) (without_packet p s) → m.told ≡ [] → Effect c s m
+      m.state ≡ with_ring ring (packets ++ k ∷ []) (without_packet p s) → m.answers ≡ [] → Effect c s m
 
 abbrev state_of_move : Move → State
 state_of_move m = m.state
 
 abbrev answers_of : Move → List Bool
-answers_of m = m.told
+answers_of m = m.answers
 
 module _ (c : Setting) (s : State) (m : Move) where
   -- a test leaves all as it is, wherever it leads
@@ -52,7 +52,7 @@ module _ (c : Setting) (s : State) (m : Move) where
   tested false label l is = Kept (ap state_of_move is) (ap answers_of is)
 
   -- a packet leaves, or stays where the list is full
-  left : (b : Bool) (label l : ℕ) (s' : State) → m ≡ cond b (goes_on label s') (moves_to l s) → (m.state ≡ s' → m.told ≡ [] → Effect c s m) → Effect c s m
+  left : (b : Bool) (label l : ℕ) (s' : State) → m ≡ cond b (goes_on label s') (moves_to l s) → (m.state ≡ s' → m.answers ≡ [] → Effect c s m) → Effect c s m
   left true label l s' is f = f (ap state_of_move is) (ap answers_of is)
   left false label l s' is f = Kept (ap state_of_move is) (ap answers_of is)
 

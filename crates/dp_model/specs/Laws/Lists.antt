@@ -5,7 +5,7 @@ use Rattle.std.specs.Prelude.{slice_get, slice_set}
 use Rattle.std.proofs.lemmas.Option.{same_Some}
 use Rattle.std.specs.List.{AllByRecursion, AllZip, list_all}
 use Rattle.std.proofs.lemmas.Bool.{and_parts}
-use Rattle.dp_model.specs.Rows.{at_each_place}
+use Rattle.dp_model.specs.Rows.{at_each_index}
 
 -- another element of a list after a write
 pub get_set_other : {X : Type 0} (xs : List X) (p i : ℕ) (x : X) → i ≢ p → slice_get (slice_set xs p x) i ≡ slice_get xs i
@@ -54,16 +54,16 @@ each_at P (y ∷ xs) (suc p) x all e = each_at P xs p x all.1 e
 
 -- the tests at each place, from an index on
 each_step : {A : Type 0} → (test : A → A → Bool) (xs ys : List A) (i : ℕ) (x y : A) → slice_get xs i ≡ Some x → slice_get ys i ≡ Some y
-    → at_each_place test (drop i xs) (drop i ys) ≡ (test x y && at_each_place test (drop (suc i) xs) (drop (suc i) ys))
+    → at_each_index test (drop i xs) (drop i ys) ≡ (test x y && at_each_index test (drop (suc i) xs) (drop (suc i) ys))
 each_step test (x' ∷ xs) (y' ∷ ys) zero x y e f = cc
 each_step test (x' ∷ xs) (y' ∷ ys) (suc i) x y e f = each_step test xs ys i x y e f
 each_step test [] ys i x y e f = cc
 each_step test (x' ∷ xs) [] i x y e f = cc
 
 -- tests at each place, from an index on: the one there, and the rest
-pub each_place_drop : {A : Type 0} → (test : A → A → Bool) (xs ys : List A) (i : ℕ) (x y : A) → slice_get xs i ≡ Some x → slice_get ys i ≡ Some y
-    → at_each_place test (drop i xs) (drop i ys) ≡ (test x y && at_each_place test (drop (i + 1) xs) (drop (i + 1) ys))
-each_place_drop test xs ys i x y e f = rw add-one (each_step test xs ys i x y e f)
+pub each_index_drop : {A : Type 0} → (test : A → A → Bool) (xs ys : List A) (i : ℕ) (x y : A) → slice_get xs i ≡ Some x → slice_get ys i ≡ Some y
+    → at_each_index test (drop i xs) (drop i ys) ≡ (test x y && at_each_index test (drop (i + 1) xs) (drop (i + 1) ys))
+each_index_drop test xs ys i x y e f = rw add-one (each_step test xs ys i x y e f)
 
 -- a test that all pass is passed by each
 pub all_at : {A : Type 0} → (test : A → Bool) (xs : List A) (i : ℕ) (x : A) → list_all test xs ≡ true → slice_get xs i ≡ Some x → test x ≡ true

@@ -53,47 +53,47 @@ module _ {A : Type 0} where
 
 -- what a run shows with one more turn
 abbrev pub with_turn : {T : Type 0} → T → Outcome → List Bool → World → Shown T → Shown T
-with_turn time outcome told w shown = record {
-  told = shown.told ++ told;
+with_turn time outcome answers w shown = record {
+  answers = shown.answers ++ answers;
   outcomes = shown.outcomes ++ outcome ∷ [];
   captures = joined shown.captures (records_at time w);
 }
 
 -- a run and one more turn is a run
 pub run_push : {T : Type 0} (c : Setting) (nodes : Nodes) (arrivals : List (Arrival T)) (a : Arrival T) (w v mid : World) (shown : Shown T)
-    (outcome : Outcome) (runs : ℕ) (told : List Bool) → length mid.outboxes ≡ length c.env.ports → Run c nodes arrivals w shown v
-    → Turn c nodes a.port a.bytes v outcome runs told mid → Run c nodes (arrivals ++ a ∷ []) w (with_turn a.time outcome told mid shown)
+    (outcome : Outcome) (runs : ℕ) (answers : List Bool) → length mid.outboxes ≡ length c.env.ports → Run c nodes arrivals w shown v
+    → Turn c nodes a.port a.bytes v outcome runs answers mid → Run c nodes (arrivals ++ a ∷ []) w (with_turn a.time outcome answers mid shown)
     (with_empty_outboxes mid)
-run_push {T} c nodes [] a w v mid shown outcome runs told ports (none, is) turn =
+run_push {T} c nodes [] a w v mid shown outcome runs answers ports (none, is) turn =
     let records : List (List (T × List ℕ)) = records_at a.time mid in
     let long : length records ≡ length c.env.ports = length-map mid.outboxes _ ∙ ports in
     let nothing : List (List (T × List ℕ)) = replicate (length c.env.ports) [] in
     let only : joined nothing records ≡ joined records nothing = joined_none_left (length c.env.ports) records long
     ∙ sym (joined_none_right (length c.env.ports) records long) in
-    let flat : told ≡ told ++ [] = sym (append-nil told) in
-    let last : Shown T = record { told = []; outcomes = []; captures = nothing } in
-    let same : with_turn a.time outcome told mid last ≡ record { told = told ++ []; outcomes = outcome ∷ []; captures = joined records nothing } =
-    λ i. record { told = flat i; outcomes = outcome ∷ []; captures = only i } in (
+    let flat : answers ≡ answers ++ [] = sym (append-nil answers) in
+    let last : Shown T = record { answers = []; outcomes = []; captures = nothing } in
+    let same : with_turn a.time outcome answers mid last ≡ record { answers = answers ++ []; outcomes = outcome ∷ []; captures = joined records nothing } =
+    λ i. record { answers = flat i; outcomes = outcome ∷ []; captures = only i } in (
       outcome,
-      told,
+      answers,
       runs,
       mid,
       last,
-      subst (λ x. Turn c nodes a.port a.bytes x outcome runs told mid) is turn,
+      subst (λ x. Turn c nodes a.port a.bytes x outcome runs answers mid) is turn,
       (refl, refl),
-      ap (with_turn a.time outcome told mid) none ∙ same,
+      ap (with_turn a.time outcome answers mid) none ∙ same,
     )
-run_push {T} c nodes (b ∷ arrivals) a w v mid shown outcome runs told ports (outcome', told', runs', mid', rest, turn', run, is) turn =
+run_push {T} c nodes (b ∷ arrivals) a w v mid shown outcome runs answers ports (outcome', answers', runs', mid', rest, turn', run, is) turn =
     let records : List (List (T × List ℕ)) = records_at a.time mid in (
       outcome',
-      told',
+      answers',
       runs',
       mid',
-      with_turn a.time outcome told mid rest,
+      with_turn a.time outcome answers mid rest,
       turn',
-      run_push c nodes arrivals a (with_empty_outboxes mid') v mid rest outcome runs told ports run turn,
-      ap (with_turn a.time outcome told mid) is ∙ (λ i. record {
-        told = append_assoc told' rest.told told i;
+      run_push c nodes arrivals a (with_empty_outboxes mid') v mid rest outcome runs answers ports run turn,
+      ap (with_turn a.time outcome answers mid) is ∙ (λ i. record {
+        answers = append_assoc answers' rest.answers answers i;
         outcomes = outcome' ∷ (rest.outcomes ++ outcome ∷ []);
         captures = joined_assoc (records_at b.time mid') rest.captures records i;
       }),
@@ -130,9 +130,9 @@ start_rest c w tables start = record { ready = start_ready c w tables start; own
 
 -- a safe node run is never stuck
 pub safe_never_stuck : (c : Setting) (b : Beginning) → IsSafeBeginning c b → NeverStuck c b.program b.packet b.number b.world
-safe_never_stuck c b s = subst (λ p. NeverStuck c p b.packet b.number b.world) s.program_is (λ n label told t goes. (s.safe.stays n label told t goes).has_step)
+safe_never_stuck c b s = subst (λ p. NeverStuck c p b.packet b.number b.world) s.program_is (λ n label answers t goes. (s.safe.stays n label answers t goes).has_step)
 
 -- it leaves the world at rest for the next
-pub safe_rests : (c : Setting) (b : Beginning) (told : List Bool) (w' : World) → IsSafeBeginning c b → NodeRun c b.program b.packet b.number b.world told w'
+pub safe_rests : (c : Setting) (b : Beginning) (answers : List Bool) (w' : World) → IsSafeBeginning c b → NodeRun c b.program b.packet b.number b.world answers w'
     → IsAtRest c w'
-safe_rests c b told w' s run = s.safe.rests told w' (subst (λ p. NodeRun c p b.packet b.number b.world told w') (sym s.program_is) run)
+safe_rests c b answers w' s run = s.safe.rests answers w' (subst (λ p. NodeRun c p b.packet b.number b.world answers w') (sym s.program_is) run)

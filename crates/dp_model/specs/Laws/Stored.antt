@@ -82,46 +82,46 @@ written_each P buffers n b bytes old new = ⊎_elim
     (cases_Bool (same_number n b))
 
 -- bytes that are overwritten stay as many
-pub length_overwritten : (old new : List ℕ) (place : ℕ) → place + length new ≤ length old → length (overwritten old place new) ≡ length old
-length_overwritten old new place h =
+pub length_overwritten : (old new : List ℕ) (start : ℕ) → start + length new ≤ length old → length (overwritten old start new) ≡ length old
+length_overwritten old new start h =
     omega (
       arith,
-      length-append (take place old) (new ++ drop (place + length new) old),
+      length-append (take start old) (new ++ drop (start + length new) old),
       length-append new
-          (drop (place + length new) old),
-      length-take place old,
-      length-drop (place + length new) old,
+          (drop (start + length new) old),
+      length-take start old,
+      length-drop (start + length new) old,
     )
 
 -- a byte in front of what is written stays
-overwritten_before : (old new : List ℕ) (place k : ℕ) → place ≤ length old → k < place → get_or (overwritten old place new) k 0 ≡ get_or old k 0
-overwritten_before old new place k fits less =
-    let front : length (take place old) ≡ place = length-take-le place old fits in
-    get_or-append (take place old) (new ++ drop (place + length new) old) 0 k (omega (arith, front, less))
-    ∙ get_or-take place old k 0 less
+overwritten_before : (old new : List ℕ) (start k : ℕ) → start ≤ length old → k < start → get_or (overwritten old start new) k 0 ≡ get_or old k 0
+overwritten_before old new start k fits less =
+    let front : length (take start old) ≡ start = length-take-le start old fits in
+    get_or-append (take start old) (new ++ drop (start + length new) old) 0 k (omega (arith, front, less))
+    ∙ get_or-take start old k 0 less
 
 -- a byte that is written is the new one
-overwritten_in : (old new : List ℕ) (place k : ℕ) → place ≤ length old → place ≤ k → k < place + length new
-    → get_or (overwritten old place new) k 0 ≡ get_or new (k - place) 0
-overwritten_in old new place k fits from to =
-    let front : length (take place old) ≡ place = length-take-le place old fits in
-    let at : k ≡ length (take place old) + (k - place) = omega (arith, front, from) in
-    ap (λ j. get_or (overwritten old place new) j 0) at
-    ∙ get_or-append-add (take place old) (new ++ drop (place + length new) old) (k - place) 0
-    ∙ get_or-append new (drop (place + length new) old) 0 (k - place) (omega (arith, from, to))
+overwritten_in : (old new : List ℕ) (start k : ℕ) → start ≤ length old → start ≤ k → k < start + length new
+    → get_or (overwritten old start new) k 0 ≡ get_or new (k - start) 0
+overwritten_in old new start k fits from to =
+    let front : length (take start old) ≡ start = length-take-le start old fits in
+    let at : k ≡ length (take start old) + (k - start) = omega (arith, front, from) in
+    ap (λ j. get_or (overwritten old start new) j 0) at
+    ∙ get_or-append-add (take start old) (new ++ drop (start + length new) old) (k - start) 0
+    ∙ get_or-append new (drop (start + length new) old) 0 (k - start) (omega (arith, from, to))
 
 -- a byte behind it stays
-overwritten_behind : (old new : List ℕ) (place k : ℕ) → place ≤ length old → place + length new ≤ k
-    → get_or (overwritten old place new) k 0 ≡ get_or old k 0
-overwritten_behind old new place k fits past =
-    let front : length (take place old) ≡ place = length-take-le place old fits in
-    let rest : ℕ = k - place - length new in
-    let at : k ≡ length (take place old) + (length new + rest) = omega (arith, front, past) in
-    let again : place + length new + rest ≡ k = omega (arith, past) in
-    ap (λ j. get_or (overwritten old place new) j 0) at
-    ∙ get_or-append-add (take place old) (new ++ drop (place + length new) old) (length new + rest) 0
-    ∙ get_or-append-add new (drop (place + length new) old) rest 0
-    ∙ get_or-drop (place + length new) old rest 0
+overwritten_behind : (old new : List ℕ) (start k : ℕ) → start ≤ length old → start + length new ≤ k
+    → get_or (overwritten old start new) k 0 ≡ get_or old k 0
+overwritten_behind old new start k fits past =
+    let front : length (take start old) ≡ start = length-take-le start old fits in
+    let rest : ℕ = k - start - length new in
+    let at : k ≡ length (take start old) + (length new + rest) = omega (arith, front, past) in
+    let again : start + length new + rest ≡ k = omega (arith, past) in
+    ap (λ j. get_or (overwritten old start new) j 0) at
+    ∙ get_or-append-add (take start old) (new ++ drop (start + length new) old) (length new + rest) 0
+    ∙ get_or-append-add new (drop (start + length new) old) rest 0
+    ∙ get_or-drop (start + length new) old rest 0
     ∙ ap (λ j. get_or old j 0) again
 
 -- a byte of a part
@@ -136,14 +136,14 @@ range_long xs offset len fits =
     omega (arith, many)
 
 -- a part that is written within
-pub range_overwritten : (old new : List ℕ) (offset len place : ℕ) → place + length new ≤ len → offset + len ≤ length old
-    → slice_range (overwritten old (offset + place) new) offset (offset + len) ≡ overwritten (slice_range old offset (offset + len)) place new
-range_overwritten old new offset len place short long =
-    ext_get_or 0 (slice_range written offset (offset + len)) (overwritten part place new) (omega (arith, left, right, many))
+pub range_overwritten : (old new : List ℕ) (offset len start : ℕ) → start + length new ≤ len → offset + len ≤ length old
+    → slice_range (overwritten old (offset + start) new) offset (offset + len) ≡ overwritten (slice_range old offset (offset + len)) start new
+range_overwritten old new offset len start short long =
+    ext_get_or 0 (slice_range written offset (offset + len)) (overwritten part start new) (omega (arith, left, right, many))
     (λ k h. each k (omega (arith, h, left)))
   where
     written : List ℕ
-    written = overwritten old (offset + place) new
+    written = overwritten old (offset + start) new
 
     part : List ℕ
     part = slice_range old offset (offset + len)
@@ -152,25 +152,25 @@ range_overwritten old new offset len place short long =
     many = range_long old offset len long
 
     left : length (slice_range written offset (offset + len)) ≡ len
-    left = range_long written offset len (omega (arith, length_overwritten old new (offset + place) (omega (arith, short, long)), long))
+    left = range_long written offset len (omega (arith, length_overwritten old new (offset + start) (omega (arith, short, long)), long))
 
-    right : length (overwritten part place new) ≡ length part
-    right = length_overwritten part new place (omega (arith, many, short))
+    right : length (overwritten part start new) ≡ length part
+    right = length_overwritten part new start (omega (arith, many, short))
 
-    moved : (k : ℕ) → place ≤ k → offset + k - (offset + place) ≡ k - place
+    moved : (k : ℕ) → start ≤ k → offset + k - (offset + start) ≡ k - start
     moved k from = omega (arith, from)
 
-    each : (k : ℕ) → k < len → get_or (slice_range written offset (offset + len)) k 0 ≡ get_or (overwritten part place new) k 0
+    each : (k : ℕ) → k < len → get_or (slice_range written offset (offset + len)) k 0 ≡ get_or (overwritten part start new) k 0
     each k less = range_at written offset len k less ∙ ⊎_elim
-        (λ before. overwritten_before old new (offset + place) (offset + k) (omega (arith, short, long)) (omega (arith, before))
+        (λ before. overwritten_before old new (offset + start) (offset + k) (omega (arith, short, long)) (omega (arith, before))
         ∙ sym (range_at old offset len k less)
-        ∙ sym (overwritten_before part new place k (omega (arith, many, short)) before))
+        ∙ sym (overwritten_before part new start k (omega (arith, many, short)) before))
         (λ from. ⊎_elim
-        (λ to. overwritten_in old new (offset + place) (offset + k) (omega (arith, short, long)) (omega (arith, from)) (omega (arith, to))
+        (λ to. overwritten_in old new (offset + start) (offset + k) (omega (arith, short, long)) (omega (arith, from)) (omega (arith, to))
         ∙ ap (λ j. get_or new j 0) (moved k from)
-        ∙ sym (overwritten_in part new place k (omega (arith, many, short)) from to))
-        (λ past. overwritten_behind old new (offset + place) (offset + k) (omega (arith, short, long)) (omega (arith, past))
+        ∙ sym (overwritten_in part new start k (omega (arith, many, short)) from to))
+        (λ past. overwritten_behind old new (offset + start) (offset + k) (omega (arith, short, long)) (omega (arith, past))
         ∙ sym (range_at old offset len k less)
-        ∙ sym (overwritten_behind part new place k (omega (arith, many, short)) past))
-        (cases_lt k (place + length new)))
-        (cases_lt k place)
+        ∙ sym (overwritten_behind part new start k (omega (arith, many, short)) past))
+        (cases_lt k (start + length new)))
+        (cases_lt k start)

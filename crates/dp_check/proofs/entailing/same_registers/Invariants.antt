@@ -1,10 +1,10 @@
 -- What is left to test decides.
 use Rattle.std.proofs.Common.{◌≡◌, drop}
 use Rattle.std.proofs.Math.Bool.{beq}
-use Rattle.dp_model.specs.Groups.{at_each_place, is_in}
+use Rattle.dp_model.specs.Groups.{at_each_index, is_in}
 use Rattle.dp_check.proofs.entailing.same_registers.Given as goal
 
 abbrev pub invariant-loop-i : goal.invariant-loop-i
 invariant-loop-i l =
-    at_each_place (λ fact other. beq (is_in l.group fact) (is_in l.group other)) l.facts l.others
-    ≡ at_each_place (λ fact other. beq (is_in l.group fact) (is_in l.group other)) (drop l.i l.facts) (drop l.i l.others)
+    at_each_index (λ fact other. beq (is_in l.group fact) (is_in l.group other)) l.facts l.others
+    ≡ at_each_index (λ fact other. beq (is_in l.group fact) (is_in l.group other)) (drop l.i l.facts) (drop l.i l.others)

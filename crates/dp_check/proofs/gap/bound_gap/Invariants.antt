@@ -1,8 +1,8 @@
 -- What is left to compare decides.
 use Rattle.std.proofs.Common.{◌≡◌, drop}
 use Rattle.std.specs.Prelude.{nat_le}
-use Rattle.dp_model.specs.Rows.{at_each_place}
+use Rattle.dp_model.specs.Rows.{at_each_index}
 use Rattle.dp_check.proofs.gap.bound_gap.Given as goal
 
 abbrev pub invariant-loop-i : goal.invariant-loop-i
-invariant-loop-i l = at_each_place nat_le l.bounds l.others ≡ at_each_place nat_le (drop l.i l.bounds) (drop l.i l.others)
+invariant-loop-i l = at_each_index nat_le l.bounds l.others ≡ at_each_index nat_le (drop l.i l.bounds) (drop l.i l.others)

@@ -11,5 +11,5 @@ returns-clause-steps c setting program label s m step k beside =
     subst (Stays setting s k) (sym step.is) (budget_keeps (Stays setting s k) label step.effect here here here)
 
 pub returns-clause-receives : goal.returns-clause-receives
-returns-clause-receives c setting program port spec bytes w w' told received k =
-    queued_stays setting program port spec bytes w w' told k received
+returns-clause-receives c setting program port spec bytes w w' answers received k =
+    queued_stays setting program port spec bytes w w' answers k received

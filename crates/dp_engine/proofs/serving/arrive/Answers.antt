@@ -52,8 +52,8 @@ came g c at fits =
 -- what its run made
 went : (g : _) (c : After-run g) → Received c.args.plan.now.setting c.port_program-program.result.now c.args.port (spec_of c.ports.result.now c.args.port)
     c.args.bytes.now c.args.m.now.state.world c.receive.new.self.state
-    → (told : List Bool) × Receives c.args.plan.now.setting c.port_program-program.result.now c.args.port (spec_of c.ports.result.now c.args.port)
-    c.args.bytes.now c.args.m.now.state.world told c.run.new.m.state.world
+    → (answers : List Bool) × Receives c.args.plan.now.setting c.port_program-program.result.now c.args.port (spec_of c.ports.result.now c.args.port)
+    c.args.bytes.now c.args.m.now.state.world answers c.run.new.m.state.world
 went g c r =
     let setting = setting_is c.args.plan.now.setting c.env-env.result.now c.tables.result.now c.pattern-2.result.now c.env-env.ensures.same c.tables.ensures
     c.pattern-2.ensures in
@@ -101,8 +101,8 @@ pub returns-clause-arrives : goal.returns-clause-arrives
 returns-clause-arrives g c =
     let here = goal.at.returns-clause-arrives g c in
     let at = there g here.After-ports in
-    let (told, receives) = went g c (came g here.After-tables at (fits g here.After-pattern)) in (
-      told,
+    let (answers, receives) = went g c (came g here.After-tables at (fits g here.After-pattern)) in (
+      answers,
       (
         spec_of c.ports.result.now c.args.port,
         c.port_program-program.result.now,
@@ -116,11 +116,11 @@ pub returns-clause-rests : goal.returns-clause-rests
 returns-clause-rests g c =
     let here = goal.at.returns-clause-rests g c in
     let at = there g here.After-ports in
-    let (told, receives) = went g c (came g here.After-tables at (fits g here.After-pattern)) in
+    let (answers, receives) = went g c (came g here.After-tables at (fits g here.After-pattern)) in
     record {
       idle = c.run.ensures.idle;
       pools = c.run.ensures.pools ∙ (c.receive.ensures.pools ∙ c.requires.rests.pools);
       fits = subst (FitsIn c.args.plan.now.setting.env) (sym (c.run.ensures.frames ∙ c.receive.ensures.frames)) c.requires.rests.fits;
       rest = c.env-env.ensures.safe.arrives c.port_program-program.result.now c.args.port (spec_of c.ports.result.now c.args.port) c.args.bytes.now
-          c.args.m.now.state.world c.run.new.m.state.world Got told c.port_program-program.ensures.same at.spec_is c.requires.rests.rest receives;
+          c.args.m.now.state.world c.run.new.m.state.world Got answers c.port_program-program.ensures.same at.spec_is c.requires.rests.rest receives;
     }

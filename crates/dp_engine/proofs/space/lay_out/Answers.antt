@@ -14,7 +14,7 @@ use Rattle.dp_engine.proofs.Plans.{IsPlan, plan, some_pools, laid_out, rings_of,
 use Rattle.dp_engine.proofs.space.lay_out.Goals as goal
 use Rattle.dp_engine.proofs.space.lay_out.Goals.{After-power_above, After-as_slice, After-as_slice-2}
 
--- how many places the transmit lists and the rings have
+-- how many slots the transmit lists and the rings have
 lists_are : (c : After-power_above) → c.list_counts-lists.result.items ≡ list_counts c.args.env.now
 lists_are c = c.list_counts-lists.ensures ∙ ap (λ (xs : List PortSpec). map (λ x. x.queue) xs) c.ports.ensures
 
@@ -124,7 +124,7 @@ finish-heap-requires-clause-room c =
 pub listed : goal.listed
 listed c =
     let p = planned (goal.at.listed c).After-power_above in
-    omega (arith, p.number.0, p.number.1, c.take_pools-pools.ensures.places)
+    omega (arith, p.number.0, p.number.1, c.take_pools-pools.ensures.slots)
 
 pub offset_bounds-pools-last : goal.offset_bounds-pools-last
 offset_bounds-pools-last c = let p = planned (goal.at.offset_bounds-pools-last c).After-power_above in omega (arith, p.number.0, p.number.1)
@@ -137,9 +137,9 @@ put_pool-requires c =
     let p = planned (goal.at.put_pool-requires c).After-power_above in
     let number = p.number.0 in
     let few = p.number.1 in
-    let places = c.take_pools-pools.ensures.places in
+    let slots = c.take_pools-pools.ensures.slots in
     next_empty (IsNewPool c.take_rings-rings.new.self.home) c.pools-specs.result.now c.take_pools-pools.result (length c.pools-specs.result.now - 1) _
-    (omega (arith, number)) (omega (arith, number, few, places)) c.take_pools-pools.ensures.pools
+    (omega (arith, number)) (omega (arith, number, few, slots)) c.take_pools-pools.ensures.pools
 
 pub returns : goal.returns
 returns c =
@@ -150,7 +150,7 @@ returns c =
     let all = ap length c.pools-specs.ensures in
     let number = p.number.0 in
     let few = p.number.1 in
-    let places = c.take_pools-pools.ensures.places in
+    let slots = c.take_pools-pools.ensures.slots in
     let home1 = c.over-stack.ensures.same.0 in
     let home2 = c.take_rings-lists.ensures.same.0 ∙ home1 in
     let home3 = c.take_rings-rings.ensures.same.0 ∙ home2 in
@@ -169,7 +169,7 @@ returns c =
     let many_rings = ap length rings in
     laid_out e c.args.region.home (length c.args.region.bytes) _ _ c.within_limits.ensures (c.finish-heap.ensures.same.0 ∙ home4) size
     (last_filled c.args.region.home c.take_rings-rings.new.self.home c.take_pools-pools.new.self.home specs e.pools c.take_pools-pools.result i no_spec
-    c.finish-heap.result.2 c.put_pool.new.slot number (omega (arith, number, few, places))
+    c.finish-heap.result.2 c.put_pool.new.slot number (omega (arith, number, few, slots))
     c.take_pools-pools.ensures.same.0 home3 c.pools-specs.ensures c.take_pools-pools.ensures.pools c.finish-heap.ensures.pool c.put_pool.ensures)
     (rings_of c.take_rings-lists.new.self.home c.args.region.home c.as_slice-2.result.now (ring_counts e) c.take_rings-rings.result home2 rings
     c.take_rings-rings.ensures.rings)

@@ -7,14 +7,14 @@ use Rattle.dp_infer.proofs.inferring.infer.Goals as goal
 pub returns-in-Some-clause-none : goal.returns-in-Some-clause-none
 returns-in-Some-clause-none c =
     none_but c.args.program.now c.args.env.now c.args.entry c.settled.result
-    (none_of c.args.program.now c.args.env.now c.args.entry c.in_ok-cert.cert _ _ c.in_ok-cert.ensures.some c.in_ok-cert.ensures.told c.in-Some.ensures.some)
+    (none_of c.args.program.now c.args.env.now c.args.entry c.in_ok-cert.cert _ _ c.in_ok-cert.ensures.some c.in_ok-cert.ensures.found c.in-Some.ensures.some)
 
 pub returns-in-Some-clause-most : goal.returns-in-Some-clause-most
 returns-in-Some-clause-most c =
     most_anyway c.args.program.now c.args.env.now c.args.entry c.settled.result c.settled.ensures.accepted
-    (none_of c.args.program.now c.args.env.now c.args.entry c.in_ok-cert.cert _ _ c.in_ok-cert.ensures.some c.in_ok-cert.ensures.told c.in-Some.ensures.some)
+    (none_of c.args.program.now c.args.env.now c.args.entry c.in_ok-cert.cert _ _ c.in_ok-cert.ensures.some c.in_ok-cert.ensures.found c.in-Some.ensures.some)
 
 pub returns-in-None-clause-most : goal.returns-in-None-clause-most
 returns-in-None-clause-most c =
     most_of c.args.program.now c.args.env.now c.args.entry c.in_ok-cert.cert.rows c.in_ok-cert.ensures.some
-    (ap (λ (cert : Certificate). cert.rows) c.in_ok-cert.ensures.told)
+    (ap (λ (cert : Certificate). cert.rows) c.in_ok-cert.ensures.found)

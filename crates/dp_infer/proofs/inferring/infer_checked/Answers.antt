@@ -8,17 +8,17 @@ use Rattle.dp_infer.proofs.inferring.infer_checked.Goals as goal
 pub returns-in-Err-clause-none : goal.returns-in-Err-clause-none
 returns-in-Err-clause-none c =
     none_checked c.args.program c.args.env.now c.args.entry c.settled_checked.result
-    (none_refused c.args.program c.args.env.now c.args.entry c.in_ok-cert.cert _ _ c.in_ok-cert.ensures.some c.in_ok-cert.ensures.told
+    (none_refused c.args.program c.args.env.now c.args.entry c.in_ok-cert.cert _ _ c.in_ok-cert.ensures.some c.in_ok-cert.ensures.found
     c.in-Err.ensures.refused)
 
 pub returns-in-Err-clause-most : goal.returns-in-Err-clause-most
 returns-in-Err-clause-most c =
     most_checked c.args.program c.in-Err.refused.program c.args.env.now c.args.entry c.settled_checked.result c.in-Err.ensures.program_back
     c.settled_checked.ensures.same c.settled_checked.ensures.checked
-    (none_refused c.args.program c.args.env.now c.args.entry c.in_ok-cert.cert _ _ c.in_ok-cert.ensures.some c.in_ok-cert.ensures.told
+    (none_refused c.args.program c.args.env.now c.args.entry c.in_ok-cert.cert _ _ c.in_ok-cert.ensures.some c.in_ok-cert.ensures.found
     c.in-Err.ensures.refused)
 
 pub returns-in-Ok-clause-most : goal.returns-in-Ok-clause-most
 returns-in-Ok-clause-most c =
     most_of c.args.program c.args.env.now c.args.entry c.in-Ok.checked.rows c.in_ok-cert.ensures.some
-    (ap (λ (q : Question). q.rows) c.in-Ok.ensures.same ∙ ap (λ (cert : Certificate). cert.rows) c.in_ok-cert.ensures.told)
+    (ap (λ (q : Question). q.rows) c.in-Ok.ensures.same ∙ ap (λ (cert : Certificate). cert.rows) c.in_ok-cert.ensures.found)

@@ -6,5 +6,5 @@ use Rattle.dp_infer.proofs.inferring.settled_rows.Goals as goal
 pub settle-requires-clause-same_length : goal.settle-requires-clause-same_length
 settle-requires-clause-same_length c =
     ap length c.deref_mut.ensures.value
-    ∙ (found_long c.instrs.result.now c.args.env.now c.args.entry _ c.in_ok-rows.ensures.told
+    ∙ (found_long c.instrs.result.now c.args.env.now c.args.entry _ c.in_ok-rows.ensures.found
     ∙ (ap length c.instrs.ensures.same ∙ sym (ap length c.instrs-2.ensures.same)))

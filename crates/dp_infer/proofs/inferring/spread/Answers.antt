@@ -11,10 +11,10 @@ loop-label-preserved c =
     slice_get_read c.args.program.now (length c.args.program.now) c.loop-label.label c.index-program-label.result refl
     (omega arith) c.index-program-label.is in
     record {
-      told = rw c.pass_from.ensures.told (spread_more c.args.env.now c.args.program.now c.loop-label.label c.index-program-label.result c.loop-label.rows _
-          at_i c.loop-label.invariant.told);
+      found = rw c.pass_from.ensures.found (spread_more c.args.env.now c.args.program.now c.loop-label.label c.index-program-label.result c.loop-label.rows _
+          at_i c.loop-label.invariant.found);
       well_formed = c.pass_from.ensures.well_formed;
     }
 
-pub returns-clause-told : goal.returns-clause-told
-returns-clause-told c = spread_done c.args.env.now c.args.program.now c.loop-label.label c.loop-label.rows _ (omega arith) c.loop-label.invariant.told
+pub returns-clause-found : goal.returns-clause-found
+returns-clause-found c = spread_done c.args.env.now c.args.program.now c.loop-label.label c.loop-label.rows _ (omega arith) c.loop-label.invariant.found

@@ -7,6 +7,6 @@ use Rattle.dp_infer.proofs.inferring.spread.Given as goal
 
 abbrev pub invariant-loop-label : goal.invariant-loop-label
 invariant-loop-label l = record {
-  told : spec.spread l.env (drop l.label l.program) l.label l.rows ≡ spec.spread l.env l.program 0 l.fn.rows;
+  found : spec.spread l.env (drop l.label l.program) l.label l.rows ≡ spec.spread l.env l.program 0 l.fn.rows;
   well_formed : IsTrue (list_all is_well_formed_row l.rows);
 }

@@ -5,6 +5,6 @@ use Rattle.dp_infer.proofs.join.paired_facts.Given as goal
 
 abbrev pub invariant-loop-i : goal.invariant-loop-i
 invariant-loop-i l = record {
-  told : take l.i l.joined ++ spec.paired spec.joined_fact (drop l.i l.facts) (drop l.i l.others) ≡ spec.paired spec.joined_fact l.facts l.others;
+  found : take l.i l.joined ++ spec.paired spec.joined_fact (drop l.i l.facts) (drop l.i l.others) ≡ spec.paired spec.joined_fact l.facts l.others;
   eight : length l.joined ≡ 8;
 }

@@ -8,5 +8,5 @@ returns c = λ s nodes pipeline. record {
   turn_runs = λ port bytes w b. turn_runs_safe s nodes port bytes w b pipeline;
   waiting = λ next program w. waiting_safe s nodes next program w pipeline;
   leads = leads_within s;
-  arrives = λ program port spec bytes w w' outcome told. arrives_rest s nodes program port spec bytes w w' outcome told pipeline;
+  arrives = λ program port spec bytes w w' outcome answers. arrives_rest s nodes program port spec bytes w w' outcome answers pipeline;
 }

@@ -11,7 +11,7 @@ use Rattle.dp_pipe.proofs.forwarding.next_turn.Goals as goal
 pub returns-then-is_held-clause-turn : goal.returns-then-is_held-clause-turn
 returns-then-is_held-clause-turn g c =
     let m = c.match-record_at_hand in
-    let (told, turn) = c.turn-turn.ensures.turn in
+    let (answers, turn) = c.turn-turn.ensures.turn in
     elim m.branch [
       | in-Some w ↦
           let held = found _ _ _ _ m.len w.in-Some.time w.in-Some.len w.source-is (ap g.R.Feed.at_hand w.r-is) w.len-is w.in-Some.ensures.some in
@@ -21,7 +21,7 @@ returns-then-is_held-clause-turn g c =
           (record {
             outcome = outcome_of c.turn-turn.result.outcome;
             runs = c.turn-turn.result.runs;
-            told = told;
+            answers = answers;
             turn = turn;
             is = c.turn-turn.ensures.rest;
             lists = c.turn-turn.ensures.lists;

@@ -5,6 +5,6 @@ use Rattle.dp_pipe.proofs.routes.decimal.Given as goal
 
 abbrev pub invariant-loop-digit : goal.invariant-loop-digit
 invariant-loop-digit l = record {
-  told : decimal_after l.value (drop l.digit-index l.digits) ≡ decimal_after 0 l.digits;
+  answers : decimal_after l.value (drop l.digit-index l.digits) ≡ decimal_after 0 l.digits;
   small : l.value < 10 ^ l.digit-index;
 }

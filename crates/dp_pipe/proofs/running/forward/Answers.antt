@@ -1,11 +1,10 @@
 -- `forward`: headers in, headers out, and all rounds.
-use Rattle.std.proofs.Common.{rules, ◌≡◌, ◌∙◌, inl, inr, Err, sym, subst, arith, length, map, drop}
+use Rattle.std.proofs.Common.{rules, ◌≡◌, ◌∙◌, inl, inr, Err, sym, subst, arith, length, map, drop, refl, false}
 use Rattle.std.proofs.lemmas.List.{length-map}
 use Rattle.dp_pipe.specs.Forwarding.{AreRounds}
 use Rattle.dp_pipe.specs.Running.{all_begun}
 use Rattle.dp_pipe.proofs.Stopping.{are_read}
 use Rattle.dp_pipe.proofs.Through.{along_none, back, fail_read, fail_write, stays_rounds}
-use Rattle.std.proofs.Common.{refl, false}
 use Rattle.dp_pipe.specs.Devices.{AllFared, failed_reader, failed_writer}
 use Rattle.dp_pipe.proofs.Faring.{all_same, all_then, no_writer, no_reader, sound_readers, sound_writers}
 use Rattle.dp_pipe.proofs.running.forward.Goals as goal

@@ -7,7 +7,7 @@ use Rattle.dp_pipe.specs.Devices.{failed_writer}
 use Rattle.std.specs.Io.KnownBytes.{Appends}
 use Rattle.std.proofs.lemmas.Option.{slice_get-get_or}
 use Rattle.dp_pcap.specs.Text.{header_text}
-use Rattle.dp_pipe.proofs.Heading.{changed_more, all_changed, in_told, new_all, headers_stopped}
+use Rattle.dp_pipe.proofs.Heading.{changed_more, all_changed, in_answers, new_all, headers_stopped}
 use Rattle.dp_pipe.proofs.Faring.{fared_well, failed_here, all_well, one_then}
 use Rattle.dp_pipe.proofs.running.put_headers.Goals as goal
 
@@ -24,7 +24,7 @@ loop-port-preserved g c =
     )
 
 pub returns-clause-ok : goal.returns-clause-ok
-returns-clause-ok g c = λ q old new e e'. in_told g.W.Sink.contents (λ a a'. Appends a a' (header_text c.args.unit)) c.args.outs.now c.loop-port.outs q
+returns-clause-ok g c = λ q old new e e'. in_answers g.W.Sink.contents (λ a a'. Appends a a' (header_text c.args.unit)) c.args.outs.now c.loop-port.outs q
     (λ w w' here there. (all_changed _ c.loop-port.port c.args.outs.now c.loop-port.outs c.loop-port.invariant
     (omega (arith, c.loop-port-test.false, c.loop-port.auto.port-end)) q w w' here there).0) old new e e'
 

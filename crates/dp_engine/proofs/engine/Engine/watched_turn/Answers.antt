@@ -46,8 +46,8 @@ returns-clause-turn g c =
     let m2 = c.serve-served.new.m in
     let outcome = outcome_of c.arrive-outcome.result.0 in
     let more = c.serve-served.result.runs in
-    subst (λ (v : EngineState). (told : List Bool) × IsTurn v.setting v.nodes c.args.port c.args.bytes.now v.world outcome
-    (c.runs_of.result + more) told m2.state.world) c.self.view_is
+    subst (λ (v : EngineState). (answers : List Bool) × IsTurn v.setting v.nodes c.args.port c.args.bytes.now v.world outcome
+    (c.runs_of.result + more) answers m2.state.world) c.self.view_is
     (turn_is c.self.inside.plan c.args.port c.args.bytes.now c.self.inside.machine.state.world c.arrive-outcome.new.m.state.world m2.state.world outcome
     more (c.runs_of.result + more)
     (ap (λ n. n + more) c.runs_of.ensures.value) c.arrive-outcome.ensures.arrives c.serve-served.ensures.serves)

@@ -7,6 +7,6 @@ use Rattle.dp_engine.proofs.engine.reporting.pool_reports.Given as goal
 
 abbrev pub invariant-loop-k : goal.invariant-loop-k
 invariant-loop-k l = record {
-  told : l.pools.items ≡ pool_reports (available l.specs (live (between l.machine.state.world))) 0 (take l.k l.specs);
+  answers : l.pools.items ≡ pool_reports (available l.specs (live (between l.machine.state.world))) 0 (take l.k l.specs);
   count : length l.pools.items ≡ l.k;
 }

@@ -19,4 +19,4 @@ load-requires c =
 pub returns : goal.returns
 returns c k holds =
     let there = held _ _ _ _ _ _ _ _ c.args.p c.handle_in-packet.result k c.self.view_is c.self.invariant c.handle_in-packet.ensures holds in
-    c.load.ensures k there.has ∙ ap (loaded c.args.place (bytes_in c.args.width) k) (buffers_of _ _ _ _ _ _ _ _ c.self.view_is)
+    c.load.ensures k there.has ∙ ap (loaded c.args.offset (bytes_in c.args.width) k) (buffers_of _ _ _ _ _ _ _ _ c.self.view_is)

@@ -8,7 +8,7 @@ use Rattle.dp_model.specs.Packets.{Packet}
 use Rattle.dp_pcap.specs.Text.{AppendsPart}
 use Rattle.dp_engine.specs.Drains.{record_of}
 use Rattle.dp_engine.specs.Handles.{Core, ran}
-use Rattle.dp_engine.proofs.Writing.{at_place, waits_at}
+use Rattle.dp_engine.proofs.Writing.{at_slot, waits_at}
 use Rattle.dp_engine.proofs.machine.Machine.put.Goals as goal
 use Rattle.dp_engine.proofs.machine.Machine.put.Goals.{In-Some}
 
@@ -24,14 +24,14 @@ named g c packets k box here =
 pub put_packet-requires-clause-live : goal.put_packet-requires-clause-live
 put_packet-requires-clause-live g c =
     let (packets, box, less) = c.requires.waits in
-    let (k, here) = at_place packets c.args.at less in
+    let (k, here) = at_slot packets c.args.at less in
     let has = named g (goal.at.put_packet-requires-clause-live g c).In-Some packets k box here in
     (k, ap (slice_get c.self.inside.mbufs.store.slots) c.of.ensures ∙ has, tt)
 
 pub unreachable-requires : goal.unreachable-requires
 unreachable-requires g c =
     let (packets, box, less) = c.requires.waits in
-    let (k, here) = at_place packets c.args.at less in
+    let (k, here) = at_slot packets c.args.at less in
     let m = c.self.inside in
     let (h, at, has) = waits_at m.mbufs.store m.mbufs.zones m.registers m.numbers m.rings m.outboxes m.calls
     (ran m.steps.count m.cuts m.jumps) c.args.self.now c.args.port c.args.at packets k c.self.view_is c.self.invariant c.requires.there box here in

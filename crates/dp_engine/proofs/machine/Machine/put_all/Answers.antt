@@ -5,17 +5,17 @@ use Rattle.std.proofs.lemmas.Option.{same_Some}
 use Rattle.dp_model.specs.Packets.{Packet}
 use Rattle.dp_engine.specs.Drains.{record_of}
 use Rattle.dp_engine.proofs.Called.{called_piece, called_written, called_more}
-use Rattle.dp_engine.proofs.Writing.{at_place, appends_piece, all_written, part_written, on_err_at, on_ok_at}
+use Rattle.dp_engine.proofs.Writing.{at_slot, appends_piece, all_written, part_written, on_err_at, on_ok_at}
 use Rattle.dp_engine.proofs.machine.Machine.put_all.Goals as goal
 use Rattle.dp_engine.proofs.machine.Machine.put_all.Goals.{After-put}
 
--- the packet at the place that the loop has come to
+-- the packet at the slot that the loop has come to
 next : (g : _) (c : After-put g) (packets : List Packet) → slice_get c.args.self.now.state.world.outboxes c.args.port ≡ Some packets
     → (k : Packet) × (slice_get packets c.loop-at.at ≡ Some k)
 next g c packets box =
     let (others, box', count) = c.queued-count.ensures.list in
     let same : length others ≡ length packets = ap length (same_Some _ _ (sym box' ∙ box)) in
-    at_place packets c.loop-at.at (omega (arith, count, same))
+    at_slot packets c.loop-at.at (omega (arith, count, same))
 
 pub returns-then-is_err-clause-err : goal.returns-then-is_err-clause-err
 returns-then-is_err-clause-err g c =

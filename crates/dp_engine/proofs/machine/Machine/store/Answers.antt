@@ -19,11 +19,11 @@ pub invariant_of-self : goal.invariant_of-self
 invariant_of-self c =
     let (k, holds, le, sole) = c.requires in
     let there = held _ _ _ _ _ _ _ _ c.args.p c.handle_in-packet.result k c.self.view_is c.self.invariant c.handle_in-packet.ensures holds in
-    stand_becomes _ _ _ _ c.args.p c.handle_in-packet.result k (λ k. k) (stored c.args.place (bytes_in c.args.width) c.args.n) c.self.invariant there
+    stand_becomes _ _ _ _ c.args.p c.handle_in-packet.result k (λ k. k) (stored c.args.offset (bytes_in c.args.width) c.args.n) c.self.invariant there
     c.store.ensures.packets
 
 pub returns : goal.returns
 returns c k holds =
     let there = held _ _ _ _ _ _ _ _ c.args.p c.handle_in-packet.result k c.self.view_is c.self.invariant c.handle_in-packet.ensures holds in
-    rw (c.store.ensures.zones) (rewrites _ _ _ _ _ _ _ _ _ c.args.p c.handle_in-packet.result k (stored c.args.place (bytes_in c.args.width) c.args.n)
+    rw (c.store.ensures.zones) (rewrites _ _ _ _ _ _ _ _ _ c.args.p c.handle_in-packet.result k (stored c.args.offset (bytes_in c.args.width) c.args.n)
     c.self.view_is holds there c.store.ensures.packets)

@@ -3,7 +3,7 @@ use Rattle.std.proofs.Common.{◌≡◌, ◌∙◌, refl, ap, sym, subst, arith,
 use Rattle.std.specs.Prelude.{slice_get}
 use Rattle.dp_ring.specs.Rings.{without_first}
 use Rattle.dp_engine.specs.Queues.{ring_at}
-use Rattle.dp_engine.proofs.Firsts.{first_place, not_before, stays}
+use Rattle.dp_engine.proofs.Firsts.{first_slot, not_before, stays}
 use Rattle.dp_engine.proofs.Slots.{listed as ring_listed, has_ring, ring_is, changed, renewed, kept}
 use Rattle.dp_engine.proofs.queues.Queues.pop.Goals as goal
 use Rattle.dp_engine.proofs.queues.Queues.pop.Goals.{After-pop_in-entry}
@@ -14,8 +14,8 @@ entry c =
     c.pop_in-entry.ensures.first ∙ ap (λ r. slice_get r.entries 0) (ring_is _ _ c.self.view_is c.self.invariant.0 c.args.k _ c.requires)
 
 -- the number of the first ring that waits, before that
-first : (c : After-pop_in-entry) → c.self.inside.first ≡ first_place c.args.self.now
-first c = c.self.invariant.2 ∙ ap first_place c.self.view_is
+first : (c : After-pop_in-entry) → c.self.inside.first ≡ first_slot c.args.self.now
+first c = c.self.invariant.2 ∙ ap first_slot c.self.view_is
 
 pub listed : goal.listed
 listed c = (ring_listed _ _ c.self.view_is c.self.invariant.0 c.args.k c.requires).0
@@ -37,7 +37,7 @@ first_from-self-inside-requires-clause-from c =
     let before = first (goal.at.first_from-self-inside-requires-clause-from c).After-pop_in-entry in
     let now = changed _ _ c.self.view_is c.self.invariant.0 c.args.k _ c.pop_in-entry.new.slot
     (λ r. without_first r 1) c.requires c.pop_in-entry.ensures.rest in
-    subst (λ rings. c.args.k ≤ first_place rings) (sym now.1)
+    subst (λ rings. c.args.k ≤ first_slot rings) (sym now.1)
     (not_before c.args.self.now c.args.k (without_first (ring_at c.args.self.now c.args.k) 1) (omega (arith, before, c.if-k-self.true)) c.requires)
 
 pub invariant_of-self : goal.invariant_of-self

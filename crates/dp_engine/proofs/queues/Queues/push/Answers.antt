@@ -3,7 +3,7 @@ use Rattle.std.proofs.Common.{◌≡◌, ◌∙◌, ap, arith, [], ◌∷◌}
 use Rattle.std.specs.Prelude.{nat_lt, if◌then◌else◌}
 use Rattle.dp_ring.specs.Rings.{RingView, room_in, with_more}
 use Rattle.dp_engine.specs.Queues.{ring_at}
-use Rattle.dp_engine.proofs.Firsts.{IsPut, first_place, put_is}
+use Rattle.dp_engine.proofs.Firsts.{IsPut, first_slot, put_is}
 use Rattle.dp_engine.proofs.Slots.{listed as ring_listed, has_ring, ring_is, changed, renewed, set_where}
 use Rattle.dp_engine.proofs.queues.Queues.push.Goals as goal
 use Rattle.dp_engine.proofs.queues.Queues.push.Goals.{After-push_in-is_taken}
@@ -14,8 +14,8 @@ taken : (c : After-push_in-is_taken) → c.push_in-is_taken.result ≡ nat_lt 0 
 taken c = c.push_in-is_taken.ensures.taken ∙ ap (λ r. nat_lt 0 (room_in r)) (ring_is _ _ c.self.view_is c.self.invariant.0 c.args.k _ c.requires)
 
 -- the number of the first ring that waits, before the entry and behind it
-first : (c : After-push_in-is_taken) → c.self.inside.first ≡ first_place c.args.self.now
-first c = c.self.invariant.2 ∙ ap first_place c.self.view_is
+first : (c : After-push_in-is_taken) → c.self.inside.first ≡ first_slot c.args.self.now
+first c = c.self.invariant.2 ∙ ap first_slot c.self.view_is
 
 put : (c : After-push_in-is_taken) → IsPut c.args.self.now c.args.k c.args.entry c.push_in-is_taken.result
 put c = put_is c.args.self.now c.args.k c.args.entry c.push_in-is_taken.result c.requires (taken c)

@@ -10,8 +10,8 @@ use Rattle.dp_engine.proofs.stack.Stack.take_pool.Goals as goal
 use Rattle.dp_engine.proofs.stack.Stack.take_pool.Goals.{After-make}
 
 pub make-requires-clause-queue : goal.make-requires-clause-queue
-make-requires-clause-queue c = λ place mid taken none.
-    queue_fits c.self.inside.heap c.self.inside.zones c.self.inside.spare c.args.spec c.args.self.now.left place mid c.self.invariant
+make-requires-clause-queue c = λ offset mid taken none.
+    queue_fits c.self.inside.heap c.self.inside.zones c.self.inside.spare c.args.spec c.args.self.now.left offset mid c.self.invariant
     (ap (λ (v : StackView). v.left) c.self.view_is) c.requires.room taken none
 
 -- what the stack is then

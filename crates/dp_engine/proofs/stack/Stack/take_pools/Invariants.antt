@@ -10,6 +10,6 @@ invariant-loop-k l = record {
   same : (l.self.home ≡ l.initial.self.home) × (l.self.size ≡ l.initial.self.size) × (l.self.spare ≡ l.initial.self.spare);
   names : AllBefore (first_pool + 10 * l.k) l.self.names;
   many : length l.self.names ≡ length l.initial.self.names + 2 * l.k;
-  places : length l.pools ≡ 8;
+  slots : length l.pools ≡ 8;
   filled : AreFilled (IsNewPool l.initial.self.home) (take l.k l.specs) l.pools;
 }

@@ -10,6 +10,6 @@ invariant-loop-k l = record {
   same : (l.self.home ≡ l.initial.self.home) × (l.self.size ≡ l.initial.self.size) × (l.self.spare ≡ l.initial.self.spare);
   names : AllBefore (first_of l.kind + 10 * l.k) l.self.names;
   many : length l.self.names ≡ length l.initial.self.names + l.k;
-  places : length l.rings ≡ 8;
+  slots : length l.rings ≡ 8;
   filled : AreFilled (IsNewRing l.initial.self.home) (take l.k l.counts) l.rings;
 }

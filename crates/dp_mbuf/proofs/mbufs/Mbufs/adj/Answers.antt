@@ -1,7 +1,6 @@
 -- Bytes are cut at the front of the first segment, which has as many.
 use Rattle.std.proofs.Common.{arith}
-use Rattle.dp_mbuf.proofs.Live.{same_store}
-use Rattle.dp_mbuf.proofs.Live.{live_object, first_fits, adj_done}
+use Rattle.dp_mbuf.proofs.Live.{same_store, live_object, first_fits, adj_done}
 use Rattle.dp_mbuf.proofs.mbufs.Mbufs.adj.Goals as goal
 
 pub first_header-head-requires : goal.first_header-head-requires

@@ -3,8 +3,7 @@ use Rattle.std.proofs.Common.{◌≡◌, ◌+◌, ◌≤◌, refl, ap, arith}
 use Rattle.dp_model.specs.Environments.{room_at}
 use Rattle.dp_mbuf.specs.Mbufs.{numbered}
 use Rattle.dp_mbuf.specs.Objects.{header_at, specs_of, HasObject}
-use Rattle.dp_mbuf.proofs.Live.{same_store}
-use Rattle.dp_mbuf.proofs.Live.{live_object, last_object}
+use Rattle.dp_mbuf.proofs.Live.{same_store, live_object, last_object}
 use Rattle.dp_mbuf.proofs.InHand.{object_after}
 use Rattle.dp_mbuf.proofs.Bytes.{behind_last, appended_done}
 use Rattle.dp_mbuf.proofs.mbufs.Mbufs.append.Goals as goal

@@ -1,7 +1,6 @@
 -- Two packets joined: their first headers are opened once, and each goal is one step from there.
 use Rattle.std.proofs.Common.{arith, ◌∙◌}
-use Rattle.dp_mbuf.proofs.Live.{same_store}
-use Rattle.dp_mbuf.proofs.Live.{live_object}
+use Rattle.dp_mbuf.proofs.Live.{same_store, live_object}
 use Rattle.dp_mbuf.proofs.InHand.{object_after}
 use Rattle.dp_mbuf.proofs.Chaining.{Heads, last_there, segs_fit, chained}
 use Rattle.dp_mbuf.proofs.mbufs.Mbufs.chain.Goals as goal

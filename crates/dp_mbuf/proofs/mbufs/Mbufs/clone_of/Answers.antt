@@ -3,8 +3,7 @@ use Rattle.std.proofs.Common.{length, refl, ap, arith, ◌∙◌}
 use Rattle.dp_model.specs.Packets.{Packet}
 use Rattle.dp_model.specs.Stores.{Has}
 use Rattle.dp_mbuf.proofs.InHand.{cloned_zones}
-use Rattle.dp_mbuf.proofs.Live.{same_store, same_zones}
-use Rattle.dp_mbuf.proofs.Live.{live_object}
+use Rattle.dp_mbuf.proofs.Live.{same_store, same_zones, live_object}
 use Rattle.dp_mbuf.proofs.Cloning.{Opening, before, cloning_can, cloning_start, step_can, step_last, step_done, end_object, end_done}
 use Rattle.dp_mbuf.proofs.mbufs.Mbufs.clone_of.Goals as goal
 use Rattle.dp_mbuf.proofs.mbufs.Mbufs.clone_of.Goals.{After-first_number}

@@ -1,8 +1,7 @@
 -- The mbufs of a packet are given back one by one, along their links.
 use Rattle.std.proofs.Common.{◌∙◌}
 use Rattle.dp_mbuf.proofs.InHand.{released_zones}
-use Rattle.dp_mbuf.proofs.Live.{same_store, same_zones}
-use Rattle.dp_mbuf.proofs.Live.{live_object}
+use Rattle.dp_mbuf.proofs.Live.{same_store, same_zones, live_object}
 use Rattle.dp_mbuf.proofs.Freeing.{freeing_start, freeing_can, freeing_step, freeing_end}
 use Rattle.dp_mbuf.proofs.mbufs.Mbufs.free.Goals as goal
 

@@ -1,6 +1,5 @@
 -- The first header has the headroom: the offset of the first segment.
-use Rattle.dp_mbuf.proofs.Live.{same_store}
-use Rattle.dp_mbuf.proofs.Live.{live_object, headroom_is}
+use Rattle.dp_mbuf.proofs.Live.{same_store, live_object, headroom_is}
 use Rattle.dp_mbuf.proofs.mbufs.Mbufs.headroom.Goals as goal
 
 pub first_header-requires : goal.first_header-requires

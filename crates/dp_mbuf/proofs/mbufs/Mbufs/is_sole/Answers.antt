@@ -4,8 +4,7 @@ use Rattle.std.proofs.lemmas.List.{drop_all}
 use Rattle.dp_model.specs.Packets.{Packet, IsSole}
 use Rattle.dp_model.specs.Stores.{Has, segments_of}
 use Rattle.dp_mbuf.specs.Objects.{header_at}
-use Rattle.dp_mbuf.proofs.Live.{same_store}
-use Rattle.dp_mbuf.proofs.Live.{live_object}
+use Rattle.dp_mbuf.proofs.Live.{same_store, live_object}
 use Rattle.dp_mbuf.proofs.Reading.{links_of, many_of, part, walk_next, sole_more, sole_not}
 use Rattle.dp_mbuf.proofs.mbufs.Mbufs.is_sole.Goals as goal
 use Rattle.dp_mbuf.proofs.mbufs.Mbufs.is_sole.Goals.{After-first_header-segs}

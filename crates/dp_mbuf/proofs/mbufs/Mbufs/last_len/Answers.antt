@@ -1,6 +1,5 @@
 -- The first header leads to the last, which has the length of the last segment.
-use Rattle.dp_mbuf.proofs.Live.{same_store}
-use Rattle.dp_mbuf.proofs.Live.{live_object, last_object, last_length_is}
+use Rattle.dp_mbuf.proofs.Live.{same_store, live_object, last_object, last_length_is}
 use Rattle.dp_mbuf.proofs.mbufs.Mbufs.last_len.Goals as goal
 
 pub last_header-requires-clause-first : goal.last_header-requires-clause-first

@@ -3,8 +3,7 @@ use Rattle.std.proofs.Common.{◌<◌, length, ap, arith}
 use Rattle.std.proofs.lemmas.List.{drop_all}
 use Rattle.dp_model.specs.Packets.{packet_bytes}
 use Rattle.dp_mbuf.specs.Objects.{header_at}
-use Rattle.dp_mbuf.proofs.Live.{same_store}
-use Rattle.dp_mbuf.proofs.Live.{live_object}
+use Rattle.dp_mbuf.proofs.Live.{same_store, live_object}
 use Rattle.dp_mbuf.proofs.Reading.{links_of, many_of, part, walk_next, length_more, length_few}
 use Rattle.dp_mbuf.proofs.mbufs.Mbufs.length.Goals as goal
 

@@ -1,8 +1,7 @@
 -- The number is read from the first segment, which has its bytes.
 use Rattle.std.proofs.Common.{ap, arith, ◌∙◌}
 use Rattle.dp_model.specs.Arithmetic.{bytes_in, spelled}
-use Rattle.dp_mbuf.proofs.Live.{same_store}
-use Rattle.dp_mbuf.proofs.Live.{live_object}
+use Rattle.dp_mbuf.proofs.Live.{same_store, live_object}
 use Rattle.dp_mbuf.proofs.Bytes.{at_first, loaded_is, rest_long, rest_take}
 use Rattle.dp_mbuf.proofs.mbufs.Mbufs.load.Goals as goal
 

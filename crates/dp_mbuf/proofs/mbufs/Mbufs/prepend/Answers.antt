@@ -1,8 +1,7 @@
 -- Zeros in front of the first segment: what stands free there is opened once.
 use Rattle.std.proofs.Common.{◌≤◌, refl, ap, arith}
 use Rattle.dp_model.specs.Environments.{room_at}
-use Rattle.dp_mbuf.proofs.Live.{same_store}
-use Rattle.dp_mbuf.proofs.Live.{live_object}
+use Rattle.dp_mbuf.proofs.Live.{same_store, live_object}
 use Rattle.dp_mbuf.proofs.InHand.{object_after}
 use Rattle.dp_mbuf.proofs.Bytes.{first_part, before_first, prepended_done}
 use Rattle.dp_mbuf.proofs.mbufs.Mbufs.prepend.Goals as goal

@@ -1,6 +1,5 @@
 -- The first header has the number of segments.
-use Rattle.dp_mbuf.proofs.Live.{same_store}
-use Rattle.dp_mbuf.proofs.Live.{live_object, segments_is}
+use Rattle.dp_mbuf.proofs.Live.{same_store, live_object, segments_is}
 use Rattle.dp_mbuf.proofs.mbufs.Mbufs.segments.Goals as goal
 
 pub first_header-requires : goal.first_header-requires

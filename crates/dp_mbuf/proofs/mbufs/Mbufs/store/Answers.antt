@@ -1,8 +1,7 @@
 -- The number is written in the first segment, which has its bytes.
 use Rattle.std.proofs.Common.{refl, arith}
 use Rattle.dp_model.specs.Arithmetic.{bytes_in}
-use Rattle.dp_mbuf.proofs.Live.{same_store}
-use Rattle.dp_mbuf.proofs.Live.{live_object}
+use Rattle.dp_mbuf.proofs.Live.{same_store, live_object}
 use Rattle.dp_mbuf.proofs.Bytes.{at_first, stored_done}
 use Rattle.dp_mbuf.proofs.mbufs.Mbufs.store.Goals as goal
 

@@ -1,6 +1,5 @@
 -- Bytes are cut at the end of the last segment, which has as many.
-use Rattle.dp_mbuf.proofs.Live.{same_store}
-use Rattle.dp_mbuf.proofs.Live.{live_object, last_object, last_fits, trim_done}
+use Rattle.dp_mbuf.proofs.Live.{same_store, live_object, last_object, last_fits, trim_done}
 use Rattle.dp_mbuf.proofs.mbufs.Mbufs.trim.Goals as goal
 
 pub first_header-last-requires : goal.first_header-last-requires

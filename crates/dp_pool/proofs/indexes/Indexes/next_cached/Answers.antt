@@ -1,7 +1,6 @@
 -- The last of the cache is handed out.
-use Rattle.std.proofs.Common.{◌≡◌, ◌+◌, ◌-◌, ◌∷◌, [], ◌++◌, length, slice_get, sym, ap, ap₂, ◌∙◌, arith}
+use Rattle.std.proofs.Common.{◌≡◌, ◌+◌, ◌-◌, ◌∷◌, [], ◌++◌, length, slice_get, sym, ap, ap₂, ◌∙◌, arith, length-append}
 use Rattle.std.specs.Prelude.{option_to_list}
-use Rattle.std.proofs.Common.{length-append}
 use Rattle.dp_pool.proofs.Views.{view_of, with_state, got_cached}
 use Rattle.dp_pool.proofs.Steps.{Gone, gone_cached}
 use Rattle.dp_pool.proofs.indexes.Indexes.next_cached.Goals as goal

@@ -1,6 +1,5 @@
 -- The indexes stand at the end of the cache.
-use Rattle.std.proofs.Common.{◌≡◌, ◌<◌, ◌++◌, length, sym, ap, subst, ◌∙◌, arith}
-use Rattle.std.proofs.Common.{length-append}
+use Rattle.std.proofs.Common.{◌≡◌, ◌<◌, ◌++◌, length, sym, ap, subst, ◌∙◌, arith, length-append}
 use Rattle.dp_pool.specs.Once.{AreOnce}
 use Rattle.dp_pool.specs.Queues.{AreOut, all_returned}
 use Rattle.dp_pool.proofs.Cached.{end_returned}

@@ -1,6 +1,5 @@
 -- The queue's front stands in the cache then, and the same indexes are in.
-use Rattle.std.proofs.Common.{◌≡◌, min, ◌++◌, length, take, drop, sym, ap, ap₂, ◌∙◌, arith}
-use Rattle.std.proofs.Common.{length-append}
+use Rattle.std.proofs.Common.{◌≡◌, min, ◌++◌, length, take, drop, sym, ap, ap₂, ◌∙◌, arith, length-append}
 use lib.Seq.{length-take-le}
 use Rattle.dp_pool.specs.Once.{absent}
 use Rattle.dp_pool.specs.Queues.{in_count}
