@@ -90,8 +90,16 @@ def fault(cause: str, top: dict[str, Any], **files: bytes) -> Case:
 def no_toml() -> Iterator[Case]:
     """Texts that are no TOML."""
     texts = (b"=", b"region = ", b"# \xff", b"region = 4096\nregion = 4096", b"[[pool]", b"region = 99999999999999999999", b"a = " + b"[" * 81 + b"]" * 81)
+    texts += (b"a = {,}", b"a = {b = 1,,}", b"a = {b\n= 1}", b"a = {b =\n1}", b"a = {b = 1\nc = 2}", rb'a = "\xg0"')
     for text in texts:
         yield fault("1 NotToml", {}, **{"it.toml": text})
+
+
+def newer_toml() -> Iterator[Case]:
+    """A text that is TOML since version 1.1: its inline tables have newlines, comments and last commas. Only its port is at fault."""
+    pool = b"pool = [{\n  count = 4, # buffers\n  cache = 0,\n  room = 256,\n},]\n"
+    port = rb'port = [{pool = 1, segs = 1, queue = 4, node = "\x6e", in = "\e", out = "o", }]'
+    yield fault("3 BadEnv 4 0", {}, **{"it.toml": b"region = 4096\n" + pool + port})
 
 
 def wrong_values(key: str, value: Any) -> list[Any]:
@@ -324,7 +332,7 @@ def ends_so(program: str, folder: pathlib.Path, case: Case) -> bool:
     return passed
 
 
-CASES = (sound, no_toml, bad_keys, bad_envs, bad_tables, bad_files, refusals)
+CASES = (sound, no_toml, newer_toml, bad_keys, bad_envs, bad_tables, bad_files, refusals)
 
 
 def main() -> int:

@@ -14,7 +14,7 @@ from unittest import mock
 
 import fuzz
 from causes import TEXTS
-from model import answers, captures, heap, pipelines, programs, rules
+from model import answers, captures, heap, pipelines, programs, rules, toml
 from model.machine import Env, Pool, Port, Ring, World, hop_for
 
 STRIP = b"iflen p0,14,L4\nadj p0,14\ntx p0,r0,L4\nexit\nL4:\nfree p0\nexit\n"
@@ -317,6 +317,14 @@ class Texts(unittest.TestCase):
         }
         for text, cause in told.items():
             self.assertEqual(pipelines.load(lambda _: None, text, False, ""), pipelines.fault(cause))
+
+    def test_newer_toml(self) -> None:
+        both = {"a = {b = 1, # one\n c = [2,\n3],\n}": {"a": {"b": 1, "c": [2, 3]}}, r'a = "\e\x41\\e"': {"a": "\x1bA\\e"}, "a = {\n}": {"a": {}}}
+        for text, read in both.items():
+            self.assertEqual(toml.read(text), read)
+        for text in ("a = {,}", "a = {b = 1,,}", "a = {b\n= 1}", "a = {b =\n1}", "a = {b = 1\nc = 2}", r'a = "\xg0"', "a = {b = 1, # \x01\n}"):
+            with self.assertRaises(ValueError):
+                toml.read(text)
 
     def test_captures(self) -> None:
         self.assertEqual(captures.read(capture(magic=0xA1B2C3D3)).ending, "1")

@@ -8,7 +8,8 @@ def shown(rng: Random, value: Any, plain: bool) -> str:
     if isinstance(value, bool):
         return str(value).lower()
     if isinstance(value, dict):
-        return "{" + ", ".join(f"{key_of(key)} = {shown(rng, part, plain)}" for key, part in value.items()) + "}"
+        between, last = (", ", "") if plain or rng.random() < 0.7 else (rng.choice((", ", ",\n", ", # one more\n")), rng.choice(("", ",", ",\n")))
+        return "{" + between.join(f"{key_of(key)} = {shown(rng, part, plain)}" for key, part in value.items()) + (last if value else "") + "}"
     if isinstance(value, list):
         return "[" + ", ".join(shown(rng, part, plain) for part in value) + rng.choice(("", "," if value else "")) + "]"
     if isinstance(value, str):

@@ -1,11 +1,10 @@
 """Pipeline files, as docs/formats.md has them."""
 import re
-import tomllib
 from collections.abc import Callable
 from functools import lru_cache
 from typing import Any, NamedTuple
 
-from . import programs, rules
+from . import programs, rules, toml
 from .machine import Env, Instr, Pool, Port, Ring
 
 LONGEST = 1_048_576
@@ -204,7 +203,7 @@ def inferred_for(name: str, program: list[Instr], env: Env, place: int, said: st
 def settings(text: bytes) -> tuple[int, Env, list[Node]] | Fault:
     """The region, the environment and the nodes of a text; or why it is no pipeline."""
     try:
-        top = tomllib.loads(text.decode())
+        top = toml.read(text.decode())
     except (ValueError, RecursionError):
         return fault("1 NotToml")
     if any(beyond(value) for value in top.values()):

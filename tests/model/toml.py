@@ -1,0 +1,57 @@
+"""TOML 1.1, read by `tomllib`, which knows 1.0: what is new in 1.1 is written as 1.0 has it first.
+
+New are newlines, comments and a comma behind the last value in inline tables, the escapes for ESC and of two digits, and times without
+seconds.
+"""
+import re
+import tomllib
+from typing import Any
+
+STRING = r'"""(?:[^\\]|\\.)*?"{3,5}|"(?:[^"\\\n]|\\.)*"|' + r"'''.*?'{3,5}|'[^'\n]*'"
+# A time without seconds, or at the second that is put in now and then, which the library of the program takes.
+TIME = r"(?<![\d:.+-])\d\d:\d\d(?::60(?!\d)|(?![:\d]))"
+# Strings, comments, such times, and each other character by itself.
+PARTS = re.compile(rf"{STRING}|#[^\n]*|{TIME}|.", re.S)
+# What no comment may have.
+CONTROL = re.compile(r"[\x00-\x08\x0b-\x1f\x7f]")
+
+
+def is_blank(part: str) -> bool:
+    """Whether a part has no meaning of its own."""
+    return part in " \t\n" or part[0] == "#"
+
+
+def escape(found: re.Match[str]) -> str:
+    """An escape as 1.0 has it."""
+    return r"\u001b" if found[1] == "e" else rf"\u00{found[2]}" if found[2] else found[0]
+
+
+def older(text: str) -> str:
+    """A text of TOML 1.1 as one of 1.0, which is refused where the first is."""
+    parts, out, open_ = PARTS.findall(text.replace("\r\n", "\n")), [], []
+    meant = [k for k, part in enumerate(parts) if not is_blank(part)]
+    after = dict(zip([-1, *meant], [*(parts[k] for k in meant), ""]))
+    last = -1
+    for k, part in enumerate(parts):
+        within, before, behind = open_[-1:] == ["{"], parts[last] if last >= 0 else "", after[last if is_blank(part) else k]
+        if not is_blank(part):
+            last = k
+        if part in "[{":
+            open_.append(part)
+        elif part in "]}":
+            del open_[-1:]
+        if within and is_blank(part) and (before in "{," or behind in "},") and not CONTROL.search(part):
+            part = " "
+        elif within and part == "," and behind == "}" and before not in "{,":
+            part = " "
+        elif part[0] == '"':
+            part = re.sub(r"\\(x([0-9A-Fa-f]{2})|.)", escape, part, flags=re.S)
+        elif re.fullmatch(TIME, part):
+            part = part[:5] + ":00"
+        out.append(part)
+    return "".join(out)
+
+
+def read(text: str) -> dict[str, Any]:
+    """The table of a text; a ValueError where it is none."""
+    return tomllib.loads(older(text))
