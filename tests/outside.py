@@ -213,6 +213,8 @@ CASES: dict[str, Callable[[Tried], bool]] = {
 
 def main() -> int:
     """All of it."""
+    # Where a shell starts this in the background, SIGINT is ignored, also by what is started here.
+    signal.signal(signal.SIGINT, signal.default_int_handler)
     program = asked()
     passed = []
     signal.alarm(600)
