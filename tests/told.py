@@ -168,6 +168,12 @@ def same_files() -> Iterator[Case]:
     yield Case(["run", "crossed.toml"], 3, file("kept.pcap", same))
 
 
+def no_text() -> Iterator[Case]:
+    """Words that are not UTF-8, wherever they stand."""
+    for words in (["\udcff"], ["check", "\udcff"], ["run", "both.toml", "--refuse", "\udc80"], ["check", "\udcff", "more"]):
+        yield Case(words, 2, "error: an argument is not UTF-8\n")
+
+
 def traces() -> Iterator[Case]:
     """Words of `dpv trace` that are no port or no number of records, before any file is read; and ports that the pipeline lacks."""
     for port in ("8", "256", "", "+1", "-1", "port0"):
@@ -277,7 +283,7 @@ def main() -> int:
         folder.mkdir()
         make_files(folder)
         make_more(folder)
-        kinds = (files, captures, full_disks, pipelines, same_files, traces, progress, nothing_told)
+        kinds = (files, captures, full_disks, pipelines, same_files, no_text, traces, progress, nothing_told)
         passed = [ends_so(program, case, folder) for kind in kinds for case in kind()]
         passed.append(goes_on(program, folder))
         passed += as_nobody(program, folder)

@@ -39,7 +39,7 @@ use check_files::{check_file, infer_file, infer_program};
 use clap::ArgMatches;
 use clap::error::ErrorKind;
 use command_line::word;
-use fault::{DONE, FAULT, Fault, USAGE, Unwritten, tell_fault};
+use fault::{DONE, FAULT, Fault, USAGE, Unwritten, tell_fault, tell_usage};
 use mem::mem_line;
 use progress::ToStderr;
 use run_files::{run_file, run_one_port};
@@ -129,6 +129,18 @@ fn run_command<R: Files + Print, E: io::Write>(
     }
 }
 
+/// Tells why the words of the command line cannot be read, one that is not UTF-8, and answers the status.
+///
+/// # Errors
+///
+/// `AllocError` where they find no room.
+fn unread_words<E: io::Write>(kind: io::ErrorKind, err: &mut E) -> Result<u8, AllocError> {
+    if kind == io::ErrorKind::OutOfMemory {
+        return Err(AllocError);
+    }
+    Ok(tell_usage(err, format_args!("error: an argument is not UTF-8")))
+}
+
 /// Runs the command that the words of the command line ask for, and answers the status.
 ///
 /// # Errors
@@ -140,8 +152,9 @@ fn run_words<R: Env + AllocGlobal + Files + Print + Eprint, E: io::Write>(
     err: &mut E,
 ) -> Result<u8, AllocError> {
     let alloc = rt.alloc();
-    let Ok(given) = std::env::args(rt) else {
-        return Err(AllocError);
+    let given = match std::env::args(rt) {
+        Ok(given) => given,
+        Err(error) => return unread_words(error.kind(), err),
     };
     let words = given.collect::<Vec<String>>(alloc)?;
     let command = command_line::command(alloc)?;
