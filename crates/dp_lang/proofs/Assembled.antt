@@ -14,11 +14,11 @@ use Rattle.dp_lang.specs.declared.form.Kind.TheVariants as kinds
 use Rattle.dp_lang.specs.declared.source.Source as sources
 use Rattle.dp_lang.specs.declared.statement.Statement as statements
 use Rattle.dp_lang.specs.Arguments.{Argument, packet, register, constant, label}
-use Rattle.dp_lang.specs.Forms.{kinds_of, is_of, all_of}
+use Rattle.dp_lang.specs.Forms.{kinds_of, Statement, spelled, either}
+use Rattle.dp_lang.specs.Kinds.{is_of, all_of}
 use Rattle.dp_lang.specs.Programs.{IsProgram, is_in_range, leads_below}
 use Rattle.dp_lang.specs.Reading.{below, target_in, as_label, resolved, onto_resolved, all_resolved, statement_with, all_statements, ◌>>=◌}
 use Rattle.dp_lang.specs.Sources as view
-use Rattle.dp_lang.specs.Spelling.{Statement, spelled, either}
 use Rattle.dp_lang.specs.Views.{argument}
 use Rattle.dp_lang.proofs.Bytes.{and_true, and_left, and_right}
 

@@ -4,7 +4,7 @@ use Rattle.std.specs.Prelude.{◌&&◌, ◌||◌, ◌==◌, nat_le}
 use Rattle.std.specs.List.{list_all}
 use Rattle.std.proofs.lemmas.Bool.Decides.{nat_tests}
 use Rattle.dp_lang.specs.Lines.{is_blank, is_text, is_newline, is_hash, is_colon, is_comma}
-use Rattle.dp_lang.specs.Forms.{is_letter_or_digit}
+use Rattle.dp_lang.specs.Kinds.{is_letter_or_digit}
 
 -- ---- tests
 

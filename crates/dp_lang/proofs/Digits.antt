@@ -8,7 +8,7 @@ use Rattle.std.specs.Str.Parse.{AllDigits, digits_value, digits_value_after}
 use Rattle.std.proofs.lemmas.Bool.Decides.{nat_tests}
 use Rattle.std.proofs.lemmas.Bool.{lt-ltb, leb-true, le-leb}
 use Rattle.std.proofs.lemmas.Fmt.{decimal_digit, decimal_is_IsNumeral, decimal_nonempty, length-decimal-le}
-use Rattle.dp_lang.specs.Forms.{digits_after, numeral, number_in, register_in}
+use Rattle.dp_lang.specs.Kinds.{digits_after, numeral, number_in, register_in}
 use Rattle.dp_lang.proofs.Bytes.{is_digit, and_true, and_left, and_right}
 
 value_digit : (c : ℕ) → digit_value c < 10 → is_digit c ≡ true

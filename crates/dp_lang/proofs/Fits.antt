@@ -8,8 +8,8 @@ use Rattle.dp_lang.specs.declared.form.Kind.{Kind}
 use Rattle.dp_lang.specs.declared.form.Kind.TheVariants as kinds
 use Rattle.dp_lang.specs.Lines.{trim}
 use Rattle.dp_lang.specs.Arguments.{packet, register, constant, label}
-use Rattle.dp_lang.specs.Forms.{register_or, number_where, is_within, is_width, register_or_constant, register_in, number_in, argument_of, is_name, is_of}
-use Rattle.dp_lang.specs.Forms.{all_of}
+use Rattle.dp_lang.specs.Kinds.{register_or, number_where, is_within, is_width, register_or_constant, register_in, number_in, argument_of, is_name, is_of}
+use Rattle.dp_lang.specs.Kinds.{all_of}
 use Rattle.dp_lang.specs.Reading.{Named, both, ◌>>=◌, onto, each_argument}
 use Rattle.dp_lang.specs.Views.{Shows}
 

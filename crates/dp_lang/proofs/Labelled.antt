@@ -2,7 +2,7 @@
 use Rattle.std.proofs.Common.{◌≡◌, ℕ, suc, ◌+◌, ◌<◌, Bool, false, cond, List, [], ◌∷◌, ◌++◌, length, get_or, take, drop, add-one, append_assoc, sym, ap, ◌∙◌}
 use Rattle.std.proofs.Math.Seq.{drop-cons}
 use Rattle.dp_model.specs.declared.instr.Instr.{Instr}
-use Rattle.dp_lang.specs.Spelling.{spelled}
+use Rattle.dp_lang.specs.Forms.{spelled}
 use Rattle.dp_lang.specs.Printing.{is_named, label_name, line, label_line, statement_text, printed_from}
 
 -- the labels that the first so many instructions name

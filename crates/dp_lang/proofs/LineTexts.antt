@@ -5,7 +5,8 @@ use Rattle.std.specs.FinMap.{insert, contains_key}
 use Rattle.std.proofs.lemmas.Bool.{lt-ltb}
 use Rattle.dp_lang.specs.declared.form.Form.{Form}
 use Rattle.dp_lang.specs.Arguments.{Argument}
-use Rattle.dp_lang.specs.Forms.{word_of, kinds_of, all_of}
+use Rattle.dp_lang.specs.Forms.{word_of, kinds_of}
+use Rattle.dp_lang.specs.Kinds.{all_of}
 use Rattle.dp_lang.specs.Lines.{is_text, is_hash, is_colon, trim, pieces}
 use Rattle.dp_lang.specs.Printing.{argument_text, arguments_text, label_name}
 use Rattle.dp_lang.specs.Reading.{Source, statement_of, line_of}

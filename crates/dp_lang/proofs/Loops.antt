@@ -9,8 +9,8 @@ use Rattle.dp_lang.specs.declared.cause.Cause.{Cause}
 use Rattle.dp_lang.specs.Causes.{number_of, least, or_less}
 use Rattle.dp_lang.specs.declared.form.Kind.{Kind}
 use Rattle.dp_lang.specs.Lines.{trim, trim_start, is_text, pieces, labels_in, instruction_in}
-use Rattle.dp_lang.specs.Forms.{argument_of}
-use Rattle.dp_lang.specs.Spelling.{Statement}
+use Rattle.dp_lang.specs.Kinds.{argument_of}
+use Rattle.dp_lang.specs.Forms.{Statement}
 use Rattle.std.specs.FinMap.{insert}
 use Rattle.dp_lang.specs.Reading.{Named, both, ◌>>=◌, onto, second, each_argument, Labels, label_test, labels_after, Source, statement_of, with_statement}
 use Rattle.dp_lang.specs.Reading.{line_of}

@@ -7,7 +7,7 @@ use Rattle.std.proofs.lemmas.Bool.{leb-true, le-leb}
 use Rattle.dp_lang.specs.declared.form.Kind.{Kind}
 use Rattle.dp_lang.specs.declared.form.Kind.TheVariants as kinds
 use Rattle.dp_lang.specs.Arguments.{Argument, packet, register, constant, label}
-use Rattle.dp_lang.specs.Forms.{argument_of, number_where, is_within, is_width, is_name, is_of, number_in, is_letter_or_digit}
+use Rattle.dp_lang.specs.Kinds.{argument_of, number_where, is_within, is_width, is_name, is_of, number_in, is_letter_or_digit}
 use Rattle.dp_lang.specs.Printing.{argument_text, label_name}
 use Rattle.dp_lang.proofs.Bytes.{is_digit, is_plain, digit_plain, digit_letter, all_implies, and_true}
 use Rattle.dp_lang.proofs.Digits.{decimal_digits, decimal_short, number_decimal, no_register, register_decimal}

@@ -13,9 +13,9 @@ use Rattle.dp_lang.specs.declared.form.Form.TheVariants.{Alloc}
 use Rattle.dp_lang.specs.declared.form.Kind.{Kind}
 use Rattle.dp_lang.specs.declared.form.Kind.TheVariants as kinds
 use Rattle.dp_lang.specs.Arguments.{Argument, packet, register, constant, label}
-use Rattle.dp_lang.specs.Forms.{kinds_of, is_of, all_of, is_width}
+use Rattle.dp_lang.specs.Forms.{kinds_of, spelled, either}
+use Rattle.dp_lang.specs.Kinds.{is_of, all_of, is_width}
 use Rattle.dp_lang.specs.Programs.{is_in_range, leads_below}
-use Rattle.dp_lang.specs.Spelling.{spelled, either}
 use Rattle.dp_lang.proofs.Assembled.{is_below}
 use Rattle.dp_lang.proofs.Bytes.{and_true, and_left, and_right}
 use Rattle.dp_lang.proofs.Operands.{is_small}

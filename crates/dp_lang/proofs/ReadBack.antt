@@ -12,7 +12,7 @@ use Rattle.dp_lang.specs.Lines.{is_newline}
 use Rattle.dp_lang.specs.Printing.{statement_text, is_named, label_name, line, printed_from, printed}
 use Rattle.dp_lang.specs.Programs.{IsProgram, is_in_range, leads_below}
 use Rattle.dp_lang.specs.Reading.{Source, line_of, lines_of, nothing, target_in, not_empty, program_of, Reads}
-use Rattle.dp_lang.specs.Spelling.{spelled}
+use Rattle.dp_lang.specs.Forms.{spelled}
 use Rattle.dp_lang.proofs.Bytes.{Free, is_plain, is_ink, plain_newline, ink_newline, all_implies, all_append, and_left, and_right}
 use Rattle.dp_lang.proofs.LineCuts.{split_at}
 use Rattle.dp_lang.proofs.LineTexts.{text_ink, line_statement, line_label, line_empty}

@@ -11,7 +11,7 @@ use Rattle.dp_model.specs.Jumps.{label_of}
 use Rattle.dp_lang.specs.Programs.{leads_below}
 use Rattle.dp_lang.specs.Printing.{names, is_named, label_name}
 use Rattle.dp_lang.specs.Reading.{resolved, all_resolved, all_statements}
-use Rattle.dp_lang.specs.Spelling.{Statement, spelled, either}
+use Rattle.dp_lang.specs.Forms.{Statement, spelled, either}
 use Rattle.dp_lang.proofs.Bytes.{and_left, and_right}
 use Rattle.dp_lang.proofs.Operands.{named}
 

@@ -13,7 +13,7 @@ use Rattle.dp_lang.specs.declared.form.Form.{Form}
 use Rattle.dp_lang.specs.declared.form.Form.TheVariants as forms
 use Rattle.dp_lang.specs.Arguments.{Argument, packet, register, constant, label}
 use Rattle.dp_lang.specs.Reading.{Reads}
-use Rattle.dp_lang.specs.Spelling.{Statement, spelled, either}
+use Rattle.dp_lang.specs.Forms.{Statement, spelled, either}
 
 number : Argument ℕ → ℕ
 number (packet p) = p

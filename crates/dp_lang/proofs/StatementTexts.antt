@@ -8,11 +8,11 @@ use Rattle.dp_lang.specs.declared.form.Form.{Form}
 use Rattle.dp_lang.specs.declared.form.Form.TheVariants.{Alloc}
 use Rattle.dp_lang.specs.declared.form.Kind.{Kind}
 use Rattle.dp_lang.specs.Arguments.{Argument, packet, register, constant, label}
-use Rattle.dp_lang.specs.Forms.{word_of, kinds_of, form_of, is_of, all_of}
+use Rattle.dp_lang.specs.Forms.{word_of, kinds_of, form_of, Statement}
+use Rattle.dp_lang.specs.Kinds.{is_of, all_of}
 use Rattle.dp_lang.specs.Lines.{is_blank, is_comma, trim, word_in, operands_in}
 use Rattle.dp_lang.specs.Printing.{argument_text, arguments_text}
 use Rattle.dp_lang.specs.Reading.{each_argument, arguments_of, with_form, statement_of}
-use Rattle.dp_lang.specs.Spelling.{Statement}
 use Rattle.dp_lang.proofs.Bytes.{Free, is_plain, plain_blank, plain_comma, all_implies, and_left, and_right}
 use Rattle.dp_lang.proofs.LineCuts.{split_at, split_none, before_at, before_none, after_at, after_none, begins, free_begins, free_ends, trim_none}
 use Rattle.dp_lang.proofs.Digits.{decimal_some}

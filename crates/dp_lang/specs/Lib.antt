@@ -1,8 +1,9 @@
 -- The definitions that contracts of dp_lang name.
 pub mod Arguments
-pub mod Building
 pub mod Causes
+pub mod Fields
 pub mod Forms
+pub mod Kinds
 pub mod LabelMaps
 pub mod Lines
 pub mod Printing
@@ -10,5 +11,4 @@ pub mod Programs
 pub mod Reading
 pub mod SourceLines
 pub mod Sources
-pub mod Spelling
 pub mod Views

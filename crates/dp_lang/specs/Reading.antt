@@ -16,8 +16,8 @@ use Rattle.dp_lang.specs.declared.form.Form.{Form}
 use Rattle.dp_lang.specs.declared.program.TheConstants.{MOST_INSTRS}
 use Rattle.dp_lang.specs.Causes.{least}
 use Rattle.dp_lang.specs.Lines.{trim, is_blank, is_text, is_newline, pieces, labels_in, instruction_in, word_in, operands_in}
-use Rattle.dp_lang.specs.Forms.{kinds_of, form_of, argument_of, is_name}
-use Rattle.dp_lang.specs.Spelling.{Statement, spelled}
+use Rattle.dp_lang.specs.Forms.{kinds_of, form_of, Statement, spelled}
+use Rattle.dp_lang.specs.Kinds.{argument_of, is_name}
 
 -- both, or the least cause
 abbrev pub both : {A B : Type 0} → Result A Cause → Result B Cause → Result (A × B) Cause

@@ -2,18 +2,18 @@
 use Rattle.std.specs.Prelude.{ℕ, List, Option, Some, None, map}
 use Rattle.dp_lang.specs.declared.statement.Statement.{Statement}
 use Rattle.dp_lang.specs.declared.source.Source.{Source}
-use Rattle.dp_lang.specs.Spelling as spelling
+use Rattle.dp_lang.specs.Forms as forms
 use Rattle.dp_lang.specs.Reading as reading
 use Rattle.dp_lang.specs.Views.{argument}
 
-abbrev pub statement : Statement → spelling.Statement (List ℕ)
+abbrev pub statement : Statement → forms.Statement (List ℕ)
 statement s = record { form = s.form; arguments = map argument s.arguments.items }
 
-abbrev pub some_statement : Option Statement → Option (spelling.Statement (List ℕ))
+abbrev pub some_statement : Option Statement → Option (forms.Statement (List ℕ))
 some_statement None = None
 some_statement (Some s) = Some (statement s)
 
-abbrev pub with_line : Statement → ℕ × spelling.Statement (List ℕ)
+abbrev pub with_line : Statement → ℕ × forms.Statement (List ℕ)
 with_line s = (s.line, statement s)
 
 abbrev pub source : Source → reading.Source

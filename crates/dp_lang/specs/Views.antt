@@ -14,7 +14,7 @@ use Rattle.dp_lang.specs.declared.argument.Numbered.TheVariants as program
 use Rattle.dp_lang.specs.declared.cause.Fault.{Fault}
 use Rattle.dp_lang.specs.declared.cause.AsmError.{AsmError}
 use Rattle.dp_lang.specs.declared.cause.AsmError.TheVariants as errors
-use Rattle.dp_lang.specs.Spelling.{either, spelled}
+use Rattle.dp_lang.specs.Forms.{either, spelled}
 
 abbrev pub argument : Named → Argument (List ℕ)
 argument (text.Packet p) = packet p

@@ -1,7 +1,17 @@
-//! The table of forms: the word of each instruction, and the kinds of its operands.
+//! The table of forms: of each instruction its word, its fields, and what each field is as an operand.
 
-ghost use Rattle.std.specs.Prelude.{◌≡◌};
-ghost use Rattle.dp_lang.specs.Forms.{word_of, kinds_of, form_of};
+ghost use Rattle.std.specs.Prelude.{◌≡◌, map};
+ghost use Rattle.dp_model.specs.Jumps.{label_of};
+ghost use Rattle.dp_model.specs.Rules.{uses};
+ghost use Rattle.dp_lang.specs.Fields.{fielded_statement};
+ghost use Rattle.dp_lang.specs.Forms.{word_of, kinds_of, form_of, spelled};
+ghost use Rattle.dp_lang.specs.Views.{label_in, listed, numbered, seen_in, seen_of, used_in};
+
+use crate::argument::{Arguments, Named, Numbered};
+use crate::field::{
+    byte_in, count_in, number_in, operand_at, operand_in, packet_in, register_in, width_in,
+};
+use dp_model::Instr;
 
 /// What an operand has to be.
 #[derive(Clone, Copy)]
@@ -88,125 +98,130 @@ pub enum Form {
     Exit,
 }
 
-static FORMS: [Form; 32] = [
-    Form::Alloc,
-    Form::Free,
-    Form::Clone,
-    Form::Prepend,
-    Form::Adj,
-    Form::Append,
-    Form::Trim,
-    Form::Chain,
-    Form::IfHead,
-    Form::IfTail,
-    Form::IfLen,
-    Form::IfLast,
-    Form::Load,
-    Form::Store,
-    Form::LoadX,
-    Form::StoreX,
-    Form::Set,
-    Form::Mov,
-    Form::Add,
-    Form::Sub,
-    Form::And,
-    Form::Or,
-    Form::Xor,
-    Form::Shl,
-    Form::Shr,
-    Form::Jmp,
-    Form::Jeq,
-    Form::Jlt,
-    Form::Lookup,
-    Form::Tx,
-    Form::Enq,
-    Form::Exit,
-];
+/// The table, which is handed to the macro that is named: a row has the word of an instruction, and its fields in the order of its
+/// text with what each is as an operand, and from which numbers.
+macro_rules! forms {
+    ($use:ident $($given:tt)*) => {
+        $use! { $($given)*;
+            Alloc "alloc" { into: Target, pool: Small(POOL), refused: Label };
+            Free "free" { packet: Packet };
+            Clone "clone" { into: Target, from: Packet, pool: Small(POOL), refused: Label };
+            Prepend "prepend" { packet: Packet, count: Count(COUNT) };
+            Adj "adj" { packet: Packet, count: Count(COUNT) };
+            Append "append" { packet: Packet, count: Count(COUNT) };
+            Trim "trim" { packet: Packet, count: Count(COUNT) };
+            Chain "chain" { front: Packet, back: Packet };
+            IfHead "ifhead" { packet: Packet, least: Count(COUNT), less: Label };
+            IfTail "iftail" { packet: Packet, least: Count(COUNT), less: Label };
+            IfLen "iflen" { packet: Packet, least: Count(COUNT), less: Label };
+            IfLast "iflast" { packet: Packet, least: Count(COUNT), less: Label };
+            Load "load" { into: Register, packet: Packet, offset: Count(COUNT), width: Width };
+            Store "store" { packet: Packet, offset: Count(COUNT), width: Width, from: Register };
+            LoadX "loadx" { into: Register, packet: Packet, index: Register, offset: Count(COUNT), width: Width };
+            StoreX "storex" { packet: Packet, index: Register, offset: Count(COUNT), width: Width, from: Register };
+            Set "set" { into: Register, value: Constant(CONSTANT) };
+            Mov "mov" { into: Register, from: Register };
+            Add "add" { into: Register, by: RegisterOrConstant };
+            Sub "sub" { into: Register, by: RegisterOrConstant };
+            And "and" { into: Register, by: RegisterOrConstant };
+            Or "or" { into: Register, by: RegisterOrConstant };
+            Xor "xor" { into: Register, by: RegisterOrConstant };
+            Shl "shl" { into: Register, by: Small(SHIFT) };
+            Shr "shr" { into: Register, by: Small(SHIFT) };
+            Jmp "jmp" { to: Label };
+            Jeq "jeq" { left: Register, right: RegisterOrConstant, equal: Label };
+            Jlt "jlt" { left: Register, right: Constant(POSITIVE), below: Label };
+            Lookup "lookup" { into: Register, table: Small(TABLE), address: Register, missed: Label };
+            Tx "tx" { packet: Packet, port: Register, full: Label };
+            Enq "enq" { packet: Packet, ring: Small(RING), full: Label };
+            Exit "exit" {};
+        }
+    };
+}
+
+macro_rules! list {
+    (; $($name:ident $word:literal $fields:tt;)+) => { [$(Form::$name),+] };
+}
+
+macro_rules! word {
+    ($form:expr ; $($name:ident $word:literal $fields:tt;)+) => {
+        match $form { $(Form::$name => $word,)+ }
+    };
+}
+
+macro_rules! kind {
+    (Target) => { Kind::Packet };
+    ($kind:ident) => { Kind::$kind };
+    ($kind:ident $range:ident) => { $range };
+}
+
+macro_rules! kinds {
+    ($form:expr ; $($name:ident $word:literal { $($field:ident: $kind:ident $(($range:ident))?),* };)+) => {
+        match $form { $(Form::$name => &[$(kind!($kind $($range)?)),*],)+ }
+    };
+}
+
+macro_rules! form {
+    ($instr:expr ; $($name:ident $word:literal $fields:tt;)+) => {
+        match $instr { $(Instr::$name { .. } => Form::$name,)+ }
+    };
+}
+
+macro_rules! arguments {
+    () => { Arguments::Zero };
+    ($a:expr) => { Arguments::One([$a]) };
+    ($a:expr, $b:expr) => { Arguments::Two([$a, $b]) };
+    ($a:expr, $b:expr, $c:expr) => { Arguments::Three([$a, $b, $c]) };
+    ($a:expr, $b:expr, $c:expr, $d:expr) => { Arguments::Four([$a, $b, $c, $d]) };
+    ($a:expr, $b:expr, $c:expr, $d:expr, $e:expr) => { Arguments::Five([$a, $b, $c, $d, $e]) };
+}
+
+macro_rules! row {
+    ($instr:expr ; $($name:ident $word:literal { $($field:ident: $kind:ident $(($range:ident))?),* };)+) => {
+        match $instr { $(Instr::$name { $($field),* } => arguments!($(Numbered::$kind($field)),*),)+ }
+    };
+}
+
+macro_rules! read {
+    (Target $given:expr, $label:expr) => { packet_in($given) };
+    (Packet $given:expr, $label:expr) => { packet_in($given) };
+    (Register $given:expr, $label:expr) => { register_in($given) };
+    (Small $given:expr, $label:expr) => { byte_in($given) };
+    (Count $given:expr, $label:expr) => { count_in($given) };
+    (Constant $given:expr, $label:expr) => { number_in($given) };
+    (Width $given:expr, $label:expr) => { width_in($given) };
+    (RegisterOrConstant $given:expr, $label:expr) => { operand_in($given) };
+    (Label $given:expr, $label:expr) => { $label };
+}
+
+macro_rules! filled {
+    ($name:ident $given:expr, $label:expr, [$($place:literal)*] { $($done:tt)* }) => { Instr::$name { $($done)* } };
+    ($name:ident $given:expr, $label:expr, [$place:literal $($places:literal)*] { $($done:tt)* } $field:ident $kind:ident $($more:ident)*) => {
+        filled!($name $given, $label, [$($places)*] { $($done)* $field: read!($kind operand_at($given, $place), $label), } $($more)*)
+    };
+}
+
+macro_rules! built {
+    ($form:expr, $given:expr, $label:expr ; $($name:ident $word:literal { $($field:ident: $kind:ident $(($range:ident))?),* };)+) => {
+        match $form { $(Form::$name => filled!($name $given, $label, [0 1 2 3 4] {} $($field $kind)*),)+ }
+    };
+}
+
+static FORMS: [Form; 32] = forms!(list);
 
 impl Form {
     /// The word that begins its instructions.
     pub fn word(self) -> &'static str
         ensures { result.now ≡ word_of self }
     {
-        match self {
-            Form::Alloc => "alloc",
-            Form::Free => "free",
-            Form::Clone => "clone",
-            Form::Prepend => "prepend",
-            Form::Adj => "adj",
-            Form::Append => "append",
-            Form::Trim => "trim",
-            Form::Chain => "chain",
-            Form::IfHead => "ifhead",
-            Form::IfTail => "iftail",
-            Form::IfLen => "iflen",
-            Form::IfLast => "iflast",
-            Form::Load => "load",
-            Form::Store => "store",
-            Form::LoadX => "loadx",
-            Form::StoreX => "storex",
-            Form::Set => "set",
-            Form::Mov => "mov",
-            Form::Add => "add",
-            Form::Sub => "sub",
-            Form::And => "and",
-            Form::Or => "or",
-            Form::Xor => "xor",
-            Form::Shl => "shl",
-            Form::Shr => "shr",
-            Form::Jmp => "jmp",
-            Form::Jeq => "jeq",
-            Form::Jlt => "jlt",
-            Form::Lookup => "lookup",
-            Form::Tx => "tx",
-            Form::Enq => "enq",
-            Form::Exit => "exit",
-        }
+        forms!(word self)
     }
 
     /// The kinds of its operands, in order.
     pub fn kinds(self) -> &'static [Kind]
         ensures { result.now ≡ kinds_of self }
     {
-        match self {
-            Form::Alloc => &[Kind::Packet, POOL, Kind::Label],
-            Form::Free => &[Kind::Packet],
-            Form::Clone => &[Kind::Packet, Kind::Packet, POOL, Kind::Label],
-            Form::Prepend | Form::Adj | Form::Append | Form::Trim => &[Kind::Packet, COUNT],
-            Form::Chain => &[Kind::Packet, Kind::Packet],
-            Form::IfHead | Form::IfTail | Form::IfLen | Form::IfLast => {
-                &[Kind::Packet, COUNT, Kind::Label]
-            }
-            Form::Load => &[Kind::Register, Kind::Packet, COUNT, Kind::Width],
-            Form::Store => &[Kind::Packet, COUNT, Kind::Width, Kind::Register],
-            Form::LoadX => &[
-                Kind::Register,
-                Kind::Packet,
-                Kind::Register,
-                COUNT,
-                Kind::Width,
-            ],
-            Form::StoreX => &[
-                Kind::Packet,
-                Kind::Register,
-                COUNT,
-                Kind::Width,
-                Kind::Register,
-            ],
-            Form::Set => &[Kind::Register, CONSTANT],
-            Form::Mov => &[Kind::Register, Kind::Register],
-            Form::Add | Form::Sub | Form::And | Form::Or | Form::Xor => {
-                &[Kind::Register, Kind::RegisterOrConstant]
-            }
-            Form::Shl | Form::Shr => &[Kind::Register, SHIFT],
-            Form::Jmp => &[Kind::Label],
-            Form::Jeq => &[Kind::Register, Kind::RegisterOrConstant, Kind::Label],
-            Form::Jlt => &[Kind::Register, POSITIVE, Kind::Label],
-            Form::Lookup => &[Kind::Register, TABLE, Kind::Register, Kind::Label],
-            Form::Tx => &[Kind::Packet, Kind::Register, Kind::Label],
-            Form::Enq => &[Kind::Packet, RING, Kind::Label],
-            Form::Exit => &[],
-        }
+        forms!(kinds self)
     }
 
     /// The form that has this word.
@@ -219,4 +234,34 @@ impl Form {
             .copied()
             .find(|form| form.word().as_bytes() == word)
     }
+}
+
+/// The form of an instruction.
+pub fn form_of(instr: &Instr) -> Form
+    ensures { result ≡ (spelled instr.now).form }
+{
+    forms!(form * instr)
+}
+
+/// The operands, with what each is to its instruction.
+fn row_of(instr: &Instr) -> Arguments
+    ensures { seen_in (listed result) ≡ seen_of instr.now }
+{
+    forms!(row * instr)
+}
+
+/// The operands of an instruction.
+pub fn arguments_of(instr: &Instr) -> Arguments
+    ensures spelled { map numbered (listed result) ≡ (spelled instr.now).arguments }
+    ensures used { used_in (listed result) ≡ uses instr.now }
+    ensures label { label_in (listed result) ≡ label_of instr.now }
+{
+    row_of(instr)
+}
+
+/// The instruction of a form, its operands and the number of its label.
+pub fn built(form: Form, given: &[Named], label: u16) -> Instr
+    ensures { spelled result ≡ fielded_statement form given.now label }
+{
+    forms!(built form, given, label)
 }

@@ -3,8 +3,8 @@
 
 mod argument;
 mod assembler;
-mod building;
 mod cause;
+mod field;
 mod form;
 mod labels;
 mod laws;
@@ -16,14 +16,13 @@ mod program;
 mod reader;
 mod resolve;
 mod source;
-mod spelling;
 mod statement;
 
 pub use argument::{Arguments, Numbered};
 pub use assembler::assemble;
 pub use cause::{AsmError, Cause, Fault};
+pub use form::arguments_of;
 pub use laws::printed_texts_read_back;
 pub use line_numbers::source_lines;
 pub use printer::print;
 pub use program::{MOST_INSTRS, Program};
-pub use spelling::arguments_of;

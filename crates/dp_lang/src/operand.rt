@@ -3,7 +3,7 @@
 ghost use Rattle.std.specs.Prelude.{◌≡◌, ◌<◌, ℕ, IfSome, Some, MatchOption};
 ghost use Rattle.std.specs.List.{list_all};
 ghost use Rattle.dp_lang.specs.Arguments.{constant};
-ghost use Rattle.dp_lang.specs.Forms as spec;
+ghost use Rattle.dp_lang.specs.Kinds as spec;
 ghost use Rattle.dp_lang.specs.Views.{argument, Shows};
 
 use crate::argument::Named;
@@ -11,7 +11,7 @@ use crate::cause::Cause;
 use crate::form::Kind;
 
 /// The number of a register: its letter, and a digit from 0 to 7.
-#[tactic(auto, unfolding(crate::specs::Forms::register_in))]
+#[tactic(auto, unfolding(crate::specs::Kinds::register_in))]
 fn register_in(letter: u8, part: &[u8]) -> Option<u8>
     ensures value { result ≡ spec.register_in letter part.now }
     ensures range { IfSome result (λ index. index < 8) }
@@ -41,7 +41,7 @@ fn numeral(radix: u8, digits: &[u8]) -> Option<u64>
     Some(value)
 }
 
-#[tactic(auto, unfolding(crate::specs::Forms::number_in))]
+#[tactic(auto, unfolding(crate::specs::Kinds::number_in))]
 fn number_in(part: &[u8]) -> Option<u64>
     ensures { MatchOption result ((n : ℕ) → spec.number_in part.now ≡ Some n → 18446744073709551615 < n) (λ n. spec.number_in part.now ≡ Some n) }
 {
@@ -95,7 +95,7 @@ fn width(part: &[u8]) -> Result<u64, Cause>
 }
 
 /// What a part of a text is as an operand of a kind.
-#[tactic(auto, unfolding(crate::specs::Forms::argument_of))]
+#[tactic(auto, unfolding(crate::specs::Kinds::argument_of))]
 pub fn argument_of<'a>(kind: Kind, part: &'a [u8]) -> Result<Named<'a>, Cause>
     ensures { Shows argument result (spec.argument_of kind part.now) }
 {

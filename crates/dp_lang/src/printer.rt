@@ -5,13 +5,12 @@ ghost use Rattle.std.specs.Fmt.{decimal};
 ghost use Rattle.std.specs.List.{list_all};
 ghost use Rattle.dp_lang.specs.Printing as spec;
 ghost use Rattle.dp_lang.specs.Programs.{leads_below};
-ghost use Rattle.dp_lang.specs.Spelling as spelling;
+ghost use Rattle.dp_lang.specs.Forms as forms;
 ghost use Rattle.dp_lang.specs.Views.{numbered};
 
 use crate::argument::Numbered;
-use crate::form::Form;
+use crate::form::{Form, arguments_of, form_of};
 use crate::program::Program;
-use crate::spelling::{arguments_of, form_of};
 use dp_model::{Instr, Operand};
 use std::alloc::{AllocError, Global};
 
@@ -67,7 +66,7 @@ fn push_statement(out: &mut String, form: Form, arguments: &[Numbered]) -> Resul
 
 /// An instruction, on a line.
 fn push_instr(out: &mut String, instr: &Instr) -> Result<(), AllocError>
-    ensures { OnOk result (string_bytes out.new ≡ string_bytes out.old ++ spec.line (spec.statement_text (spelling.spelled instr.now))) }
+    ensures { OnOk result (string_bytes out.new ≡ string_bytes out.old ++ spec.line (spec.statement_text (forms.spelled instr.now))) }
 {
     push_statement(out, form_of(instr), arguments_of(instr).as_slice())
 }

@@ -2,12 +2,12 @@
 
 ghost use Rattle.std.specs.Prelude.{◌≡◌, ◌<◌, ℕ, true, List, map, length, vec_len, Option, Result, Ok, IfOk, IfSome};
 ghost use Rattle.dp_lang.specs.Causes as causes;
-ghost use Rattle.dp_lang.specs.Forms.{all_of};
+ghost use Rattle.dp_lang.specs.Kinds.{all_of};
 ghost use Rattle.dp_lang.specs.declared.cause.Cause.{Cause};
 ghost use Rattle.dp_lang.specs.Lines.{labels_in, instruction_in, pieces, trim_start};
 ghost use Rattle.dp_lang.specs.Reading as spec;
 ghost use Rattle.dp_lang.specs.Reading.{each_argument, arguments_of, statement_of, label_test, labels_after, line_of};
-ghost use Rattle.dp_lang.specs.Spelling as spelling;
+ghost use Rattle.dp_lang.specs.Forms as forms;
 ghost use Rattle.dp_lang.specs.Views.{argument, Shows};
 ghost use Rattle.dp_lang.specs.Sources as view;
 
@@ -138,7 +138,7 @@ fn merged<'a>(
     statement: Result<Option<Statement<'a>>, Cause>,
     labels: Result<(), Cause>,
 ) -> Result<Option<Statement<'a>>, Cause>
-    ensures both { (S : Result (Option (spelling.Statement (List ℕ))) Cause) (L : Result spec.Labels Cause) (ls : spec.Labels)
+    ensures both { (S : Result (Option (forms.Statement (List ℕ))) Cause) (L : Result spec.Labels Cause) (ls : spec.Labels)
         → Shows view.some_statement statement.entry S → Shows (λ _. ls) labels L
         → Shows (λ s. (view.some_statement s, ls)) result (spec.both S L) }
     ensures same { IfOk result (λ s. statement.entry ≡ Ok s) }

@@ -1,15 +1,15 @@
 //! From statements to instructions, once all labels are known.
 
-ghost use Rattle.std.specs.Prelude.{◌≡◌, map, IfSome, option_map, slice_index_or};
-ghost use Rattle.dp_lang.specs.Building.{label_in, none};
+ghost use Rattle.std.specs.Prelude.{◌≡◌, map, IfSome, option_map};
+ghost use Rattle.dp_lang.specs.Fields.{label_in};
 ghost use Rattle.dp_lang.specs.Reading.{all_resolved, all_statements, target_in};
-ghost use Rattle.dp_lang.specs.Spelling.{spelled};
+ghost use Rattle.dp_lang.specs.Forms.{spelled};
 ghost use Rattle.dp_lang.specs.Views.{Gives, argument};
 ghost use Rattle.dp_lang.specs.Sources as view;
 
 use crate::argument::Named;
-use crate::building::{Given, built};
 use crate::cause::{AsmError, Cause, Fault};
+use crate::form::built;
 use crate::source::Source;
 use crate::statement::Statement;
 use dp_model::Instr;
@@ -39,16 +39,6 @@ fn label_in<'a>(source: &Source<'a>, arguments: &[Named<'a>]) -> Option<u16>
     Some(0)
 }
 
-/// An operand, `Constant(0)` where there are not so many.
-fn operand_at<'a>(arguments: &[Named<'a>], k: usize) -> Named<'a>
-    ensures { result ≡ slice_index_or arguments.now k none }
-{
-    match arguments.get(k) {
-        Some(given) => *given,
-        None => Named::Constant(0),
-    }
-}
-
 /// The instruction of a statement, if its label is known.
 pub fn instr_of<'a>(source: &Source<'a>, statement: &Statement<'a>) -> Option<Instr>
     ensures form { IfSome result (λ i. (spelled i).form ≡ statement.now.form) }
@@ -56,15 +46,8 @@ pub fn instr_of<'a>(source: &Source<'a>, statement: &Statement<'a>) -> Option<In
         ≡ all_resolved (target_in (view.source source.now)) (map argument statement.now.arguments.items) }
 {
     let arguments = statement.arguments.as_slice();
-    let given = Given {
-        first: operand_at(arguments, 0),
-        second: operand_at(arguments, 1),
-        third: operand_at(arguments, 2),
-        fourth: operand_at(arguments, 3),
-        fifth: operand_at(arguments, 4),
-        label: label_in(source, arguments)?,
-    };
-    Some(built(statement.form, &given))
+    let label = label_in(source, arguments)?;
+    Some(built(statement.form, arguments, label))
 }
 
 /// The instructions of all statements, or the first line that uses an unknown label.

@@ -1,7 +1,8 @@
 //! `Statement`: an instruction as its text gives it.
 
 ghost use Rattle.std.specs.Prelude.{◌≡◌, true, map};
-ghost use Rattle.dp_lang.specs.Forms.{all_of, kinds_of};
+ghost use Rattle.dp_lang.specs.Forms.{kinds_of};
+ghost use Rattle.dp_lang.specs.Kinds.{all_of};
 ghost use Rattle.dp_lang.specs.Views.{argument};
 
 use crate::argument::Named;

@@ -1,7 +1,7 @@
 -- `numeral`: one digit more, and a number that is too large.
 use Rattle.std.proofs.Common.{rules, ◌<◌, ◌+◌, ◌*◌, get_or, arith}
 use Rattle.std.specs.Char.{digit_value}
-use Rattle.dp_lang.specs.Forms as spec
+use Rattle.dp_lang.specs.Kinds as spec
 use Rattle.dp_lang.proofs.Numerals.{overflows}
 use Rattle.dp_lang.proofs.operand.numeral.Goals as goal
 

@@ -1,7 +1,7 @@
 -- `instrs_of`: the statements so far, and those that are left.
 use Rattle.std.proofs.Common.{◌≡◌, drop, map}
 use Rattle.dp_lang.specs.Reading.{all_statements, target_in}
-use Rattle.dp_lang.specs.Spelling.{spelled}
+use Rattle.dp_lang.specs.Forms.{spelled}
 use Rattle.dp_lang.specs.Sources as view
 use Rattle.dp_lang.proofs.Loops.{prepend}
 use Rattle.dp_lang.proofs.resolve.instrs_of.Given as goal

@@ -1,6 +1,6 @@
 -- `label_in`: the label of all operands is that of the ones that are left.
 use Rattle.std.proofs.Common.{◌≡◌, drop}
-use Rattle.dp_lang.specs.Building.{label_in}
+use Rattle.dp_lang.specs.Fields.{label_in}
 use Rattle.dp_lang.specs.Reading.{target_in}
 use Rattle.dp_lang.specs.Sources as view
 use Rattle.dp_lang.proofs.resolve.label_in.Given as goal

@@ -1,0 +1,79 @@
+//! A field of an instruction, read from an operand of a text, whatever that is.
+
+ghost use Rattle.std.specs.Prelude.{◌≡◌, slice_index_or};
+ghost use Rattle.dp_lang.specs.Fields as spec;
+
+use crate::argument::Named;
+use crate::form::LARGEST_COUNT;
+use dp_model::{NumberRegister, Operand, PacketRegister, Width};
+
+/// An operand, `Constant(0)` where there are not so many.
+pub fn operand_at<'a>(arguments: &[Named<'a>], k: usize) -> Named<'a>
+    ensures { result ≡ slice_index_or arguments.now k spec.none }
+{
+    match arguments.get(k) {
+        Some(given) => *given,
+        None => Named::Constant(0),
+    }
+}
+
+pub fn packet_in(given: Named) -> PacketRegister
+    ensures { result ≡ spec.packet_in given.entry }
+{
+    match given {
+        Named::Packet(number) if number < 8 => PacketRegister::new(number),
+        _ => PacketRegister::new(0),
+    }
+}
+
+pub fn register_in(given: Named) -> NumberRegister
+    ensures { result ≡ spec.register_in given.entry }
+{
+    match given {
+        Named::Register(number) if number < 8 => NumberRegister::new(number),
+        _ => NumberRegister::new(0),
+    }
+}
+
+pub fn number_in(given: Named) -> u64
+    ensures { result ≡ spec.number_in given.entry }
+{
+    match given {
+        Named::Constant(n) => n,
+        _ => 0,
+    }
+}
+
+pub fn byte_in(given: Named) -> u8
+    ensures { result ≡ spec.byte_in given.entry }
+{
+    let n = number_in(given);
+    if n < 256 { n as u8 } else { 0 }
+}
+
+pub fn count_in(given: Named) -> u16
+    ensures { result ≡ spec.count_in given.entry }
+{
+    let n = number_in(given);
+    if n <= LARGEST_COUNT { n as u16 } else { 0 }
+}
+
+pub fn width_in(given: Named) -> Width
+    ensures { result ≡ spec.width_in given.entry }
+{
+    match number_in(given) {
+        1 => Width::One,
+        2 => Width::Two,
+        4 => Width::Four,
+        _ => Width::Eight,
+    }
+}
+
+pub fn operand_in(given: Named) -> Operand
+    ensures { result ≡ spec.operand_in given.entry }
+{
+    match given {
+        Named::Register(_) => Operand::Register(register_in(given)),
+        _ => Operand::Constant(number_in(given)),
+    }
+}
