@@ -69,3 +69,7 @@ status_of Memory = 4
 status_of (NotInferred _ _ _) = 1
 status_of (Refused _ _ _) = 1
 status_of _ = 3
+
+-- the line on a command line with an argument that is no text
+abbrev pub unread_text : List ℕ
+unread_text = codes "error: an argument is not UTF-8" ++ 10 ∷ []

@@ -1,5 +1,6 @@
 //! The commands that the command line has, with their operands and options, and the words that were given for them.
 
+use crate::progress::ToStderr;
 use clap::{Arg, ArgAction, ArgMatches, Command};
 use std::alloc::{AllocError, Global};
 
@@ -11,165 +12,160 @@ const ONE: [(&str, &str); 4] = [
     ("OUT", "the capture to write"),
 ];
 
+/// An operand that has to be given.
+fn needed<'a>(alloc: Global, name: &'a str, help: &'a str) -> Arg<'a> {
+    Arg::new(alloc, name).required(true).help(help)
+}
+
+/// An option without a value.
+fn flag<'a>(alloc: Global, name: &'a str, help: &'a str) -> Arg<'a> {
+    Arg::new(alloc, name)
+        .long(name)
+        .action(ArgAction::SetTrue)
+        .help(help)
+}
+
+/// An option with a value.
+fn valued<'a>(alloc: Global, name: &'a str, value: &'a str, help: &'a str) -> Arg<'a> {
+    Arg::new(alloc, name)
+        .long(name)
+        .value_name(value)
+        .help(help)
+}
+
 /// The option `--progress`.
 fn progress<'a>(alloc: Global) -> Arg<'a> {
-    Arg::new(alloc, "progress")
-        .long("progress")
-        .action(ArgAction::SetTrue)
-        .help("says on standard error how many records were read, each million and at the end")
+    let help = "says on standard error how many records were read, each million and at the end";
+    flag(alloc, "progress", help)
 }
 
 /// `dpv one NODE CERT IN OUT [--progress]`.
 fn one<'a>(alloc: Global) -> Result<Command<'a>, AllocError> {
-    let mut one = Command::new(alloc, "one").about(
-        "Runs one node program on one port, from a capture to a capture",
-    );
+    let about = "Runs one node program on one port, from a capture to a capture";
+    let mut one = Command::new(alloc, "one").about(about);
     for (name, help) in ONE {
-        one = one.arg(Arg::new(alloc, name).required(true).help(help))?;
+        one = one.arg(needed(alloc, name, help))?;
     }
     one.arg(progress(alloc))
 }
 
-/// The operand FILE.
-fn file<'a>(alloc: Global, help: &'a str) -> Arg<'a> {
-    Arg::new(alloc, "FILE").required(true).help(help)
-}
-
-/// `dpv check FILE`.
-fn check<'a>(alloc: Global) -> Result<Command<'a>, AllocError> {
-    Command::new(alloc, "check")
-        .about("Checks the programs of a pipeline")
-        .arg(file(alloc, "the pipeline file"))
+/// A command on a pipeline file.
+fn on_pipeline<'a>(
+    alloc: Global,
+    name: &'a str,
+    about: &'a str,
+) -> Result<Command<'a>, AllocError> {
+    let file = needed(alloc, "FILE", "the pipeline file");
+    Command::new(alloc, name).about(about).arg(file)
 }
 
 /// The operand WHICH.
 fn needed_which<'a>(alloc: Global) -> Arg<'a> {
-    Arg::new(alloc, "WHICH")
-        .required(true)
-        .help("the node: port or ring, and one digit, as port0")
+    let help = "the node: port or ring, and one digit, as port0";
+    needed(alloc, "WHICH", help)
 }
 
 /// `dpv infer FILE WHICH`.
 fn infer<'a>(alloc: Global) -> Result<Command<'a>, AllocError> {
-    Command::new(alloc, "infer")
-        .about("Prints the certificate of a program of a pipeline, all inferred")
-        .arg(file(alloc, "the pipeline file"))?
-        .arg(needed_which(alloc))
+    let about = "Prints the certificate of a program of a pipeline, all inferred";
+    on_pipeline(alloc, "infer", about)?.arg(needed_which(alloc))
+}
+
+/// A command on one program.
+fn on_program<'a>(alloc: Global, name: &'a str, about: &'a str) -> Result<Command<'a>, AllocError> {
+    let node = needed(alloc, "NODE", "the node program");
+    Command::new(alloc, name).about(about).arg(node)
 }
 
 /// `dpv infer-one NODE`.
 fn infer_one<'a>(alloc: Global) -> Result<Command<'a>, AllocError> {
-    let node = Arg::new(alloc, "NODE")
-        .required(true)
-        .help("the node program");
-    Command::new(alloc, "infer-one")
-        .about("Prints the certificate of one program, inferred for the port of one")
-        .arg(node)
+    let about = "Prints the certificate of one program, inferred for the port of one";
+    on_program(alloc, "infer-one", about)
 }
 
-/// The operand WHICH, which may be left out.
-fn which<'a>(alloc: Global) -> Arg<'a> {
-    Arg::new(alloc, "WHICH").help("the node: port or ring, and one digit, as port0; else all")
-}
-
-/// The operands NODE and CERT of a command on one program, where CERT may be left out.
-fn of_one<'a>(alloc: Global, command: Command<'a>) -> Result<Command<'a>, AllocError> {
-    let node = Arg::new(alloc, "NODE")
-        .required(true)
-        .help("the node program");
-    let cert = Arg::new(alloc, "CERT").help("its certificate; else one is inferred");
-    command.arg(node)?.arg(cert)
+/// The operand CERT, which may be left out.
+fn cert<'a>(alloc: Global) -> Arg<'a> {
+    Arg::new(alloc, "CERT").help("its certificate; else one is inferred")
 }
 
 /// `dpv explain FILE [WHICH]`.
 fn explain<'a>(alloc: Global) -> Result<Command<'a>, AllocError> {
-    Command::new(alloc, "explain")
-        .about("Says of the programs of a pipeline why they are refused and what would help")
-        .arg(file(alloc, "the pipeline file"))?
-        .arg(which(alloc))
+    let about = "Says of the programs of a pipeline why they are refused and what would help";
+    let help = "the node: port or ring, and one digit, as port0; else all";
+    on_pipeline(alloc, "explain", about)?.arg(Arg::new(alloc, "WHICH").help(help))
 }
 
 /// `dpv explain-one NODE [CERT]`.
 fn explain_one<'a>(alloc: Global) -> Result<Command<'a>, AllocError> {
-    let explain = Command::new(alloc, "explain-one").about(
-        "Says of one program, on the port of one, why it is refused and what would help",
-    );
-    of_one(alloc, explain)
+    let about = "Says of one program, on the port of one, why it is refused and what would help";
+    on_program(alloc, "explain-one", about)?.arg(cert(alloc))
 }
 
 /// The option `--dot`.
 fn dot<'a>(alloc: Global) -> Arg<'a> {
-    Arg::new(alloc, "dot")
-        .long("dot")
-        .action(ArgAction::SetTrue)
-        .help("prints a graph for dot, as dot -Tsvg draws it")
+    flag(
+        alloc,
+        "dot",
+        "prints a graph for dot, as dot -Tsvg draws it",
+    )
 }
 
 /// `dpv show FILE WHICH [--dot]`.
 fn show<'a>(alloc: Global) -> Result<Command<'a>, AllocError> {
-    Command::new(alloc, "show")
-        .about("Prints a program of a pipeline with what is known before each instruction")
-        .arg(file(alloc, "the pipeline file"))?
+    let about = "Prints a program of a pipeline with what is known before each instruction";
+    on_pipeline(alloc, "show", about)?
         .arg(needed_which(alloc))?
         .arg(dot(alloc))
 }
 
 /// `dpv show-one NODE [CERT] [--dot]`.
 fn show_one<'a>(alloc: Global) -> Result<Command<'a>, AllocError> {
-    let show = Command::new(alloc, "show-one").about(
-        "Prints one program, on the port of one, with what is known before each instruction",
-    );
-    of_one(alloc, show)?.arg(dot(alloc))
+    let about =
+        "Prints one program, on the port of one, with what is known before each instruction";
+    on_program(alloc, "show-one", about)?
+        .arg(cert(alloc))?
+        .arg(dot(alloc))
 }
 
 /// The option `--refuse`.
 fn refuse<'a>(alloc: Global) -> Arg<'a> {
-    Arg::new(alloc, "refuse")
-        .long("refuse")
-        .value_name("LIST")
-        .help("the allocation calls that are refused, as 3 or 1,5,9")
+    let help = "the allocation calls that are refused, as 3 or 1,5,9";
+    valued(alloc, "refuse", "LIST", help)
 }
 
 /// `dpv run FILE [--refuse LIST] [--progress]`.
 fn run<'a>(alloc: Global) -> Result<Command<'a>, AllocError> {
-    Command::new(alloc, "run")
-        .about("Runs a pipeline, from its captures to its captures")
-        .arg(file(alloc, "the pipeline file"))?
+    let about = "Runs a pipeline, from its captures to its captures";
+    on_pipeline(alloc, "run", about)?
         .arg(refuse(alloc))?
         .arg(progress(alloc))
 }
 
 /// `dpv trace FILE [--records N] [--port P] [--refuse LIST]`.
 fn trace<'a>(alloc: Global) -> Result<Command<'a>, AllocError> {
-    let records = Arg::new(alloc, "records")
-        .long("records")
-        .value_name("N")
-        .help("how many records are traced, from 1 on; else 10");
-    let port = Arg::new(alloc, "port")
-        .long("port")
-        .value_name("P")
-        .help("the port whose records alone come in; else all");
-    Command::new(alloc, "trace")
-        .about(
-            "Prints the first records of a pipeline instruction by instruction, and writes no capture",
-        )
-        .arg(file(alloc, "the pipeline file"))?
-        .arg(records)?
-        .arg(port)?
+    let about =
+        "Prints the first records of a pipeline instruction by instruction, and writes no capture";
+    let records = "how many records are traced, from 1 on; else 10";
+    let port = "the port whose records alone come in; else all";
+    on_pipeline(alloc, "trace", about)?
+        .arg(valued(alloc, "records", "N", records))?
+        .arg(valued(alloc, "port", "P", port))?
         .arg(refuse(alloc))
 }
 
 /// `dpv mem FILE`.
 fn mem<'a>(alloc: Global) -> Result<Command<'a>, AllocError> {
+    let file = needed(alloc, "FILE", "the heap script");
     Command::new(alloc, "mem")
         .about("Runs a heap script")
-        .arg(file(alloc, "the heap script"))
+        .arg(file)
 }
 
 /// Adds the commands that judge one program or all of a pipeline.
 fn with_judging<'a>(alloc: Global, dpv: Command<'a>) -> Result<Command<'a>, AllocError> {
+    let check = on_pipeline(alloc, "check", "Checks the programs of a pipeline")?;
     dpv.subcommand(one(alloc)?)?
-        .subcommand(check(alloc)?)?
+        .subcommand(check)?
         .subcommand(infer(alloc)?)?
         .subcommand(infer_one(alloc)?)
 }
@@ -201,7 +197,22 @@ pub fn command<'a>(alloc: Global) -> Result<Command<'a>, AllocError> {
     with_runs(alloc, dpv)
 }
 
-/// An operand of a command, which asks for it.
-pub fn word<'a>(words: &ArgMatches<'a>, name: &str) -> &'a str {
-    words.get_str(name).unwrap_or("")
+/// A command that was asked for, and the host on which it runs.
+#[derive(Drop)]
+pub struct Call<'a, 'w, R> {
+    /// The host.
+    pub rt: &'a R,
+    /// Where memory comes from.
+    pub alloc: Global,
+    /// The words that were given for it.
+    pub words: &'a ArgMatches<'w>,
+    /// Where it is told how far a run is.
+    pub to: ToStderr,
+}
+
+impl<'w, R> Call<'_, 'w, R> {
+    /// An operand that the command asks for.
+    pub fn word(&self, name: &str) -> &'w str {
+        self.words.get_str(name).unwrap_or("")
+    }
 }

@@ -27,6 +27,9 @@ pub const FAULT: u8 = 3;
 /// There is not enough memory.
 pub const MEMORY: u8 = 4;
 
+/// The status of a command; an error where a fault that was told ended it before its work began.
+pub type Status = Result<u8, u8>;
+
 /// What went wrong. Ports and nodes are named by their numbers, lines count from 1.
 #[derive(Clone, Copy, Debug)]
 pub enum Fault<'a> {
@@ -179,6 +182,7 @@ pub fn tell_fault<W: Write>(to: &mut W, fault: Fault<'_>) -> u8
 /// Writes what is wrong with the words of the command line as a line, and answers the status, or 3 where it cannot be written.
 pub fn tell_usage<W: Write, T: Display + Drop>(to: &mut W, text: T) -> u8
     ensures status { IsTold USAGE result }
+    ensures printed { result ≡ USAGE → IfSome (with_newline (T.output text)) (Appends (W.contents to.old) (W.contents to.new)) }
     ensures memory { result ≢ MEMORY }
 {
     match writeln!(to, "{text}") {

@@ -1,6 +1,11 @@
 //! The program `dpv`: which command runs, and with which status it ends.
 #![tactic(auto)]
 
+ghost use Rattle.std.specs.Prelude.{◌≡◌, ◌↔◌, IfOk, IsErr};
+ghost use Rattle.std.specs.Io.KnownBytes.{Appends};
+ghost use Rattle.std.specs.declared.io.ErrorKind.TheVariants.{OutOfMemory};
+ghost use Rattle.dp_cli.specs.Told.{IsTold, unread_text};
+
 mod captures;
 mod certifying;
 mod check_files;
@@ -35,23 +40,23 @@ mod trace_files;
 mod tracer;
 mod watched;
 
-use check_files::{check_file, infer_file, infer_program};
+use check_files::{bytes_of, check_file, infer_file, infer_program};
 use clap::ArgMatches;
 use clap::error::ErrorKind;
-use command_line::word;
-use fault::{DONE, FAULT, Fault, USAGE, Unwritten, tell_fault, tell_usage};
+use command_line::Call;
+use fault::{DONE, FAULT, Fault, Status, USAGE, Unwritten, tell_fault, tell_usage};
 use mem::mem_line;
 use progress::ToStderr;
 use run_files::{run_file, run_one_port};
 use show_files::{explain_file, explain_one, show_file, show_one};
 use std::alloc::{AllocError, Global};
-use std::io;
+use std::io::{self, Write};
 use std::process::ExitCode;
 use std::rt::{Env, Files};
 use trace_files::trace_file;
 
 /// Tells of an error of the command line, or shows the help that was asked for, and answers the status.
-fn wrong_words<R: Print + Eprint, E: io::Write>(rt: &R, error: &clap::Error, err: &mut E) -> u8 {
+fn wrong_words<R: Print + Eprint, E: Write>(rt: &R, error: &clap::Error, err: &mut E) -> u8 {
     if error.kind() == ErrorKind::OutOfMemory {
         return tell_fault(err, Fault::Memory);
     }
@@ -63,69 +68,67 @@ fn wrong_words<R: Print + Eprint, E: io::Write>(rt: &R, error: &clap::Error, err
 }
 
 /// Runs a heap script from a file.
-fn run_script<R: Files + Print, E: io::Write>(
-    rt: &R,
-    alloc: Global,
-    file: &str,
-    err: &mut E,
-) -> u8 {
-    match files::read(rt, alloc, file) {
-        Ok(script) => match mem_line(alloc, script.as_slice(), &mut io::writer(rt), err) {
-            Ok(status) => status,
-            Err(Unwritten) => FAULT,
-        },
-        Err(fault) => tell_fault(err, fault.of_file(file)),
-    }
-}
-
-/// Runs the command of this name that shows why a program is judged so.
-fn show_reasons<R: Files + Print, E: io::Write>(
-    rt: &R,
-    alloc: Global,
-    name: &str,
-    words: &ArgMatches<'_>,
-    err: &mut E,
-) -> u8 {
-    match name {
-        "explain" => explain_file(rt, alloc, words, err),
-        "explain-one" => explain_one(rt, alloc, words, err),
-        "show" => show_file(rt, alloc, words, err),
-        "show-one" => show_one(rt, alloc, words, err),
-        _ => USAGE,
+fn run_script<R: Files + Print, E: Write>(call: &Call<'_, '_, R>, err: &mut E) -> Status {
+    let script = bytes_of(call, err)?;
+    let out = &mut io::writer(call.rt);
+    match mem_line(call.alloc, script.as_slice(), out, err) {
+        Ok(status) => Ok(status),
+        Err(Unwritten) => Err(FAULT),
     }
 }
 
 /// Runs the command of this name that judges programs, or shows why they are judged so.
-fn judge_programs<R: Files + Print, E: io::Write>(
-    rt: &R,
-    alloc: Global,
+fn judge_programs<R: Files + Print, E: Write>(
+    call: &Call<'_, '_, R>,
     name: &str,
-    words: &ArgMatches<'_>,
     err: &mut E,
-) -> u8 {
+) -> Status {
     match name {
-        "check" => check_file(rt, alloc, words, err),
-        "infer" => infer_file(rt, alloc, words, err),
-        "infer-one" => infer_program(rt, alloc, words, err),
-        _ => show_reasons(rt, alloc, name, words, err),
+        "check" => check_file(call, err),
+        "infer" => infer_file(call, err),
+        "infer-one" => infer_program(call, err),
+        "explain" => explain_file(call, err),
+        "explain-one" => explain_one(call, err),
+        "show" => show_file(call, err),
+        "show-one" => show_one(call, err),
+        _ => Err(USAGE),
     }
 }
 
-/// Runs the command that was asked for.
-fn run_command<R: Files + Print, E: io::Write>(
-    rt: &R,
+/// Runs the command of this name.
+fn run_command<R: Files + Print, E: Write>(
+    call: &Call<'_, '_, R>,
+    name: &str,
+    err: &mut E,
+) -> Status {
+    match name {
+        "one" => run_one_port(call, err),
+        "run" => run_file(call, err),
+        "trace" => trace_file(call, err),
+        "mem" => run_script(call, err),
+        _ => judge_programs(call, name, err),
+    }
+}
+
+/// Runs the command that was asked for, and answers the status.
+fn run_matches<'a, R: Files + Print, E: Write>(
+    rt: &'a R,
     alloc: Global,
-    matches: &ArgMatches<'_>,
+    matches: &'a ArgMatches<'_>,
     to: ToStderr,
     err: &mut E,
 ) -> u8 {
-    match matches.subcommand() {
-        Some(("one", words)) => run_one_port(rt, alloc, words, to, err),
-        Some(("run", words)) => run_file(rt, alloc, words, to, err),
-        Some(("trace", words)) => trace_file(rt, alloc, words, to, err),
-        Some(("mem", words)) => run_script(rt, alloc, word(words, "FILE"), err),
-        Some((name, words)) => judge_programs(rt, alloc, name, words, err),
-        None => USAGE,
+    let Some((name, words)) = matches.subcommand() else {
+        return USAGE;
+    };
+    let call = Call {
+        rt,
+        alloc,
+        words,
+        to,
+    };
+    match run_command(&call, name, err) {
+        Ok(status) | Err(status) => status,
     }
 }
 
@@ -134,11 +137,15 @@ fn run_command<R: Files + Print, E: io::Write>(
 /// # Errors
 ///
 /// `AllocError` where they find no room.
-fn unread_words<E: io::Write>(kind: io::ErrorKind, err: &mut E) -> Result<u8, AllocError> {
+fn unread_words<E: Write>(kind: io::ErrorKind, err: &mut E) -> Result<u8, AllocError>
+    ensures status { IfOk result (IsTold USAGE) }
+    ensures printed { IfOk result (λ status. status ≡ USAGE → Appends (E.contents err.old) (E.contents err.new) unread_text) }
+    ensures memory { IsErr result ↔ kind ≡ OutOfMemory }
+{
     if kind == io::ErrorKind::OutOfMemory {
         return Err(AllocError);
     }
-    Ok(tell_usage(err, format_args!("error: an argument is not UTF-8")))
+    Ok(tell_usage(err, "error: an argument is not UTF-8"))
 }
 
 /// Runs the command that the words of the command line ask for, and answers the status.
@@ -146,7 +153,7 @@ fn unread_words<E: io::Write>(kind: io::ErrorKind, err: &mut E) -> Result<u8, Al
 /// # Errors
 ///
 /// `AllocError` where the words, or the commands that they are compared with, find no room.
-fn run_words<R: Env + AllocGlobal + Files + Print + Eprint, E: io::Write>(
+fn run_words<R: Env + AllocGlobal + Files + Print + Eprint, E: Write>(
     rt: &R,
     to: ToStderr,
     err: &mut E,
@@ -159,7 +166,7 @@ fn run_words<R: Env + AllocGlobal + Files + Print + Eprint, E: io::Write>(
     let words = given.collect::<Vec<String>>(alloc)?;
     let command = command_line::command(alloc)?;
     match command.try_get_matches_from(words.as_slice()) {
-        Ok(matches) => Ok(run_command(rt, alloc, &matches, to, err)),
+        Ok(matches) => Ok(run_matches(rt, alloc, &matches, to, err)),
         Err(error) => Ok(wrong_words(rt, &error, err)),
     }
 }

@@ -25,7 +25,7 @@ pub fn node_named(word: &str) -> Option<Entry>
 }
 
 /// Whether a word has decimal digits alone.
-fn are_digits(word: &str) -> bool
+pub fn are_digits(word: &str) -> bool
     ensures { result ≡ list_all is_ascii_digit word.now }
 {
     word.as_bytes().iter().all(|b| b.is_ascii_digit())

@@ -75,24 +75,24 @@ fn files() -> [NamedBytes<'static>; 6] {
     ]
 }
 
-/// What `dpv check` makes of a pipeline file.
-fn check(alloc: Global, text: &str) -> Ended {
+/// What `dpv check` makes of a pipeline file; or `dpv infer`, where a node is given.
+fn answered(alloc: Global, text: &str, which: Option<Entry>) -> Ended {
     let held = files();
     let mut files = Listed {
         files: held.as_slice(),
     };
     let mut out = Vec::new(alloc);
     let mut err = Vec::new(alloc);
-    let loaded = load_line(
-        alloc,
-        text.as_bytes(),
-        &mut files,
-        How::Given,
-        &mut out,
-        &mut err,
-    );
-    let status = match loaded {
-        Ok(pipeline) => check_line(&pipeline, &mut out, &mut err),
+    let how = match which {
+        None => How::Given,
+        Some(_) => How::Inferred,
+    };
+    let bytes = text.as_bytes();
+    let status = match load_line(alloc, bytes, &mut files, how, &mut out, &mut err) {
+        Ok(pipeline) => match which {
+            None => check_line(&pipeline, &mut out, &mut err),
+            Some(node) => infer_line(alloc, &pipeline, node, &mut out, &mut err),
+        },
         Err(status) => status,
     };
     Ended {
@@ -102,31 +102,14 @@ fn check(alloc: Global, text: &str) -> Ended {
     }
 }
 
+/// What `dpv check` makes of a pipeline file.
+fn check(alloc: Global, text: &str) -> Ended {
+    answered(alloc, text, None)
+}
+
 /// What `dpv infer` makes of a pipeline file and a node.
 fn infer(alloc: Global, text: &str, which: Entry) -> Ended {
-    let held = files();
-    let mut files = Listed {
-        files: held.as_slice(),
-    };
-    let mut out = Vec::new(alloc);
-    let mut err = Vec::new(alloc);
-    let loaded = load_line(
-        alloc,
-        text.as_bytes(),
-        &mut files,
-        How::Inferred,
-        &mut out,
-        &mut err,
-    );
-    let status = match loaded {
-        Ok(pipeline) => infer_line(alloc, &pipeline, which, &mut out, &mut err),
-        Err(status) => status,
-    };
-    Ended {
-        status,
-        printed: out,
-        told: err,
-    }
+    answered(alloc, text, Some(which))
 }
 
 /// The pipeline of two ports with a text changed where it first stands.

@@ -23,14 +23,6 @@ impl fmt::Display for ShareText {
     }
 }
 
-/// A number of bytes that is known, where it is not 0.
-fn write_bytes<W: fmt::Write>(f: &mut fmt::Formatter<W>, word: &str, bytes: u16) -> fmt::Result {
-    if bytes == 0 {
-        return Ok(());
-    }
-    write!(f, ", {word} {bytes}")
-}
-
 /// How many segments a packet can have, as `at most 1 segment`.
 #[derive(Drop)]
 pub struct SegmentsText(pub u8);
@@ -49,26 +41,18 @@ pub struct FactText(pub Fact);
 
 impl fmt::Display for FactText {
     fn fmt<W: fmt::Write>(&self, f: &mut fmt::Formatter<W>) -> fmt::Result {
-        match self.0 {
-            Fact::Empty => write!(f, "empty"),
-            Fact::Held {
-                share,
-                head,
-                tail,
-                first,
-                last,
-                segs,
-            } => {
-                let share = ShareText(share);
-                write!(f, "{share}")?;
-                write_bytes(f, "headroom", head)?;
-                write_bytes(f, "tailroom", tail)?;
-                write_bytes(f, "first", first)?;
-                write_bytes(f, "last", last)?;
-                let segs = SegmentsText(segs);
-                write!(f, ", {segs}")
+        let Some(parts) = parts_of(self.0) else {
+            return write!(f, "empty");
+        };
+        let mut mark = "";
+        for k in 0..6 {
+            let part = parts[k];
+            if !matches!(part, Part::Bytes(_, 0)) {
+                write!(f, "{mark}{part}")?;
+                mark = ", ";
             }
         }
+        Ok(())
     }
 }
 

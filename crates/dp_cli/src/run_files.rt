@@ -5,28 +5,27 @@ ghost use Rattle.dp_engine.specs.Engines.{IsAscending};
 
 use crate::captures::{Input, Output, Settled, create_outputs, open_inputs, settle};
 use crate::check_files::{load_file, load_text};
-use crate::command_line::word;
-use crate::fault::{Fault, tell_fault, tell_usage};
+use crate::command_line::Call;
+use crate::fault::{Fault, Status, tell_fault, tell_usage};
 use crate::findings::{CaptureNames, finding_of, names_of};
 use crate::operands::numbers_in;
-use crate::progress::{Telling, ToStderr, tell_totals};
+use crate::progress::{Telling, tell_totals};
 use crate::run::tell_run;
 use crate::same_file::keep_apart;
 use crate::single_port::{Naming, ONE_PORT, OneFiles};
-use clap::ArgMatches;
 use dp_pipe::{How, Pipeline, run};
 use std::alloc::Global;
 use std::io::{self, Read, Write};
 use std::rt::Files;
 
 /// The allocation calls to be refused: those of the list, if there is one; or the status, once the fault is told.
-pub fn refused_in<E: Write>(alloc: Global, list: Option<&str>, err: &mut E) -> Result<Vec<u64>, u8>
+pub fn refused_in<R, E: Write>(call: &Call<'_, '_, R>, err: &mut E) -> Result<Vec<u64>, u8>
     ensures { IfOk result (λ pattern. IsAscending 0 pattern.items) }
 {
-    let Some(list) = list else {
-        return Ok(Vec::new(alloc));
+    let Some(list) = call.words.get_str("refuse") else {
+        return Ok(Vec::new(call.alloc));
     };
-    match numbers_in(alloc, list) {
+    match numbers_in(call.alloc, list) {
         Ok(Some(pattern)) => Ok(pattern),
         Ok(None) => Err(tell_usage(
             err,
@@ -118,72 +117,47 @@ fn tell_ran<F: Read + Drop, O: Write, E: Write>(
 /// Runs a pipeline: opens the captures that it reads, makes those that it writes, and writes out at the end what their buffers
 /// hold, before it tells of the run.
 fn run_pipeline<R: Files + Print, E: Write>(
-    rt: &R,
-    alloc: Global,
+    call: &Call<'_, '_, R>,
     pipeline: Pipeline,
     naming: Naming<'_>,
     pattern: Vec<u64>,
-    telling: Telling,
     err: &mut E,
 ) -> u8
     requires { IsAscending 0 pattern.items }
 {
-    let Ok(names) = names_of(alloc, &pipeline, naming) else {
+    let Ok(names) = names_of(call.alloc, &pipeline, naming) else {
         return tell_fault(err, Fault::Memory);
     };
     let names = names.as_slice();
-    let captures = match open_captures(rt, alloc, &pipeline, naming, names, telling) {
+    let telling = Telling {
+        is_on: call.words.get_flag("progress"),
+        to: call.to,
+    };
+    let captures = match open_captures(call.rt, call.alloc, &pipeline, naming, names, telling) {
         Ok(captures) => captures,
         Err(fault) => return tell_fault(err, fault),
     };
-    let ran = run_captures(alloc, pipeline, captures, pattern);
-    tell_ran(ran, names, telling.is_on, &mut io::writer(rt), err)
-}
-
-/// Whether it is to be told how far a run is.
-fn telling_in(words: &ArgMatches<'_>, to: ToStderr) -> Telling {
-    Telling {
-        is_on: words.get_flag("progress"),
-        to,
-    }
+    let ran = run_captures(call.alloc, pipeline, captures, pattern);
+    tell_ran(ran, names, telling.is_on, &mut io::writer(call.rt), err)
 }
 
 /// Runs the pipeline of a file.
-pub fn run_file<R: Files + Print, E: Write>(
-    rt: &R,
-    alloc: Global,
-    words: &ArgMatches<'_>,
-    to: ToStderr,
-    err: &mut E,
-) -> u8 {
-    let pattern = match refused_in(alloc, words.get_str("refuse"), err) {
-        Ok(pattern) => pattern,
-        Err(status) => return status,
-    };
-    let (naming, telling) = (Naming::AsTheyStand, telling_in(words, to));
-    match load_file(rt, alloc, word(words, "FILE"), How::Given, err) {
-        Ok(pipeline) => run_pipeline(rt, alloc, pipeline, naming, pattern, telling, err),
-        Err(status) => status,
-    }
+pub fn run_file<R: Files + Print, E: Write>(call: &Call<'_, '_, R>, err: &mut E) -> Status {
+    let pattern = refused_in(call, err)?;
+    let pipeline = load_file(call, How::Given, err)?;
+    let naming = Naming::AsTheyStand;
+    Ok(run_pipeline(call, pipeline, naming, pattern, err))
 }
 
 /// Runs one node program on one port, from a file to a file.
-pub fn run_one_port<R: Files + Print, E: Write>(
-    rt: &R,
-    alloc: Global,
-    words: &ArgMatches<'_>,
-    to: ToStderr,
-    err: &mut E,
-) -> u8 {
+pub fn run_one_port<R: Files + Print, E: Write>(call: &Call<'_, '_, R>, err: &mut E) -> Status {
     let naming = Naming::One(OneFiles {
-        node: word(words, "NODE"),
-        cert: word(words, "CERT"),
-        input: word(words, "IN"),
-        output: word(words, "OUT"),
+        node: call.word("NODE"),
+        cert: call.word("CERT"),
+        input: call.word("IN"),
+        output: call.word("OUT"),
     });
-    let telling = telling_in(words, to);
-    match load_text(rt, alloc, ONE_PORT.as_bytes(), naming, How::Given, err) {
-        Ok(pipeline) => run_pipeline(rt, alloc, pipeline, naming, Vec::new(alloc), telling, err),
-        Err(status) => status,
-    }
+    let pipeline = load_text(call, ONE_PORT.as_bytes(), naming, How::Given, err)?;
+    let pattern = Vec::new(call.alloc);
+    Ok(run_pipeline(call, pipeline, naming, pattern, err))
 }

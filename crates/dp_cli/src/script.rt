@@ -1,10 +1,9 @@
 //! The commands of heap scripts.
 
 ghost use Rattle.std.specs.Prelude.{◌≡◌, option_and_then};
-ghost use Rattle.std.specs.Char.{is_ascii_digit};
-ghost use Rattle.std.specs.List.{list_all};
 ghost use Rattle.dp_cli.specs.Commands as spec;
 
+use crate::operands::are_digits;
 use std::str;
 
 /// A command of a heap script.
@@ -22,13 +21,6 @@ pub enum Command {
     List,
     /// `stats`: sums over the elements.
     Stats,
-}
-
-/// Whether a word has decimal digits alone.
-fn are_digits(word: &str) -> bool
-    ensures { result ≡ list_all is_ascii_digit word.now }
-{
-    word.as_bytes().iter().all(|b| b.is_ascii_digit())
 }
 
 /// The number of a word: decimal digits, at most 4,294,967,295.
