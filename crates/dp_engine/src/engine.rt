@@ -116,7 +116,7 @@ impl Engine {
             rings,
             lists,
         } = parts;
-        let plan = Plan::new(env.copy(), tables, nodes);
+        let plan = Plan::new(env, tables, nodes);
         let mbufs = Mbufs::over(pools);
         mbufs.is_well_formed();
         let machine = Machine::over(mbufs, Queues::over(rings), Queues::over(lists));

@@ -107,8 +107,8 @@ pub(crate) fn list_counts(ports: &[PortSpec]) -> ArrayVec<u32, 8>
 pub fn need(env: &Env) -> u64
     ensures { result ≡ bytes_needed env.now }
 {
-    env.within_limits();
+    let pools = pools_bytes(env.pools());
     let rings = ring_counts(env.rings());
     let lists = list_counts(env.ports());
-    pools_bytes(env.pools()) + rings_bytes(rings.as_slice()) + rings_bytes(lists.as_slice())
+    pools + rings_bytes(rings.as_slice()) + rings_bytes(lists.as_slice())
 }

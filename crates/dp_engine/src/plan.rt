@@ -58,18 +58,17 @@ fn tell_checked(nodes: &[Checked])
 
 impl Plan {
     // A plan in which no call is refused.
-    pub(crate) fn new(env: Env, tables: Vec<Lpm>, nodes: Vec<Checked>) -> Plan
-        requires tables { length tables.items ≡ env.tables }
-        requires nodes { AreNodes env nodes.items }
-        ensures plan { result ≡ scheme_of env tables.items nodes.items [] }
+    pub(crate) fn new(env: &Env, tables: Vec<Lpm>, nodes: Vec<Checked>) -> Plan
+        requires tables { length tables.items ≡ env.now.tables }
+        requires nodes { AreNodes env.now nodes.items }
+        ensures plan { result ≡ scheme_of env.now tables.items nodes.items [] }
         ensures pipeline { IsPipeline result.setting result.nodes }
         ensures tables { TablesFit result.setting }
     {
-        env.within_limits();
         tell_hops(tables.as_slice());
         tell_checked(nodes.as_slice());
         Plan {
-            env,
+            env: env.copy(),
             tables,
             nodes,
             pattern: None,

@@ -47,7 +47,6 @@ fn lay_out(region: Region, env: &Env) -> (Space, Parts)
     requires room { bytes_needed env.now ≤ length region.bytes }
     ensures { IsLaidOut region.home (length region.bytes) env.now result.0 result.1 }
 {
-    env.within_limits();
     let specs = env.pools();
     let last = specs.len() - 1;
     let lists = list_counts(env.ports());

@@ -56,6 +56,9 @@ rings_of s c is =
     sym (length-map c.rings.items node_names) ∙ ap length is.rings ∙ length-map s.rings (λ r. r.files) ∙ sym (length-map s.rings (λ r. r.spec))
     ∙ sym (ap (λ (e : Environment). length e.rings) is.env)
 
+pub limits_of : (s : Setup) (c : Config) → IsConfig s c → fault_of c.env ≡ None
+limits_of s c is = subst (λ e. fault_of e ≡ None) (sym is.env) is.fits
+
 pub tables_of : (s : Setup) (c : Config) → IsConfig s c → length c.tables.items ≡ c.env.tables
 tables_of s c is =
     let most : (environment_of s).tables ≤ 4 = (few (environment_of s) is.fits).2 in

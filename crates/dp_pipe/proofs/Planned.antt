@@ -99,13 +99,10 @@ all_checked env nodes h k q at = go (cases_lt k (length env.ports))
     go (inl less) = (h.ports k q less at).checked
     go (inr most) = (h.rings (k - length env.ports) q (ap (slice_get nodes) (omega (arith, most)) ∙ at)).checked
 
--- as its environment and its tables are shown
-pub is_ready : (p : Plan) (pattern : List ℕ) (env : Environment) (tables : List RouteTable) → env ≡ p.env → tables ≡ p.tables → fault_of env ≡ None →
-    IsPlan p
-    → ((k : ℕ) (t : RouteTable) → slice_get tables k ≡ Some t → AllByRecursion (λ (route : Route). route.hop ≤ 16777215) t.routes) → AreLaws → IsReady p pattern
-is_ready p pattern env tables env_is tables_are limits plan hops laws =
-    let within = subst (λ e. fault_of e ≡ None) env_is limits in
-    let engine = plan_of p.env p.tables p.nodes pattern within (are_nodes p.env p.nodes plan.nodes) plan.tables (all_checked p.env p.nodes plan.nodes)
+-- as its tables are shown
+pub is_ready : (p : Plan) (pattern : List ℕ) (tables : List RouteTable) → tables ≡ p.tables → IsPlan p → ((k : ℕ) (t : RouteTable) → slice_get tables k ≡ Some t → AllByRecursion (λ (route : Route). route.hop ≤ 16777215) t.routes) → AreLaws → IsReady p pattern
+is_ready p pattern tables tables_are plan hops laws =
+    let engine = plan_of p.env p.tables p.nodes pattern plan.limits (are_nodes p.env p.nodes plan.nodes) plan.tables (all_checked p.env p.nodes plan.nodes)
     (subst (λ (l : List RouteTable). (k : ℕ) (t : RouteTable) → slice_get l k ≡ Some t →
     AllByRecursion (λ (route : Route). route.hop ≤ 16777215) t.routes) tables_are hops) in
-    record { limits = within; pipeline = engine.pipeline; tables = engine.tables_fit; laws = laws }
+    record { limits = plan.limits; pipeline = engine.pipeline; tables = engine.tables_fit; laws = laws }

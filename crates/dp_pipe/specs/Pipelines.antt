@@ -1,8 +1,8 @@
 -- What a pipeline is.
-use Rattle.std.specs.Prelude.{◌≡◌, ℕ, ◌+◌, ◌<◌, List, length, Some, slice_get, string_bytes}
+use Rattle.std.specs.Prelude.{◌≡◌, ℕ, ◌+◌, ◌<◌, List, length, Some, None, slice_get, string_bytes}
 use Rattle.dp_model.specs.declared.env.Entry.{Entry}
 use Rattle.dp_model.specs.declared.env.Entry.TheVariants.{Port, Ring}
-use Rattle.dp_model.specs.Environments.{Environment}
+use Rattle.dp_model.specs.Environments.{Environment, fault_of}
 use Rattle.dp_model.specs.Rules.{Question}
 use Rattle.dp_region.specs.Region.{IsRegionSize}
 use Rattle.dp_lpm.specs.Routes.{RouteTable}
@@ -31,8 +31,9 @@ pub record HasNodes (env : Environment) (nodes : List Question) : Type 0 where
   pub ports : (port : ℕ) (q : Question) → port < length env.ports → slice_get nodes port ≡ Some q → IsFor env (Port port) q
   pub rings : (ring : ℕ) (q : Question) → slice_get nodes (length env.ports + ring) ≡ Some q → IsFor env (Ring ring) q
 
--- the parts of a pipeline fit together
+-- the environment is within the limits, and the parts of a pipeline fit together
 pub record IsPlan (p : Plan) : Type 0 where
+  pub limits : fault_of p.env ≡ None
   pub region : IsRegionSize p.region
   pub nodes : HasNodes p.env p.nodes
   pub tables : length p.tables ≡ p.env.tables

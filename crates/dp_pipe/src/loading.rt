@@ -27,7 +27,6 @@ pub fn load<F: Files>(
     ensures stays { F.known files.new ≡ F.known files.old }
 {
     let config = configure(alloc, text)?;
-    config.env.within_limits();
     let nodes = load_nodes(alloc, files, how, &config.env, &config.ports, &config.rings)?;
     let Config {
         region,

@@ -37,7 +37,6 @@ pub(crate) fn opened(
         return Err(RunCause::Memory);
     };
     let (env, tables, nodes) = pipeline.into_parts();
-    env.within_limits();
     match Engine::open(region, &env, tables, nodes) {
         Ok(mut engine) => {
             engine.refuse(pattern);

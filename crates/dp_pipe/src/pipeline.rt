@@ -1,7 +1,8 @@
 //! Pipelines that are ready to run.
 
-ghost use Rattle.std.specs.Prelude.{◌≡◌, ℕ, ◌+◌, ◌<◌, length, map, Some, slice_get};
+ghost use Rattle.std.specs.Prelude.{◌≡◌, ℕ, ◌+◌, ◌<◌, length, map, Some, None, slice_get};
 ghost use Rattle.dp_model.specs.declared.env.Entry.TheVariants.{Port, Ring};
+ghost use Rattle.dp_model.specs.Environments.{fault_of};
 ghost use Rattle.dp_region.specs.Region.{IsRegionSize};
 ghost use Rattle.dp_pipe.specs.Pipelines.{HasNodes, IsFor, IsPlan, input_of, output_of};
 
@@ -57,6 +58,7 @@ impl Pipeline {
         nodes: Vec<Checked>,
         ports: Vec<PortNames>,
     ) -> Pipeline
+        requires limits { fault_of env ≡ None }
         requires region { IsRegionSize region }
         requires nodes { HasNodes env nodes.items }
         requires tables { length tables.items ≡ env.tables }
@@ -99,7 +101,8 @@ impl Pipeline {
 
     /// Its tables of routes.
     pub(crate) fn tables(&self) -> &[Lpm]
-        ensures { result.now ≡ self.now.tables }
+        ensures same { result.now ≡ self.now.tables }
+        ensures plan { IsPlan self.now }
     {
         self.tables.as_slice()
     }

@@ -259,11 +259,11 @@ fn idle_rings(specs: &[RingSpec]) -> ArrayVec<u64, 8>
 fn idle_report(env: &Env) -> Report
     ensures { spec.IsIdle env.now result }
 {
-    env.within_limits();
+    let pools = free_pools(env.pools());
     Report {
         ports: idle_ports(env.ports()),
         rings: idle_rings(env.rings()),
-        pools: free_pools(env.pools()),
+        pools,
         calls: 0,
         refused: 0,
         cut: 0,
@@ -355,7 +355,6 @@ pub fn run<R: Feed, W: Sink>(
     ensures fared_readers { AllFared R.is_broken R.failures (failed_reader (spec.answer_of result)) ins.old ins.new }
     ensures fared_writers { AllFared W.is_broken W.failures (failed_writer (spec.answer_of result)) outs.old outs.new }
 {
-    pipeline.env().within_limits();
     hops_are_small(pipeline.tables());
     // The laws of such runs.
     runs_keep_safe::<Time>();

@@ -222,7 +222,6 @@ fn environments_tell_what_they_are(rt: HostRuntime) {
             assert_eq!(rt; env.room(2), 0);
             assert_eq!(rt; env.fact_of_ring(0), Some(held(0, 64)));
             assert_eq!(rt; env.fact_of_ring(1), None);
-            env.within_limits();
             let again = env.copy();
             assert!(rt; again == env);
             let other = Env::new(&pools, 0, &rings, &ports);

@@ -28,7 +28,7 @@ there g c =
 fits : (g : _) (c : After-pattern g) → segments_needed c.args.plan.now.setting.env.pools (spec_of c.ports.result.now c.args.port).pool
     (length c.args.bytes.now) ≤ (spec_of c.ports.result.now c.args.port).segs
 fits g c =
-    let pools = c.pools.ensures ∙ ap (λ (x : Environment). x.pools) c.env-env.ensures.same in
+    let pools = c.pools.ensures.same ∙ ap (λ (x : Environment). x.pools) c.env-env.ensures.same in
     omega (arith, rw pools at c.needed.ensures, c.if-needed-spec.false)
 
 -- what is received, and that the port's program can run on it
@@ -63,7 +63,7 @@ went g c r =
 pub returns-then-needed-spec-clause-arrives : goal.returns-then-needed-spec-clause-arrives
 returns-then-needed-spec-clause-arrives g c =
     let at = there g (goal.at.returns-then-needed-spec-clause-arrives g c).After-ports in
-    let pools = c.pools.ensures ∙ ap (λ (x : Environment). x.pools) c.env-env.ensures.same in
+    let pools = c.pools.ensures.same ∙ ap (λ (x : Environment). x.pools) c.env-env.ensures.same in
     let need : c.needed.result ≡ segments_needed c.args.plan.now.setting.env.pools (spec_of c.ports.result.now c.args.port).pool (length c.args.bytes.now)
     = rw pools at c.needed.ensures in
     ([], (spec_of c.ports.result.now c.args.port, at.program, at.spec_is, at.program_is, (omega (arith, need, c.if-needed-spec.true), refl, refl)))
@@ -76,7 +76,7 @@ receive-requires-clause-has_room g c =
 pub receive-requires-clause-fits : goal.receive-requires-clause-fits
 receive-requires-clause-fits g c =
     let need : c.needed.result ≡ segments_needed c.env-env.result.now.pools (spec_of c.ports.result.now c.args.port).pool (length c.args.bytes.now) =
-    rw c.pools.ensures at c.needed.ensures in
+    rw c.pools.ensures.same at c.needed.ensures in
     omega (arith, need, c.if-needed-spec.false, (there g (goal.at.receive-requires-clause-fits g c).After-ports).segs)
 
 pub returns-then-not-receive-clause-arrives : goal.returns-then-not-receive-clause-arrives

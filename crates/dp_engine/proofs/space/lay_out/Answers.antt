@@ -28,10 +28,10 @@ PlanOf specs lists rings size = IsPlan specs lists rings size (length specs - 1)
 planned : (c : After-power_above)
     → PlanOf c.pools-specs.result.now c.list_counts-lists.result.items c.ring_counts-rings.result.items (length c.args.region.bytes)
 planned c =
-    let some = some_pools c.args.env.now c.within_limits.ensures in
-    let all = ap length c.pools-specs.ensures in
+    let some = some_pools c.args.env.now c.pools-specs.ensures.fits in
+    let all = ap length c.pools-specs.ensures.same in
     plan c.args.env.now c.pools-specs.result.now c.list_counts-lists.result.items c.ring_counts-rings.result.items (length c.args.region.bytes)
-    (length c.pools-specs.result.now - 1) no_spec c.within_limits.ensures c.pools-specs.ensures (lists_are c) (rings_are c) c.requires.room
+    (length c.pools-specs.result.now - 1) no_spec c.pools-specs.ensures.fits c.pools-specs.ensures.same (lists_are c) (rings_are c) c.requires.room
     (omega (arith, some, all))
 
 -- what the pools take, but for the queue of the last
@@ -147,7 +147,7 @@ returns c =
     let specs = c.pools-specs.result.now in
     let i = length c.pools-specs.result.now - 1 in
     let p = planned (goal.at.returns c).After-power_above in
-    let all = ap length c.pools-specs.ensures in
+    let all = ap length c.pools-specs.ensures.same in
     let number = p.number.0 in
     let few = p.number.1 in
     let slots = c.take_pools-pools.ensures.slots in
@@ -167,10 +167,10 @@ returns c =
     let firsts = length-take-le i specs (omega (arith, number)) in
     let many_lists = ap length lists in
     let many_rings = ap length rings in
-    laid_out e c.args.region.home (length c.args.region.bytes) _ _ c.within_limits.ensures (c.finish-heap.ensures.same.0 ∙ home4) size
+    laid_out e c.args.region.home (length c.args.region.bytes) _ _ c.pools-specs.ensures.fits (c.finish-heap.ensures.same.0 ∙ home4) size
     (last_filled c.args.region.home c.take_rings-rings.new.self.home c.take_pools-pools.new.self.home specs e.pools c.take_pools-pools.result i no_spec
     c.finish-heap.result.2 c.put_pool.new.slot number (omega (arith, number, few, slots))
-    c.take_pools-pools.ensures.same.0 home3 c.pools-specs.ensures c.take_pools-pools.ensures.pools c.finish-heap.ensures.pool c.put_pool.ensures)
+    c.take_pools-pools.ensures.same.0 home3 c.pools-specs.ensures.same c.take_pools-pools.ensures.pools c.finish-heap.ensures.pool c.put_pool.ensures)
     (rings_of c.take_rings-lists.new.self.home c.args.region.home c.as_slice-2.result.now (ring_counts e) c.take_rings-rings.result home2 rings
     c.take_rings-rings.ensures.rings)
     (rings_of c.over-stack.result.home c.args.region.home c.as_slice.result.now (list_counts e) c.take_rings-lists.result home1 lists

@@ -3,7 +3,7 @@ use Rattle.std.proofs.Common.{◌≡◌, ◌≤◌, length, sym, subst, arith}
 use Rattle.std.proofs.lemmas.Result.{err_from_is_err_and}
 use Rattle.dp_pipe.specs.Pipelines.{Plan}
 use Rattle.dp_pipe.specs.Loads.{IsLoadedFrom}
-use Rattle.dp_pipe.proofs.Loaded.{few, ports_of, rings_of, tables_of, fit_nodes, loaded_from, bad_node}
+use Rattle.dp_pipe.proofs.Loaded.{few, limits_of, ports_of, rings_of, tables_of, fit_nodes, loaded_from, bad_node}
 use Rattle.dp_region.specs.Region.{IsRegionSize}
 use Rattle.dp_pipe.proofs.Regions.{setup_region}
 use Rattle.dp_pipe.proofs.loading.load.Goals as goal
@@ -12,14 +12,14 @@ pub load_nodes-requires-clause-few_ports : goal.load_nodes-requires-clause-few_p
 load_nodes-requires-clause-few_ports g c =
     let same : length c.in_ok-config.config.ports.items ≡ length c.in_ok-config.config.env.ports =
     ports_of c.in_ok-config.ensures.ok.setup c.in_ok-config.config c.in_ok-config.ensures.ok.config in
-    let most : length c.in_ok-config.config.env.ports ≤ 8 = (few c.in_ok-config.config.env c.within_limits.ensures).0 in
+    let most : length c.in_ok-config.config.env.ports ≤ 8 = (few c.in_ok-config.config.env (limits_of c.in_ok-config.ensures.ok.setup c.in_ok-config.config c.in_ok-config.ensures.ok.config)).0 in
     rw c.deref.ensures.value (omega (arith, same, most))
 
 pub load_nodes-requires-clause-few_rings : goal.load_nodes-requires-clause-few_rings
 load_nodes-requires-clause-few_rings g c =
     let same : length c.in_ok-config.config.rings.items ≡ length c.in_ok-config.config.env.rings =
     rings_of c.in_ok-config.ensures.ok.setup c.in_ok-config.config c.in_ok-config.ensures.ok.config in
-    let most : length c.in_ok-config.config.env.rings ≤ 8 = (few c.in_ok-config.config.env c.within_limits.ensures).1 in
+    let most : length c.in_ok-config.config.env.rings ≤ 8 = (few c.in_ok-config.config.env (limits_of c.in_ok-config.ensures.ok.setup c.in_ok-config.config c.in_ok-config.ensures.ok.config)).1 in
     rw c.deref-2.ensures.value (omega (arith, same, most))
 
 pub returns-in_err-nodes-clause-fails : goal.returns-in_err-nodes-clause-fails
@@ -50,3 +50,6 @@ pub new-requires-clause-region : goal.new-requires-clause-region
 new-requires-clause-region g c =
     let config = c.in_ok-config.ensures.ok in
     subst IsRegionSize (sym config.config.region) (setup_region config.top config.setup config.reads)
+
+pub new-requires-clause-limits : goal.new-requires-clause-limits
+new-requires-clause-limits g c = limits_of c.in_ok-config.ensures.ok.setup c.in_ok-config.config c.in_ok-config.ensures.ok.config

@@ -44,7 +44,8 @@ returns-in-Ok-open-clause-engine c =
 pub returns-in-Ok-open-clause-few : goal.returns-in-Ok-open-clause-few
 returns-in-Ok-open-clause-few c =
     let same = ap (λ (x : Setting). length x.env.ports) (setting (goal.at.returns-in-Ok-open-clause-few c).After-refuse) in
-    omega (arith, same, (few c.into_parts-env.result.0 c.within_limits.ensures).0)
+    let ports = ap (λ e. length e.ports) c.into_parts-env.ensures.env in
+    omega (arith, same, ports, (few c.args.pipeline.env c.into_parts-env.ensures.plan.limits).0)
 
 pub returns-in-Ok-open-clause-none : goal.returns-in-Ok-open-clause-none
 returns-in-Ok-open-clause-none c = (c.in-Ok.ensures.items, c.in-Ok.ensures.len)
