@@ -3,7 +3,7 @@ use Rattle.std.proofs.Common.{◌≡◌, ℕ, ◌+◌, ◌-◌, ◌≤◌, Bool,
 use Rattle.std.specs.Prelude.{◌⊎◌, slice_index}
 use Rattle.dp_model.specs.declared.instr.Instr.{Instr}
 use Rattle.dp_model.specs.declared.instr.Instr.TheVariants.{Alloc, Free, Clone, Prepend, Adj, Append, Trim, Chain, IfHead, IfTail, IfLen, IfLast, Load, Store}
-use Rattle.dp_model.specs.declared.instr.Instr.TheVariants.{LoadX, StoreX, Set, Mov, Add, Sub, And, Or, Xor, Shl, Shr, Jmp, Jeq, Jlt, Lookup, Tx, Enq, Exit}
+use Rattle.dp_model.specs.declared.instr.Instr.TheVariants.{LoadX, StoreX, Tx, Enq, Exit}
 use Rattle.dp_model.specs.declared.env.PoolSpec.{PoolSpec}
 use Rattle.dp_model.specs.declared.env.PortSpec.{PortSpec}
 use Rattle.dp_model.specs.Arithmetic.{bytes_in, big_endian}
@@ -143,19 +143,7 @@ beside_stays c label s (LoadX r p x off w) m k (j, holds, le, is) beside = moved
 beside_stays c label s (Tx p r l) m k (j, port, packets, holds, is_port, is_there, is) beside = moved c label s k m _ is (queued c label s k _ l _ refl)
 beside_stays c label s (Enq p ring l) m k (j, spec, packets, holds, is_ring, is_there, is) beside = moved c label s k m _ is (queued c label s k _ l _ refl)
 beside_stays c label s Exit m k (gone, is) beside = moved c label s k m _ is refl
-beside_stays c label s (Set r n) m k (after, e, is) beside = moved c label s k m _ is refl
-beside_stays c label s (Mov r x) m k (after, e, is) beside = moved c label s k m _ is refl
-beside_stays c label s (Add r x) m k (after, e, is) beside = moved c label s k m _ is refl
-beside_stays c label s (Sub r x) m k (after, e, is) beside = moved c label s k m _ is refl
-beside_stays c label s (And r x) m k (after, e, is) beside = moved c label s k m _ is refl
-beside_stays c label s (Or r x) m k (after, e, is) beside = moved c label s k m _ is refl
-beside_stays c label s (Xor r x) m k (after, e, is) beside = moved c label s k m _ is refl
-beside_stays c label s (Shl r n) m k (after, e, is) beside = moved c label s k m _ is refl
-beside_stays c label s (Shr r n) m k (after, e, is) beside = moved c label s k m _ is refl
-beside_stays c label s (Jmp l) m k (after, e, is) beside = moved c label s k m _ is refl
-beside_stays c label s (Jeq r x l) m k (after, e, is) beside = moved c label s k m _ is refl
-beside_stays c label s (Jlt r n l) m k (after, e, is) beside = moved c label s k m _ is refl
-beside_stays c label s (Lookup r table x l) m k (after, e, is) beside = moved c label s k m _ is refl
+beside_stays c label s i m k acts beside = moved c label s k m _ acts.2 refl
 
 -- a record that is received is not seen through the packets in rings and transmit lists
 pub queued_stays : (c : Setting) (program : List Instr) (port : ℕ) (spec : PortSpec) (bytes : List ℕ) (w w' : World) (answers : List Bool) (k : Packet)

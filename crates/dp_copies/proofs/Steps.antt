@@ -5,7 +5,7 @@ use Rattle.dp_model.specs.Packets.{IsWithin}
 use Rattle.dp_model.specs.Machine.{State, live, At, Setting, Move, Acts}
 use Rattle.dp_model.specs.CopyMachine.{CopyMove, copy_step}
 use Rattle.dp_model.specs.declared.instr.Instr.TheVariants.{Alloc, Clone, Free, Prepend, Adj, Append, Trim, Chain, IfHead, IfTail, IfLen, IfLast, Load, Store}
-use Rattle.dp_model.specs.declared.instr.Instr.TheVariants.{LoadX, StoreX, Set, Mov, Add, Sub, And, Or, Xor, Shl, Shr, Jmp, Jeq, Jlt, Lookup, Tx, Enq, Exit}
+use Rattle.dp_model.specs.declared.instr.Instr.TheVariants.{LoadX, StoreX, Tx, Enq, Exit}
 use Rattle.dp_model.specs.declared.instr.Instr.{Instr}
 use Rattle.dp_copies.proofs.States.{copied}
 use Rattle.dp_copies.proofs.Moves.{by}
@@ -46,16 +46,4 @@ steps_copy c label s (StoreX p x off w r) m later well acts = store_x_step c lab
 steps_copy c label s (Tx p r l) m later well acts = tx_step c label s p r l m later well acts
 steps_copy c label s (Enq p ring l) m later well acts = enq_step c label s p ring l m later well acts
 steps_copy c label s Exit m later well acts = exit_step c label s m later well acts
-steps_copy c label s (Set r n) m later well (after, e, is) = by c label s (Set r n) later m _ is (ap (option_map (leads c s later)) e)
-steps_copy c label s (Mov r x) m later well (after, e, is) = by c label s (Mov r x) later m _ is (ap (option_map (leads c s later)) e)
-steps_copy c label s (Add r x) m later well (after, e, is) = by c label s (Add r x) later m _ is (ap (option_map (leads c s later)) e)
-steps_copy c label s (Sub r x) m later well (after, e, is) = by c label s (Sub r x) later m _ is (ap (option_map (leads c s later)) e)
-steps_copy c label s (And r x) m later well (after, e, is) = by c label s (And r x) later m _ is (ap (option_map (leads c s later)) e)
-steps_copy c label s (Or r x) m later well (after, e, is) = by c label s (Or r x) later m _ is (ap (option_map (leads c s later)) e)
-steps_copy c label s (Xor r x) m later well (after, e, is) = by c label s (Xor r x) later m _ is (ap (option_map (leads c s later)) e)
-steps_copy c label s (Shl r n) m later well (after, e, is) = by c label s (Shl r n) later m _ is (ap (option_map (leads c s later)) e)
-steps_copy c label s (Shr r n) m later well (after, e, is) = by c label s (Shr r n) later m _ is (ap (option_map (leads c s later)) e)
-steps_copy c label s (Jmp l) m later well (after, e, is) = by c label s (Jmp l) later m _ is (ap (option_map (leads c s later)) e)
-steps_copy c label s (Jeq r x l) m later well (after, e, is) = by c label s (Jeq r x l) later m _ is (ap (option_map (leads c s later)) e)
-steps_copy c label s (Jlt r n l) m later well (after, e, is) = by c label s (Jlt r n l) later m _ is (ap (option_map (leads c s later)) e)
-steps_copy c label s (Lookup r table x l) m later well (after, e, is) = by c label s (Lookup r table x l) later m _ is (ap (option_map (leads c s later)) e)
+steps_copy c label s i m later well (after, e, is) = by c label s i later m _ is (ap (option_map (leads c s later)) e)

@@ -5,8 +5,7 @@ use Rattle.std.specs.List.{list_all}
 use Rattle.std.proofs.lemmas.Bool.{lt-ltb}
 use Rattle.dp_model.specs.declared.row.Row.{Row}
 use Rattle.dp_model.specs.declared.instr.Instr.{Instr}
-use Rattle.dp_model.specs.declared.instr.Instr.TheVariants.{Alloc, Free, Clone, Prepend, Adj, Append, Trim, Chain, IfHead, IfTail, IfLen, IfLast, Load, Store}
-use Rattle.dp_model.specs.declared.instr.Instr.TheVariants.{LoadX, StoreX, Set, Mov, Add, Sub, And, Or, Xor, Shl, Shr, Jmp, Jeq, Jlt, Lookup, Tx, Enq, Exit}
+use Rattle.dp_model.specs.declared.instr.Instr.TheVariants.{Alloc, Clone, IfHead, IfTail, IfLen, IfLast, Jmp, Jeq, Jlt, Lookup, Tx, Enq, Exit}
 use Rattle.dp_model.specs.Environments.{Environment}
 use Rattle.dp_model.specs.Jumps.{label_of}
 use Rattle.dp_model.specs.Rows.{leads}
@@ -28,24 +27,6 @@ forward_leads env label row (Jlt r n l) names = both_are (next_later label) (bot
 forward_leads env label row (Lookup r table x l) names = both_are (next_later label) (both_are (lt-ltb label l (names l refl)) refl)
 forward_leads env label row (Tx p r l) names = both_are (next_later label) (both_are (lt-ltb label l (names l refl)) refl)
 forward_leads env label row (Enq p ring l) names = both_are (next_later label) (both_are (lt-ltb label l (names l refl)) refl)
-forward_leads env label row (Free p) names = both_are (next_later label) refl
-forward_leads env label row (Prepend p n) names = both_are (next_later label) refl
-forward_leads env label row (Adj p n) names = both_are (next_later label) refl
-forward_leads env label row (Append p n) names = both_are (next_later label) refl
-forward_leads env label row (Trim p n) names = both_are (next_later label) refl
-forward_leads env label row (Chain p q) names = both_are (next_later label) refl
-forward_leads env label row (Load r p off w) names = both_are (next_later label) refl
-forward_leads env label row (Store p off w r) names = both_are (next_later label) refl
-forward_leads env label row (LoadX r p x off w) names = both_are (next_later label) refl
-forward_leads env label row (StoreX p x off w r) names = both_are (next_later label) refl
-forward_leads env label row (Set r n) names = both_are (next_later label) refl
-forward_leads env label row (Mov r x) names = both_are (next_later label) refl
-forward_leads env label row (Add r x) names = both_are (next_later label) refl
-forward_leads env label row (Sub r x) names = both_are (next_later label) refl
-forward_leads env label row (And r x) names = both_are (next_later label) refl
-forward_leads env label row (Or r x) names = both_are (next_later label) refl
-forward_leads env label row (Xor r x) names = both_are (next_later label) refl
-forward_leads env label row (Shl r n) names = both_are (next_later label) refl
-forward_leads env label row (Shr r n) names = both_are (next_later label) refl
 forward_leads env label row (Jmp l) names = both_are (lt-ltb label l (names l refl)) refl
 forward_leads env label row Exit names = refl
+forward_leads env label row _ names = both_are (next_later label) refl

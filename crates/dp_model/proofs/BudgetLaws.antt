@@ -7,7 +7,7 @@ use Rattle.std.proofs.lemmas.Option.{same_Some, slice_get_within}
 use Rattle.dp_model.specs.declared.env.PortSpec.{PortSpec}
 use Rattle.dp_model.specs.declared.instr.Instr.{Instr}
 use Rattle.dp_model.specs.declared.instr.Instr.TheVariants.{Alloc, Free, Clone, Prepend, Adj, Append, Trim, Chain, IfHead, IfTail, IfLen, IfLast, Load, Store}
-use Rattle.dp_model.specs.declared.instr.Instr.TheVariants.{LoadX, StoreX, Set, Mov, Add, Sub, And, Or, Xor, Shl, Shr, Jmp, Jeq, Jlt, Lookup, Tx, Enq, Exit}
+use Rattle.dp_model.specs.declared.instr.Instr.TheVariants.{LoadX, StoreX, Jmp, Jeq, Jlt, Lookup, Tx, Enq, Exit}
 use Rattle.dp_model.specs.Packets.{Packet, headroom, tailroom, first_len, last_len}
 use Rattle.dp_model.specs.Prefixes.{Route, hop_for}
 use Rattle.dp_model.specs.Jumps.{label_of}
@@ -111,19 +111,11 @@ acts_lead c label to s (Tx p r l) m (k, port, packets, holds, is_port, is_there,
 acts_lead c label to s (Enq p ring l) m (k, spec, packets, holds, is_ring, is_there, is) e =
     either (nat_lt (length packets + 1) spec.count) _ _ m to is e (λ next. inl (same_at to (label + 1) (sym next))) (named label to (Enq p ring l) l refl)
 acts_lead c label to s Exit m (gone, is) e = let no : Ended ≡ At to = sym (ap next_of is) ∙ e in cc
-acts_lead c label to s (Set r n) m (after, a, is) e = counted label to (Set r n) after m _ _ a is e
-acts_lead c label to s (Mov r x) m (after, a, is) e = counted label to (Mov r x) after m _ _ a is e
-acts_lead c label to s (Add r x) m (after, a, is) e = counted label to (Add r x) after m _ _ a is e
-acts_lead c label to s (Sub r x) m (after, a, is) e = counted label to (Sub r x) after m _ _ a is e
-acts_lead c label to s (And r x) m (after, a, is) e = counted label to (And r x) after m _ _ a is e
-acts_lead c label to s (Or r x) m (after, a, is) e = counted label to (Or r x) after m _ _ a is e
-acts_lead c label to s (Xor r x) m (after, a, is) e = counted label to (Xor r x) after m _ _ a is e
-acts_lead c label to s (Shl r n) m (after, a, is) e = counted label to (Shl r n) after m _ _ a is e
-acts_lead c label to s (Shr r n) m (after, a, is) e = counted label to (Shr r n) after m _ _ a is e
 acts_lead c label to s (Jmp l) m (after, a, is) e = tested label to (Jmp l) true l after m _ _ refl a is e
 acts_lead c label to s (Jeq r x l) m (after, a, is) e = tested label to (Jeq r x l) _ l after m _ _ refl a is e
 acts_lead c label to s (Jlt r n l) m (after, a, is) e = tested label to (Jlt r n l) _ l after m _ _ refl a is e
 acts_lead c label to s (Lookup r table x l) m (after, a, is) e = looked label to (Lookup r table x l) (slice_get c.tables table) _ r l after m _ _ refl a is e
+acts_lead c label to s i m acts e = counted label to i acts.0 m _ _ acts.1 acts.2 e
 
 -- ---- registers are freed one by one
 -- ---- no run takes more backward jumps than its budget

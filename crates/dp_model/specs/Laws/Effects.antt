@@ -3,7 +3,7 @@ use Rattle.std.proofs.Common.{◌≡◌, ℕ, ◌+◌, ◌≤◌, ◌≢◌, Boo
 use Rattle.std.specs.Prelude.{slice_get, slice_index, nat_lt}
 use Rattle.dp_model.specs.declared.instr.Instr.{Instr}
 use Rattle.dp_model.specs.declared.instr.Instr.TheVariants.{Alloc, Free, Clone, Prepend, Adj, Append, Trim, Chain, IfHead, IfTail, IfLen, IfLast, Load, Store}
-use Rattle.dp_model.specs.declared.instr.Instr.TheVariants.{LoadX, StoreX, Set, Mov, Add, Sub, And, Or, Xor, Shl, Shr, Jmp, Jeq, Jlt, Lookup, Tx, Enq, Exit}
+use Rattle.dp_model.specs.declared.instr.Instr.TheVariants.{LoadX, StoreX, Tx, Enq, Exit}
 use Rattle.dp_model.specs.Arithmetic.{bytes_in}
 use Rattle.dp_model.specs.Buffers.{Number, Buffers, ChangesOnly}
 use Rattle.dp_model.specs.Packets.{Packet, headroom, tailroom, first_len, last_len, AreFresh, IsHeadSole, IsTailSole, allocated, cloned, at_front, at_end}
@@ -88,16 +88,4 @@ effect_of c label s (Tx p r l) m (k, port, packets, holds, is_port, there, is) =
 effect_of c label s (Enq p ring l) m (k, spec, packets, holds, is_ring, there, is) =
     left c s m (nat_lt (length packets + 1) spec.count) label l _ is (Queued p ring k packets holds there)
 effect_of c label s Exit m (gone, is) = Kept (ap state_of_move is) (ap answers_of is)
-effect_of c label s (Set r n) m (after, e, is) = counted c s m after.1 after.0 is
-effect_of c label s (Mov r x) m (after, e, is) = counted c s m after.1 after.0 is
-effect_of c label s (Add r x) m (after, e, is) = counted c s m after.1 after.0 is
-effect_of c label s (Sub r x) m (after, e, is) = counted c s m after.1 after.0 is
-effect_of c label s (And r x) m (after, e, is) = counted c s m after.1 after.0 is
-effect_of c label s (Or r x) m (after, e, is) = counted c s m after.1 after.0 is
-effect_of c label s (Xor r x) m (after, e, is) = counted c s m after.1 after.0 is
-effect_of c label s (Shl r n) m (after, e, is) = counted c s m after.1 after.0 is
-effect_of c label s (Shr r n) m (after, e, is) = counted c s m after.1 after.0 is
-effect_of c label s (Jmp l) m (after, e, is) = counted c s m after.1 after.0 is
-effect_of c label s (Jeq r x l) m (after, e, is) = counted c s m after.1 after.0 is
-effect_of c label s (Jlt r n l) m (after, e, is) = counted c s m after.1 after.0 is
-effect_of c label s (Lookup r table x l) m (after, e, is) = counted c s m after.1 after.0 is
+effect_of c label s i m acts = counted c s m acts.0.1 acts.0.0 acts.2
