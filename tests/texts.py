@@ -3,8 +3,8 @@
 how many there are.
 
 Usage: tests/texts.py   (about half a minute)
-Prints a line for each file that `rt fmt` would lay out otherwise, and for each edit whose old text does not stand once; exits with 1 where there is
-one."""
+Prints a line for each file that `rt fmt` would lay out otherwise, for each line of more than 160 columns, and for each edit whose old text does not
+stand once; exits with 1 where there is one."""
 import concurrent.futures
 import pathlib
 import shutil
@@ -16,6 +16,7 @@ from planted import CRATES, TOP, Edit, Tally, counted, fit, lanes
 
 # What `rt fmt` lays out in a crate.
 PARTS = ("src", "specs", "proofs")
+WIDTH = 160
 
 
 def laid_otherwise(crate: str, room: pathlib.Path) -> list[str]:
@@ -28,6 +29,12 @@ def laid_otherwise(crate: str, room: pathlib.Path) -> list[str]:
     return [str(it.relative_to(TOP)) for it in files if it.read_bytes() != (there / it.relative_to(here)).read_bytes()]
 
 
+def too_wide(crate: str) -> list[str]:
+    """The lines of a crate that are wider than a line may be."""
+    files = [it for part in PARTS for it in sorted((TOP / "crates" / crate / part).rglob("*.*t"))]
+    return [f"{it.relative_to(TOP)}:{number}" for it in files for number, line in enumerate(it.read_text().splitlines(), 1) if len(line) > WIDTH]
+
+
 def main() -> int:
     with tempfile.TemporaryDirectory(prefix="texts-") as room:
         shutil.copy(TOP / "crates.txt", room)
@@ -35,6 +42,9 @@ def main() -> int:
             files = [file for found in pool.map(lambda it: laid_otherwise(it, pathlib.Path(room)), CRATES) for file in found]
     for file in files:
         print(f"{file}: rt fmt lays it out otherwise")
+    wide = [line for crate in CRATES for line in too_wide(crate)]
+    for line in wide:
+        print(f"{line}: more than {WIDTH} columns")
     tally = Tally()
     for crate in CRATES.values():
         fit([Edit(crate, it) for name in ("must-fail", "planted") for it in sorted((crate.folder / name).glob("*.edit"))], tally)
@@ -42,8 +52,8 @@ def main() -> int:
     is_counted = page == counted(page)
     if not is_counted:
         print("docs/notes/wrong_bodies.md counts what was there before: run tests/planted.py --count")
-    print(f"texts: {len(files)} laid out otherwise, {len(tally.unfit)} wrong bodies that cannot be made")
-    return 1 if files or tally.unfit or not is_counted else 0
+    print(f"texts: {len(files)} laid out otherwise, {len(wide)} lines too wide, {len(tally.unfit)} wrong bodies that cannot be made")
+    return 1 if files or wide or tally.unfit or not is_counted else 0
 
 
 if __name__ == "__main__":
