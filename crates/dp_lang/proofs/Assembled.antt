@@ -6,7 +6,6 @@ use Rattle.std.specs.List.{list_all}
 use Rattle.std.specs.FinMap.{get}
 use Rattle.std.proofs.lemmas.List.{length-map}
 use Rattle.dp_model.specs.declared.instr.Instr.{Instr}
-use Rattle.dp_model.specs.declared.instr.Instr.TheVariants as instr
 use Rattle.dp_lang.specs.declared.cause.Fault.{Fault}
 use Rattle.dp_lang.specs.declared.form.Form.{Form}
 use Rattle.dp_lang.specs.declared.form.Kind.{Kind}
@@ -14,20 +13,14 @@ use Rattle.dp_lang.specs.declared.form.Kind.TheVariants as kinds
 use Rattle.dp_lang.specs.declared.source.Source as sources
 use Rattle.dp_lang.specs.declared.statement.Statement as statements
 use Rattle.dp_lang.specs.Arguments.{Argument, packet, register, constant, label}
-use Rattle.dp_lang.specs.Forms.{kinds_of, Statement, spelled, either}
+use Rattle.dp_lang.specs.Forms.{kinds_of, Statement, spelled}
 use Rattle.dp_lang.specs.Kinds.{is_of, all_of}
 use Rattle.dp_lang.specs.Programs.{IsProgram, is_in_range, leads_below}
 use Rattle.dp_lang.specs.Reading.{below, target_in, as_label, resolved, onto_resolved, all_resolved, statement_with, all_statements, ◌>>=◌}
 use Rattle.dp_lang.specs.Sources as view
 use Rattle.dp_lang.specs.Views.{argument}
 use Rattle.dp_lang.proofs.Bytes.{and_true, and_left, and_right}
-
--- whether an operand is no label, or one of so many instructions
-abbrev pub is_below : ℕ → Argument ℕ → Bool
-is_below count (packet p) = true
-is_below count (register r) = true
-is_below count (constant n) = true
-is_below count (label l) = nat_lt l count
+use Rattle.dp_lang.proofs.InstrLabels.{is_below, operands_below}
 
 abbrev fits : Statement ℕ → Bool
 fits s = all_of (kinds_of s.form) s.arguments
@@ -129,25 +122,10 @@ target_bound : (n : ℕ) (o : Option ℕ) (l : ℕ) → below n o ≡ Some l →
 target_bound n None l h = absurd cc
 target_bound n (Some m) l h = below_bound (nat_lt m n) m l n refl h
 
-leads : (count : ℕ) (i : Instr) → is_placed count (spelled i) ≡ true → leads_below count i ≡ true
-leads count (instr.Alloc p pool l) h = and_left (nat_lt l count) true h
-leads count (instr.Clone p q pool l) h = and_left (nat_lt l count) true h
-leads count (instr.IfHead p n l) h = and_left (nat_lt l count) true h
-leads count (instr.IfTail p n l) h = and_left (nat_lt l count) true h
-leads count (instr.IfLen p n l) h = and_left (nat_lt l count) true h
-leads count (instr.IfLast p n l) h = and_left (nat_lt l count) true h
-leads count (instr.Jmp l) h = and_left (nat_lt l count) true h
-leads count (instr.Jeq r x l) h = and_left (nat_lt l count) true (and_right (is_below count (either x)) (nat_lt l count && true) h)
-leads count (instr.Jlt r c l) h = and_left (nat_lt l count) true h
-leads count (instr.Lookup r table s l) h = and_left (nat_lt l count) true h
-leads count (instr.Tx p r l) h = and_left (nat_lt l count) true h
-leads count (instr.Enq p ring l) h = and_left (nat_lt l count) true h
-leads count _ h = refl
-
 all_lead : (count : ℕ) (is : List Instr) → list_all (is_placed count) (map spelled is) ≡ true → list_all (leads_below count) is ≡ true
 all_lead count [] h = refl
 all_lead count (i ∷ is) h = and_true (leads_below count i) (list_all (leads_below count) is)
-    (leads count i (and_left (is_placed count (spelled i)) (list_all (is_placed count) (map spelled is)) h))
+    (sym (operands_below count i) ∙ and_left (is_placed count (spelled i)) (list_all (is_placed count) (map spelled is)) h)
     (all_lead count is (and_right (is_placed count (spelled i)) (list_all (is_placed count) (map spelled is)) h))
 
 all_in_range : (is : List Instr) → list_all fits (map spelled is) ≡ list_all is_in_range is

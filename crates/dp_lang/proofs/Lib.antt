@@ -5,6 +5,7 @@ pub mod Bytes
 pub mod LineCuts
 pub mod Digits
 pub mod Fits
+pub mod InstrLabels
 pub mod Joins
 pub mod LabelMaps
 pub mod Labelled

@@ -1,23 +1,20 @@
 -- The operands of a program's instruction are small.
-use Rattle.std.proofs.Common.{◌≡◌, ℕ, ◌≤◌, Bool, true, List, [], ◌∷◌, refl, arith}
+use Rattle.std.proofs.Common.{◌≡◌, ℕ, ◌≤◌, Bool, true, List, [], ◌∷◌, refl, ◌∙◌, arith}
 use Rattle.std.specs.Prelude.{nat_le, nat_lt}
 use Rattle.std.specs.List.{list_all}
 use Rattle.std.proofs.lemmas.Bool.{leb-true, le-leb, ltb-true}
 use Rattle.std.proofs.lemmas.Bool.Decides.{nat_tests}
 use Rattle.dp_model.specs.declared.instr.Instr.{Instr}
-use Rattle.dp_model.specs.declared.instr.Instr.TheVariants as instr
-use Rattle.dp_model.specs.declared.registers.Operand.{Operand}
-use Rattle.dp_model.specs.declared.registers.Operand.TheVariants as operand
 use Rattle.dp_lang.specs.declared.form.Form.{Form}
 use Rattle.dp_lang.specs.declared.form.Form.TheVariants.{Alloc}
 use Rattle.dp_lang.specs.declared.form.Kind.{Kind}
 use Rattle.dp_lang.specs.declared.form.Kind.TheVariants as kinds
 use Rattle.dp_lang.specs.Arguments.{Argument, packet, register, constant, label}
-use Rattle.dp_lang.specs.Forms.{kinds_of, spelled, either}
+use Rattle.dp_lang.specs.Forms.{kinds_of, spelled}
 use Rattle.dp_lang.specs.Kinds.{is_of, all_of, is_width}
 use Rattle.dp_lang.specs.Programs.{is_in_range, leads_below}
-use Rattle.dp_lang.proofs.Assembled.{is_below}
 use Rattle.dp_lang.proofs.Bytes.{and_true, and_left, and_right}
+use Rattle.dp_lang.proofs.InstrLabels.{is_below, operands_below}
 use Rattle.dp_lang.proofs.Operands.{is_small}
 
 is_short : Kind → Bool
@@ -61,32 +58,6 @@ all_small count few (k ∷ ks) (a ∷ as') h s b =
     (all_small count few ks as' (and_right (is_of k a) (all_of ks as') h) (and_right (is_short k) (list_all is_short ks) s)
     (and_right (is_below count a) (list_all (is_below count) as') b))
 
--- ---- the label of an instruction
-
-either_below : (count : ℕ) (x : Operand) → is_below count (either x) ≡ true
-either_below count (operand.Register r) = refl
-either_below count (operand.Constant c) = refl
-
-below : (count : ℕ) (i : Instr) → leads_below count i ≡ true → list_all (is_below count) (spelled i).arguments ≡ true
-below count (instr.Alloc p pool l) h = rw h refl
-below count (instr.Clone p q pool l) h = rw h refl
-below count (instr.IfHead p n l) h = rw h refl
-below count (instr.IfTail p n l) h = rw h refl
-below count (instr.IfLen p n l) h = rw h refl
-below count (instr.IfLast p n l) h = rw h refl
-below count (instr.Add r x) h = rw (either_below count x) refl
-below count (instr.Sub r x) h = rw (either_below count x) refl
-below count (instr.And r x) h = rw (either_below count x) refl
-below count (instr.Or r x) h = rw (either_below count x) refl
-below count (instr.Xor r x) h = rw (either_below count x) refl
-below count (instr.Jmp l) h = rw h refl
-below count (instr.Jeq r x l) h = rw (either_below count x, h) refl
-below count (instr.Jlt r c l) h = rw h refl
-below count (instr.Lookup r table s l) h = rw h refl
-below count (instr.Tx p r l) h = rw h refl
-below count (instr.Enq p ring l) h = rw h refl
-below count _ h = refl
-
 pub operands_small : (count : ℕ) → count ≤ 1024 → (i : Instr) → is_in_range i ≡ true → leads_below count i ≡ true → list_all is_small (spelled i).arguments
     ≡ true
-operands_small count few i h b = all_small count few (kinds_of (spelled i).form) (spelled i).arguments h (kinds_short (spelled i).form) (below count i b)
+operands_small count few i h b = all_small count few (kinds_of (spelled i).form) (spelled i).arguments h (kinds_short (spelled i).form) (operands_below count i ∙ b)

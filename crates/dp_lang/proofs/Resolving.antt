@@ -1,18 +1,17 @@
 -- The names of printed labels become their numbers again.
-use Rattle.std.proofs.Common.{◌≡◌, ℕ, Bool, true, false, List, [], ◌∷◌, map, Option, Some, Ok, refl, sym, ap, ◌∙◌, eq-eqb}
+use Rattle.std.proofs.Common.{◌≡◌, ℕ, Bool, true, false, List, [], ◌∷◌, map, Option, Some, None, Ok, refl, sym, ap, subst, ◌∙◌, eq-eqb}
 use Rattle.std.specs.Prelude.{◌||◌, ◌==◌, nat_lt}
 use Rattle.std.specs.List.{list_all, list_any}
 use Rattle.std.specs.Option.{option_map_or}
 use Rattle.dp_model.specs.declared.instr.Instr.{Instr}
-use Rattle.dp_model.specs.declared.instr.Instr.TheVariants as instr
-use Rattle.dp_model.specs.declared.registers.Operand.{Operand}
-use Rattle.dp_model.specs.declared.registers.Operand.TheVariants as operand
 use Rattle.dp_model.specs.Jumps.{label_of}
+use Rattle.dp_lang.specs.Arguments.{Argument, packet, register, constant, label}
 use Rattle.dp_lang.specs.Programs.{leads_below}
 use Rattle.dp_lang.specs.Printing.{names, is_named, label_name}
-use Rattle.dp_lang.specs.Reading.{resolved, all_resolved, all_statements}
-use Rattle.dp_lang.specs.Forms.{Statement, spelled, either}
+use Rattle.dp_lang.specs.Reading.{all_resolved, all_statements}
+use Rattle.dp_lang.specs.Forms.{Statement, spelled}
 use Rattle.dp_lang.proofs.Bytes.{and_left, and_right}
+use Rattle.dp_lang.proofs.InstrLabels.{labels, if_any, own_label}
 use Rattle.dp_lang.proofs.Operands.{named}
 
 -- an instruction with the printed names of its labels
@@ -23,29 +22,25 @@ with_names i = record { form = (spelled i).form; arguments = map named (spelled 
 abbrev pub Finds : (List ℕ → Option ℕ) → Instr → Type 0
 Finds target i = (l : ℕ) → label_of i ≡ Some l → target (label_name l) ≡ Some l
 
-either_resolved : (target : List ℕ → Option ℕ) (x : Operand) → resolved target (named (either x)) ≡ Some (either x)
-either_resolved target (operand.Register r) = refl
-either_resolved target (operand.Constant c) = refl
+-- each of these labels is found
+abbrev AreFound : (List ℕ → Option ℕ) → List ℕ → Type 0
+AreFound target [] = Unit {0}
+AreFound target (l ∷ ls) = target (label_name l) ≡ Some l × AreFound target ls
+
+operands_resolve : (target : List ℕ → Option ℕ) (as' : List (Argument ℕ)) → AreFound target (labels as') → all_resolved target (map named as') ≡ Some as'
+operands_resolve target [] h = refl
+operands_resolve target (packet p ∷ as') h = rw (operands_resolve target as' h) refl
+operands_resolve target (register r ∷ as') h = rw (operands_resolve target as' h) refl
+operands_resolve target (constant n ∷ as') h = rw (operands_resolve target as' h) refl
+operands_resolve target (label l ∷ as') h = rw (h.0, operands_resolve target as' h.1) refl
+
+one_found : (target : List ℕ → Option ℕ) (o : Option ℕ) → ((l : ℕ) → o ≡ Some l → target (label_name l) ≡ Some l) → AreFound target (if_any o)
+one_found target None h = tt
+one_found target (Some l) h = (h l refl, tt)
 
 resolves : (target : List ℕ → Option ℕ) (i : Instr) → Finds target i → all_resolved target (map named (spelled i).arguments) ≡ Some (spelled i).arguments
-resolves target (instr.Alloc p pool l) h = rw (h l refl) refl
-resolves target (instr.Clone p q pool l) h = rw (h l refl) refl
-resolves target (instr.IfHead p n l) h = rw (h l refl) refl
-resolves target (instr.IfTail p n l) h = rw (h l refl) refl
-resolves target (instr.IfLen p n l) h = rw (h l refl) refl
-resolves target (instr.IfLast p n l) h = rw (h l refl) refl
-resolves target (instr.Add r x) h = rw (either_resolved target x) refl
-resolves target (instr.Sub r x) h = rw (either_resolved target x) refl
-resolves target (instr.And r x) h = rw (either_resolved target x) refl
-resolves target (instr.Or r x) h = rw (either_resolved target x) refl
-resolves target (instr.Xor r x) h = rw (either_resolved target x) refl
-resolves target (instr.Jmp l) h = rw (h l refl) refl
-resolves target (instr.Jeq r x l) h = rw (either_resolved target x, h l refl) refl
-resolves target (instr.Jlt r c l) h = rw (h l refl) refl
-resolves target (instr.Lookup r table s l) h = rw (h l refl) refl
-resolves target (instr.Tx p r l) h = rw (h l refl) refl
-resolves target (instr.Enq p ring l) h = rw (h l refl) refl
-resolves target _ h = refl
+resolves target i h =
+    operands_resolve target (spelled i).arguments (subst (AreFound target) (sym (own_label i)) (one_found target (label_of i) h))
 
 -- ---- all instructions
 

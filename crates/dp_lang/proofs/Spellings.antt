@@ -81,17 +81,8 @@ width_bytes Eight = refl
 
 rebuilt-spelled : (i : Instr) → rebuilt (spelled i) ≡ i
 unfolding rebuilt rebuilt_at number
-rebuilt-spelled (instr.Load r p off w) = ap (instr.Load r p off) (width_bytes w)
-rebuilt-spelled (instr.Store p off w r) = ap (λ v. instr.Store p off v r) (width_bytes w)
-rebuilt-spelled (instr.LoadX r p s off w) = ap (instr.LoadX r p s off) (width_bytes w)
-rebuilt-spelled (instr.StoreX p s off w r) = ap (λ v. instr.StoreX p s off v r) (width_bytes w)
-rebuilt-spelled (instr.Add r x) = ap (instr.Add r) (source_either x)
-rebuilt-spelled (instr.Sub r x) = ap (instr.Sub r) (source_either x)
-rebuilt-spelled (instr.And r x) = ap (instr.And r) (source_either x)
-rebuilt-spelled (instr.Or r x) = ap (instr.Or r) (source_either x)
-rebuilt-spelled (instr.Xor r x) = ap (instr.Xor r) (source_either x)
-rebuilt-spelled (instr.Jeq r x l) = ap (λ y. instr.Jeq r y l) (source_either x)
-rebuilt-spelled _ = refl
+rebuilt-spelled instr.Exit = refl
+rebuilt-spelled _ = first_of (cc, simp source_either, simp width_bytes)
 
 all-rebuilt : (is : List Instr) → map rebuilt (map spelled is) ≡ is
 all-rebuilt [] = refl

@@ -139,34 +139,40 @@ macro_rules! forms {
     };
 }
 
+/// Writes the list of all forms, in the order of the table.
 macro_rules! list {
     (; $($name:ident $word:literal $fields:tt;)+) => { [$(Form::$name),+] };
 }
 
+/// Writes a match from a form to its word.
 macro_rules! word {
     ($form:expr ; $($name:ident $word:literal $fields:tt;)+) => {
         match $form { $(Form::$name => $word,)+ }
     };
 }
 
+/// Writes what an operand has to be for a field of the table.
 macro_rules! kind {
     (Target) => { Kind::Packet };
     ($kind:ident) => { Kind::$kind };
     ($kind:ident $range:ident) => { $range };
 }
 
+/// Writes a match from a form to the kinds of its operands, in order.
 macro_rules! kinds {
     ($form:expr ; $($name:ident $word:literal { $($field:ident: $kind:ident $(($range:ident))?),* };)+) => {
         match $form { $(Form::$name => &[$(kind!($kind $($range)?)),*],)+ }
     };
 }
 
+/// Writes a match from an instruction to its form.
 macro_rules! form {
     ($instr:expr ; $($name:ident $word:literal $fields:tt;)+) => {
         match $instr { $(Instr::$name { .. } => Form::$name,)+ }
     };
 }
 
+/// Writes a list of operands as the variant that has so many.
 macro_rules! arguments {
     () => { Arguments::Zero };
     ($a:expr) => { Arguments::One([$a]) };
@@ -176,12 +182,14 @@ macro_rules! arguments {
     ($a:expr, $b:expr, $c:expr, $d:expr, $e:expr) => { Arguments::Five([$a, $b, $c, $d, $e]) };
 }
 
+/// Writes a match from an instruction to its operands, each with what its field is.
 macro_rules! row {
     ($instr:expr ; $($name:ident $word:literal { $($field:ident: $kind:ident $(($range:ident))?),* };)+) => {
         match $instr { $(Instr::$name { $($field),* } => arguments!($(Numbered::$kind($field)),*),)+ }
     };
 }
 
+/// Writes how a field is read from an operand of a text; a label is the number that is given for it.
 macro_rules! read {
     (Target $given:expr, $label:expr) => { packet_in($given) };
     (Packet $given:expr, $label:expr) => { packet_in($given) };
@@ -194,6 +202,7 @@ macro_rules! read {
     (Label $given:expr, $label:expr) => { $label };
 }
 
+/// Writes an instruction field by field, each read from the operand at the next of the places.
 macro_rules! filled {
     ($name:ident $given:expr, $label:expr, [$($place:literal)*] { $($done:tt)* }) => { Instr::$name { $($done)* } };
     ($name:ident $given:expr, $label:expr, [$place:literal $($places:literal)*] { $($done:tt)* } $field:ident $kind:ident $($more:ident)*) => {
@@ -201,12 +210,14 @@ macro_rules! filled {
     };
 }
 
+/// Writes a match from a form to its instruction, read from the operands of a text and the number of its label.
 macro_rules! built {
     ($form:expr, $given:expr, $label:expr ; $($name:ident $word:literal { $($field:ident: $kind:ident $(($range:ident))?),* };)+) => {
         match $form { $(Form::$name => filled!($name $given, $label, [0 1 2 3 4] {} $($field $kind)*),)+ }
     };
 }
 
+/// All forms, in the order of the table.
 static FORMS: [Form; 32] = forms!(list);
 
 impl Form {
