@@ -1,123 +1,29 @@
 -- The budget of backward jumps is as it reads.
-use Rattle.std.proofs.Common.{◌≡◌, ◌⊎◌, ℕ, zero, suc, ◌+◌, ◌*◌, ◌≤◌, Bool, true, false, cond, List, [], ◌++◌, length, Option, Some, None, refl, sym, ◌∙◌, ap}
-use Rattle.std.proofs.Common.{subst, arith, inl, inr}
-use Rattle.std.specs.Prelude.{slice_get, slice_set, nat_lt, MatchOption}
+use Rattle.std.proofs.Common.{◌≡◌, ◌⊎◌, ℕ, zero, suc, ◌+◌, ◌*◌, ◌≤◌, Bool, true, false, cond, List, [], ◌++◌, Option, Some, None, refl, sym, ap}
+use Rattle.std.proofs.Common.{subst, arith}
+use Rattle.std.specs.Prelude.{slice_get, nat_lt, MatchOption}
 use Rattle.std.proofs.lemmas.Bool.{ltb-true}
-use Rattle.std.proofs.lemmas.Option.{same_Some, slice_get_within}
+use Rattle.std.proofs.lemmas.Option.{slice_get_within}
 use Rattle.dp_model.specs.declared.env.PortSpec.{PortSpec}
 use Rattle.dp_model.specs.declared.instr.Instr.{Instr}
-use Rattle.dp_model.specs.declared.instr.Instr.TheVariants.{Alloc, Free, Clone, Prepend, Adj, Append, Trim, Chain, IfHead, IfTail, IfLen, IfLast, Load, Store}
-use Rattle.dp_model.specs.declared.instr.Instr.TheVariants.{LoadX, StoreX, Jmp, Jeq, Jlt, Lookup, Tx, Enq, Exit}
-use Rattle.dp_model.specs.Packets.{Packet, headroom, tailroom, first_len, last_len}
-use Rattle.dp_model.specs.Prefixes.{Route, hop_for}
+use Rattle.dp_model.specs.Packets.{Packet}
 use Rattle.dp_model.specs.Jumps.{label_of}
-use Rattle.dp_model.specs.Machine.{Setting, World, State, Next, At, Ended, Move, Acts, Step, moves_to, goes_on, branches, is_denied, finds, with_jump}
+use Rattle.dp_model.specs.Machine.{Setting, World, State, Next, At, Ended, Move, Acts, Step, with_jump}
 use Rattle.dp_model.specs.Machine.{cut_off, budgeted, with_step}
 use Rattle.dp_model.specs.Runs.{Then, Goes, first_state, NodeRun, most_steps, TookAtMost, Outcome, Got, NoBuffer, Oversize, Arrives, Waiting, first_waiting}
 use Rattle.dp_model.specs.Runs.{Serves, Nodes, runs_of, Turn}
 use Rattle.dp_model.specs.Safety.{AreShort}
-use Rattle.dp_model.specs.Laws.Cases.{matched}
+use Rattle.dp_model.specs.Laws.Effects.{LeadsOn, did_of}
 use Rattle.dp_model.proofs.CountSteps.{goes_short}
 use Rattle.dp_model.specs.Laws.Steps.{acts_counts, goes_counts}
 
 -- ---- what comes after an instruction
 
 -- the next label, or the one that the instruction names
-abbrev NextOrNamed : ℕ → Instr → ℕ → Type 0
-NextOrNamed label i to = (to ≡ label + 1) ⊎ (label_of i ≡ Some to)
+pub acts_lead : (c : Setting) (label to : ℕ) (s : State) (i : Instr) (m : Move) → Acts c label s i m → m.next ≡ At to →
+    (to ≡ label + 1) ⊎ (label_of i ≡ Some to)
+acts_lead c label to s i m acts e = subst (LeadsOn label i) e (did_of c label s i m acts).leads
 
-abbrev label_at : Next → ℕ
-label_at (At l) = l
-label_at Ended = 0
-
-same_at : (a b : ℕ) → At a ≡ At b → a ≡ b
-same_at a b e = ap label_at e
-
--- a move that leads there
-there : (m : Move) (x to : ℕ) → m.next ≡ At x → m.next ≡ At to → to ≡ x
-there m x to is e = same_at to x (sym e ∙ is)
-
-abbrev next_of : Move → Next
-next_of m = m.next
-
--- one of two moves
-either : {G : Type 0} (b : Bool) (x y m : Move) (to : ℕ) → m ≡ cond b x y → m.next ≡ At to → (x.next ≡ At to → G) → (y.next ≡ At to → G) → G
-either true x y m to is e f g = f (sym (ap next_of is) ∙ e)
-either false x y m to is e f g = g (sym (ap next_of is) ∙ e)
-
-module _ (label to : ℕ) (i : Instr) where
-  onward : (m : Move) → m.next ≡ At (label + 1) → m.next ≡ At to → NextOrNamed label i to
-  onward m is e = inl (there m (label + 1) to is e)
-
-  named : (l : ℕ) → label_of i ≡ Some l → At l ≡ At to → NextOrNamed label i to
-  named l names e = inr (names ∙ ap Some (same_at l to e))
-
-  branched : (b : Bool) (l : ℕ) (s : State) (m : Move) → label_of i ≡ Some l → m ≡ branches b label l s → m.next ≡ At to → NextOrNamed label i to
-  branched b l s m names is e = either b (moves_to l s) (goes_on label s) m to is e (named l names) (λ next. inl (same_at to (label + 1) (sym next)))
-
-  -- a calculation that goes on
-  counted : (after : ℕ × List ℕ) (m : Move) (s : State) (numbers : List ℕ) → Some (label + 1, numbers) ≡ Some after → m ≡ moves_to after.0 s →
-      m.next ≡ At to → NextOrNamed label i to
-  counted after m s numbers is moves e =
-      let same : label + 1 ≡ after.0 = ap (λ (x : ℕ × List ℕ). x.0) (same_Some (label + 1, numbers) after is) in
-      onward m (ap next_of moves ∙ ap At (sym same)) e
-
-  -- a calculation that may jump
-  tested : (b : Bool) (l : ℕ) (after : ℕ × List ℕ) (m : Move) (s : State) (numbers : List ℕ) → label_of i ≡ Some l → Some (cond b l (label + 1), numbers)
-      ≡ Some after → m ≡ moves_to after.0 s → m.next ≡ At to → NextOrNamed label i to
-  tested true l after m s numbers names is moves e =
-      let same : l ≡ after.0 = ap (λ (x : ℕ × List ℕ). x.0) (same_Some (l, numbers) after is) in
-      named l names (ap At same ∙ (sym (ap next_of moves) ∙ e))
-  tested false l after m s numbers names is moves e = counted after m s numbers is moves e
-
-  -- a look-up
-  looked : (o : Option (List Route)) (ip r l : ℕ) (after : ℕ × List ℕ) (m : Move) (s : State) (numbers : List ℕ) → label_of i ≡ Some l →
-      finds o ip label r l numbers ≡ Some after → m ≡ moves_to after.0 s → m.next ≡ At to → NextOrNamed label i to
-  looked None ip r l after m s numbers names is moves e = cc is
-  looked (Some routes) ip r l after m s numbers names is moves e = go (hop_for routes ip) refl
-    where
-      go : (h : Option ℕ) → hop_for routes ip ≡ h → NextOrNamed label i to
-      go None h =
-          let it : Some (l, numbers) ≡ Some after = rw h at is in
-          let same : l ≡ after.0 = ap (λ (x : ℕ × List ℕ). x.0) (same_Some (l, numbers) after it) in
-          named l names (ap At same ∙ (sym (ap next_of moves) ∙ e))
-      go (Some hop) h =
-          let it : Some (label + 1, slice_set numbers r hop) ≡ Some after = rw h at is in
-          counted after m s (slice_set numbers r hop) it moves e
-
-pub acts_lead : (c : Setting) (label to : ℕ) (s : State) (i : Instr) (m : Move) → Acts c label s i m → m.next ≡ At to → NextOrNamed label i to
-acts_lead c label to s (Alloc p pool l) m (empty, exists, call) e = matched (is_denied c s pool 1) _ _ call
-    (λ is. named label to (Alloc p pool l) l refl (sym (ap next_of is) ∙ e))
-    (λ (ns, buffers, fresh, changes, is). onward label to (Alloc p pool l) m (ap next_of is) e)
-acts_lead c label to s (Clone p q pool l) m (k, holds, empty, exists, call) e = matched (is_denied c s pool (length k)) _ _ call
-    (λ is. named label to (Clone p q pool l) l refl (sym (ap next_of is) ∙ e))
-    (λ (ns, fresh, is). onward label to (Clone p q pool l) m (ap next_of is) e)
-acts_lead c label to s (Free p) m (k, holds, is) e = onward label to (Free p) m (ap next_of is) e
-acts_lead c label to s (Prepend p n) m (k, holds, le, sole, is) e = onward label to (Prepend p n) m (ap next_of is) e
-acts_lead c label to s (Append p n) m (k, holds, le, sole, is) e = onward label to (Append p n) m (ap next_of is) e
-acts_lead c label to s (Adj p n) m (k, holds, le, is) e = onward label to (Adj p n) m (ap next_of is) e
-acts_lead c label to s (Trim p n) m (k, holds, le, is) e = onward label to (Trim p n) m (ap next_of is) e
-acts_lead c label to s (Chain p q) m (k, t, hk, ht, apart, few, is) e = onward label to (Chain p q) m (ap next_of is) e
-acts_lead c label to s (IfHead p n l) m (k, holds, is) e = branched label to (IfHead p n l) (nat_lt (headroom k) n) l s m refl is e
-acts_lead c label to s (IfTail p n l) m (k, holds, is) e = branched label to (IfTail p n l) (nat_lt (tailroom c.env.pools k) n) l s m refl is e
-acts_lead c label to s (IfLen p n l) m (k, holds, is) e = branched label to (IfLen p n l) (nat_lt (first_len k) n) l s m refl is e
-acts_lead c label to s (IfLast p n l) m (k, holds, is) e = branched label to (IfLast p n l) (nat_lt (last_len k) n) l s m refl is e
-acts_lead c label to s (Load r p off w) m (k, holds, le, is) e = onward label to (Load r p off w) m (ap next_of is) e
-acts_lead c label to s (LoadX r p x off w) m (k, holds, le, is) e = onward label to (LoadX r p x off w) m (ap next_of is) e
-acts_lead c label to s (Store p off w r) m (k, holds, le, sole, is) e = onward label to (Store p off w r) m (ap next_of is) e
-acts_lead c label to s (StoreX p x off w r) m (k, holds, le, sole, is) e = onward label to (StoreX p x off w r) m (ap next_of is) e
-acts_lead c label to s (Tx p r l) m (k, port, packets, holds, is_port, is_there, is) e =
-    either (nat_lt (length packets + 1) port.queue) _ _ m to is e (λ next. inl (same_at to (label + 1) (sym next))) (named label to (Tx p r l) l refl)
-acts_lead c label to s (Enq p ring l) m (k, spec, packets, holds, is_ring, is_there, is) e =
-    either (nat_lt (length packets + 1) spec.count) _ _ m to is e (λ next. inl (same_at to (label + 1) (sym next))) (named label to (Enq p ring l) l refl)
-acts_lead c label to s Exit m (gone, is) e = let no : Ended ≡ At to = sym (ap next_of is) ∙ e in cc
-acts_lead c label to s (Jmp l) m (after, a, is) e = tested label to (Jmp l) true l after m _ _ refl a is e
-acts_lead c label to s (Jeq r x l) m (after, a, is) e = tested label to (Jeq r x l) _ l after m _ _ refl a is e
-acts_lead c label to s (Jlt r n l) m (after, a, is) e = tested label to (Jlt r n l) _ l after m _ _ refl a is e
-acts_lead c label to s (Lookup r table x l) m (after, a, is) e = looked label to (Lookup r table x l) (slice_get c.tables table) _ r l after m _ _ refl a is e
-acts_lead c label to s i m acts e = counted label to i acts.0 m _ _ acts.1 acts.2 e
-
--- ---- registers are freed one by one
 -- ---- no run takes more backward jumps than its budget
 jumps_within : (label : ℕ) (m : Move) → m.state.jumps ≤ 256 → (budgeted label m).state.jumps ≤ 256
 jumps_within label m within = go _ (nat_lt m.state.jumps 256) refl

@@ -12,16 +12,6 @@ use Rattle.dp_model.proofs.Filling.{range_written}
 
 -- ---- the least 2^k - 1 that is at least n
 
-pub ones_are : (limit n : ℕ) → (k : ℕ) × (ones_within limit n + 1 ≡ 2 ^ k)
-ones_are limit zero = (0, refl)
-ones_are zero (suc n) = (0, refl)
-ones_are (suc limit) (suc n) = let (k, e) = ones_are limit (suc n / 2) in (suc k, omega (arith, e, two-pow-succ k))
-
-pub ones_enough : (limit n : ℕ) → n ≤ limit → n ≤ ones_within limit n
-ones_enough limit zero le = omega arith
-ones_enough zero (suc n) le = absurd (omega arith)
-ones_enough (suc limit) (suc n) le = omega (arith, ones_enough limit (suc n / 2) (omega arith))
-
 pub ones_least : (limit n j : ℕ) → n + 1 ≤ 2 ^ j → ones_within limit n + 1 ≤ 2 ^ j
 ones_least limit zero j le = omega (arith, one-le-pow j 2 (omega arith))
 ones_least zero (suc n) j le = omega (arith, one-le-pow j 2 (omega arith))

@@ -117,7 +117,7 @@ clone_owned c s p q pool k ns owned empty holds fresh =
     (clone_comes c.env.pools (live s) pool ns k (λ n. omega (arith, refs_cloned ns k n fresh.count, refs_held s.packets q (Some k) n holds, live_parts s n))
     fresh) owned
 
-effect_owned : (c : Setting) (s : State) (m : Move) → HasOwners c s → Effect c s m → HasOwners c m.state
+pub effect_owned : (c : Setting) (s : State) (m : Move) → HasOwners c s → Effect c s m → HasOwners c m.state
 effect_owned c s m owned (Kept is _) = by c m.state _ is owned
 effect_owned c s m owned (Calculated numbers is _) = by c m.state _ is owned
 effect_owned c s m owned (Refused is _) = by c m.state _ is owned

@@ -4,21 +4,20 @@ use Rattle.std.specs.Prelude.{slice_get, slice_set}
 use Rattle.std.specs.List.{AllByRecursion}
 use Rattle.std.proofs.lemmas.List.{append-nil}
 use Rattle.dp_model.specs.declared.env.PoolSpec.{PoolSpec}
-use Rattle.dp_model.specs.declared.instr.Instr.{Instr}
-use Rattle.dp_model.specs.declared.instr.Instr.TheVariants.{Free, Prepend, Adj, Append, Trim, Chain}
 use Rattle.dp_model.specs.Environments.{room_at}
 use Rattle.dp_model.specs.Buffers.{Number, Buffers, same_number}
 use Rattle.dp_model.specs.Packets.{Segment, Packet, refs, headroom, tailroom, first_len, last_len, IsHeadSole, IsTailSole, IsWithin, AreOwned, Lies, needed}
 use Rattle.dp_model.specs.Packets.{allocated, received, cloned, at_front, at_end, more_before, less_before, more_behind, less_behind, zeroed_before}
 use Rattle.dp_model.specs.Packets.{zeroed_behind, stored}
-use Rattle.dp_model.specs.Machine.{Setting, State, live, segments_held, Acts, with_packet, with_buffers, goes_on}
+use Rattle.dp_model.specs.Machine.{Setting, State, live, segments_held, with_packet, with_buffers, goes_on}
 use Rattle.dp_model.specs.Stores.{Store, segments_of, Has, with_slot, Becomes, unwritten, Allocates, ReceivesInto, Clones, Chains, IsWellFormedStore}
+use Rattle.dp_model.specs.Laws.Effects.{Effect, Freed, Prepended, Adjusted, Appended, Trimmed, Chained}
 use Rattle.dp_model.specs.Laws.References.{refs_set, refs_held}
 use Rattle.dp_model.proofs.SoundClone.{refs_cloned, set_same}
 use Rattle.dp_model.proofs.Counts.{tally_set, tally_front, tally_end, tally_chain}
 use Rattle.dp_model.proofs.Owned.{times, more_owned, MayCome, allocated_direct, received_direct, direct_comes, clone_comes}
-use Rattle.dp_model.proofs.OwnedSteps.{HasOwners, acts_owned, more_by}
-use Rattle.dp_model.specs.Laws.StepsWithin.{inside_set, changes_within, lies_allocated, lies_cloned, stored_within, acts_within}
+use Rattle.dp_model.proofs.OwnedSteps.{HasOwners, effect_owned, more_by}
+use Rattle.dp_model.specs.Laws.StepsWithin.{inside_set, changes_within, lies_allocated, lies_cloned, stored_within, effect_within}
 use Rattle.dp_model.specs.Laws.Places.{IsInside, inside_held, lies_received, needed_holds}
 
 -- ---- references of every buffer
@@ -91,14 +90,13 @@ to_state s well = (subst (IsWithin s.pools s.buffers) (sym (live_of s)) well.wit
 of_state : (s : Store) → IsInside (setting_of s.pools) (state_of s) → HasOwners (setting_of s.pools) (state_of s) → IsWellFormedStore s
 of_state s inside owned = record { within = subst (IsWithin s.pools s.buffers) (live_of s) inside; owned = subst (AreOwned s.pools) (live_of s) owned }
 
--- what an instruction does
-acted : (s : Store) (i : Instr) (s' : Store) → s'.pools ≡ s.pools → IsWellFormedStore s →
-    Acts (setting_of s.pools) 0 (state_of s) i (goes_on 0 (state_of s')) → IsWellFormedStore s'
-acted s i s' same well acts =
+-- what an instruction may do
+acted : (s s' : Store) → s'.pools ≡ s.pools → IsWellFormedStore s → Effect (setting_of s.pools) (state_of s) (goes_on 0 (state_of s')) → IsWellFormedStore s'
+acted s s' same well effect =
     let (inside, owned) = to_state s well in
     of_state s'
-    (subst (λ p. IsInside (setting_of p) (state_of s')) (sym same) (acts_within (setting_of s.pools) 0 (state_of s) i (goes_on 0 (state_of s')) inside acts))
-    (subst (λ p. HasOwners (setting_of p) (state_of s')) (sym same) (acts_owned (setting_of s.pools) 0 (state_of s) i (goes_on 0 (state_of s')) owned acts))
+    (subst (λ p. IsInside (setting_of p) (state_of s')) (sym same) (effect_within (setting_of s.pools) (state_of s) (goes_on 0 (state_of s')) inside effect))
+    (subst (λ p. HasOwners (setting_of p) (state_of s')) (sym same) (effect_owned (setting_of s.pools) (state_of s) (goes_on 0 (state_of s')) owned effect))
 
 head_sole_of : (s : Store) (k : Packet) → IsHeadSole (segments_of s) k → IsHeadSole (live (state_of s)) k
 head_sole_of s k sole = subst (λ l. IsHeadSole l k) (sym (live_of s)) sole
@@ -109,49 +107,39 @@ tail_sole_of s k sole = subst (λ l. IsTailSole l k) (sym (live_of s)) sole
 -- ---- each call leaves the layer well formed
 
 pub free_well : (s : Store) (h : ℕ) (k : Packet) → IsWellFormedStore s → Has s h k → IsWellFormedStore (with_slot h None s)
-free_well s h k well has = acted s (Free h) (with_slot h None s) refl well (k, has, refl)
+free_well s h k well has = acted s (with_slot h None s) refl well (Freed h k has refl refl)
 
 pub prepend_well : (s s' : Store) (h n : ℕ) (k : Packet) → IsWellFormedStore s → Has s h k → n ≤ headroom k → IsHeadSole (segments_of s) k →
     Becomes s s' h (at_front (more_before n)) (zeroed_before n) → IsWellFormedStore s'
 prepend_well s s' h n k well has le sole becomes =
     subst IsWellFormedStore (sym (becomes k has))
-    (acted s (Prepend h n) (record s { buffers = zeroed_before n k s.buffers; slots = slice_set s.slots h (Some (at_front (more_before n) k)) }) refl well (
-      k,
-      has,
-      le,
-      head_sole_of s k sole,
-      refl,
-    ))
+    (acted s (record s { buffers = zeroed_before n k s.buffers; slots = slice_set s.slots h (Some (at_front (more_before n) k)) }) refl well
+    (Prepended h n k has le (head_sole_of s k sole) refl refl))
 
 pub adj_well : (s s' : Store) (h n : ℕ) (k : Packet) → IsWellFormedStore s → Has s h k → n ≤ first_len k →
     Becomes s s' h (at_front (less_before n)) unwritten → IsWellFormedStore s'
 adj_well s s' h n k well has le becomes =
     subst IsWellFormedStore (sym (becomes k has))
-    (acted s (Adj h n) (record s { slots = slice_set s.slots h (Some (at_front (less_before n) k)) }) refl well (k, has, le, refl))
+    (acted s (record s { slots = slice_set s.slots h (Some (at_front (less_before n) k)) }) refl well (Adjusted h n k has le refl refl))
 
 pub append_well : (s s' : Store) (h n : ℕ) (k : Packet) → IsWellFormedStore s → Has s h k → n ≤ tailroom s.pools k → IsTailSole (segments_of s) k →
     Becomes s s' h (at_end (more_behind n)) (zeroed_behind n) → IsWellFormedStore s'
 append_well s s' h n k well has le sole becomes =
     subst IsWellFormedStore (sym (becomes k has))
-    (acted s (Append h n) (record s { buffers = zeroed_behind n k s.buffers; slots = slice_set s.slots h (Some (at_end (more_behind n) k)) }) refl well (
-      k,
-      has,
-      le,
-      tail_sole_of s k sole,
-      refl,
-    ))
+    (acted s (record s { buffers = zeroed_behind n k s.buffers; slots = slice_set s.slots h (Some (at_end (more_behind n) k)) }) refl well
+    (Appended h n k has le (tail_sole_of s k sole) refl refl))
 
 pub trim_well : (s s' : Store) (h n : ℕ) (k : Packet) → IsWellFormedStore s → Has s h k → n ≤ last_len k → Becomes s s' h (at_end (less_behind n)) unwritten →
     IsWellFormedStore s'
 trim_well s s' h n k well has le becomes =
     subst IsWellFormedStore (sym (becomes k has))
-    (acted s (Trim h n) (record s { slots = slice_set s.slots h (Some (at_end (less_behind n) k)) }) refl well (k, has, le, refl))
+    (acted s (record s { slots = slice_set s.slots h (Some (at_end (less_behind n) k)) }) refl well (Trimmed h n k has le refl refl))
 
 pub chain_well : (s s' : Store) (h t : ℕ) (k tail : Packet) → IsWellFormedStore s → h ≢ t → Has s h k → Has s t tail → length k + length tail ≤ 64 →
     Chains s h t s' → IsWellFormedStore s'
 chain_well s s' h t k tail well apart hk ht few chains =
     subst IsWellFormedStore (sym (chains k hk tail ht))
-    (acted s (Chain h t) (record s { slots = slice_set (slice_set s.slots h (Some (k ++ tail))) t None }) refl well (k, tail, hk, ht, apart, few, refl))
+    (acted s (record s { slots = slice_set (slice_set s.slots h (Some (k ++ tail))) t None }) refl well (Chained h t k tail hk ht apart few refl refl))
 
 -- a store writes within the first segment
 pub store_well : (s s' : Store) (h offset w n : ℕ) (k : Packet) → IsWellFormedStore s → Has s h k → offset + w ≤ first_len k →

@@ -1,5 +1,5 @@
--- Internal: what an instruction may do to a machine: one of fourteen effects. Who wants what all instructions keep goes through these.
-use Rattle.std.proofs.Common.{◌≡◌, ℕ, ◌+◌, ◌≤◌, ◌≢◌, Bool, true, false, cond, List, [], ◌∷◌, ◌++◌, length, Some, ap}
+-- Internal: what an instruction may do to a machine, one of fourteen effects, and where it leads. Who wants what all instructions keep goes through these.
+use Rattle.std.proofs.Common.{◌≡◌, ◌⊎◌, ℕ, ◌+◌, ◌≤◌, ◌≢◌, Bool, true, false, cond, List, [], ◌∷◌, ◌++◌, length, Some, refl, sym, subst, inl, inr}
 use Rattle.std.specs.Prelude.{slice_get, slice_index, nat_lt}
 use Rattle.dp_model.specs.declared.instr.Instr.{Instr}
 use Rattle.dp_model.specs.declared.instr.Instr.TheVariants.{Alloc, Free, Clone, Prepend, Adj, Append, Trim, Chain, IfHead, IfTail, IfLen, IfLast, Load, Store}
@@ -8,10 +8,12 @@ use Rattle.dp_model.specs.Arithmetic.{bytes_in}
 use Rattle.dp_model.specs.Buffers.{Number, Buffers, ChangesOnly}
 use Rattle.dp_model.specs.Packets.{Packet, headroom, tailroom, first_len, last_len, AreFresh, IsHeadSole, IsTailSole, allocated, cloned, at_front, at_end}
 use Rattle.dp_model.specs.Packets.{more_before, less_before, more_behind, less_behind, zeroed_before, zeroed_behind, stored}
-use Rattle.dp_model.specs.Machine.{Setting, State, live, Move, Acts, Holds, IsEmpty, branches, goes_on, moves_to, is_denied, with_call, with_packet}
-use Rattle.dp_model.specs.Machine.{without_packet, with_buffers, with_ring, with_outbox}
+use Rattle.dp_model.specs.Jumps.{label_of}
+use Rattle.dp_model.specs.Machine.{Setting, State, live, Next, At, Ended, Move, Acts, Holds, IsEmpty, branches, goes_on, moves_to, is_denied}
+use Rattle.dp_model.specs.Machine.{with_call, with_packet, without_packet, with_buffers, with_ring, with_outbox}
 use Rattle.dp_model.specs.Limits.{most_segments}
 use Rattle.dp_model.specs.Laws.Cases.{matched}
+use Rattle.dp_model.specs.Laws.Calculations.{calculated_next}
 
 -- what an instruction did to a state, with what stood there before
 pub data Effect (c : Setting) (s : State) (m : Move) : Type 0 where
@@ -39,53 +41,61 @@ pub data Effect (c : Setting) (s : State) (m : Move) : Type 0 where
   Queued : (p ring : ℕ) (k : Packet) (packets : List Packet) → Holds s p k → slice_get s.world.rings ring ≡ Some packets →
       m.state ≡ with_ring ring (packets ++ k ∷ []) (without_packet p s) → m.answers ≡ [] → Effect c s m
 
-abbrev state_of_move : Move → State
-state_of_move m = m.state
+-- where a move leads: to the next label, to the one that the instruction names, or nowhere
+abbrev pub LeadsOn : ℕ → Instr → Next → Type 0
+LeadsOn label i (At to) = (to ≡ label + 1) ⊎ (label_of i ≡ Some to)
+LeadsOn label i Ended = Unit {0}
 
-abbrev answers_of : Move → List Bool
-answers_of m = m.answers
+-- what an instruction did, and where it leads
+pub record Did (c : Setting) (label : ℕ) (s : State) (i : Instr) (m : Move) : Type 0 where
+  pub effect : Effect c s m
+  pub leads : LeadsOn label i m.next
 
-module _ (c : Setting) (s : State) (m : Move) where
+module _ (c : Setting) (label : ℕ) (s : State) (i : Instr) (m : Move) where
+  did : (m' : Move) → m ≡ m' → Effect c s m' → LeadsOn label i m'.next → Did c label s i m
+  did m' is effect leads = subst (Did c label s i) (sym is) (record { effect = effect; leads = leads })
+
   -- a test leaves all as it is, wherever it leads
-  tested : (b : Bool) (label l : ℕ) → m ≡ branches b label l s → Effect c s m
-  tested true label l is = Kept (ap state_of_move is) (ap answers_of is)
-  tested false label l is = Kept (ap state_of_move is) (ap answers_of is)
+  tested : (b : Bool) (l : ℕ) → label_of i ≡ Some l → m ≡ branches b label l s → Did c label s i m
+  tested true l names is = did _ is (Kept refl refl) (inr names)
+  tested false l names is = did _ is (Kept refl refl) (inl refl)
 
   -- a packet leaves, or stays where the list is full
-  left : (b : Bool) (label l : ℕ) (s' : State) → m ≡ cond b (goes_on label s') (moves_to l s) → (m.state ≡ s' → m.answers ≡ [] → Effect c s m) → Effect c s m
-  left true label l s' is f = f (ap state_of_move is) (ap answers_of is)
-  left false label l s' is f = Kept (ap state_of_move is) (ap answers_of is)
-
-  counted : (numbers : List ℕ) (label : ℕ) → m ≡ moves_to label (record s { numbers = numbers }) → Effect c s m
-  counted numbers label is = Calculated numbers (ap state_of_move is) (ap answers_of is)
+  left : (b : Bool) (l : ℕ) (s' : State) → label_of i ≡ Some l → m ≡ cond b (goes_on label s') (moves_to l s) → Effect c s (goes_on label s') →
+      Did c label s i m
+  left true l s' names is effect = did _ is effect (inl refl)
+  left false l s' names is effect = did _ is (Kept refl refl) (inr names)
 
 -- each instruction has one of them
+pub did_of : (c : Setting) (label : ℕ) (s : State) (i : Instr) (m : Move) → Acts c label s i m → Did c label s i m
+did_of c label s (Alloc p pool l) m (empty, there, call) = matched (is_denied c s pool 1) _ _ call
+    (λ is. did c label s (Alloc p pool l) m _ is (Refused refl refl) (inr refl))
+    (λ (ns, buffers, fresh, changes, is). did c label s (Alloc p pool l) m _ is (Allocated p pool ns buffers empty fresh changes refl refl) (inl refl))
+did_of c label s (Clone p q pool l) m (k, holds, empty, there, call) = matched (is_denied c s pool (length k)) _ _ call
+    (λ is. did c label s (Clone p q pool l) m _ is (Refused refl refl) (inr refl))
+    (λ (ns, fresh, is). did c label s (Clone p q pool l) m _ is (Cloned p q pool k ns holds empty fresh refl refl) (inl refl))
+did_of c label s (Free p) m (k, holds, is) = did c label s (Free p) m _ is (Freed p k holds refl refl) (inl refl)
+did_of c label s (Prepend p n) m (k, holds, le, sole, is) = did c label s (Prepend p n) m _ is (Prepended p n k holds le sole refl refl) (inl refl)
+did_of c label s (Append p n) m (k, holds, le, sole, is) = did c label s (Append p n) m _ is (Appended p n k holds le sole refl refl) (inl refl)
+did_of c label s (Adj p n) m (k, holds, le, is) = did c label s (Adj p n) m _ is (Adjusted p n k holds le refl refl) (inl refl)
+did_of c label s (Trim p n) m (k, holds, le, is) = did c label s (Trim p n) m _ is (Trimmed p n k holds le refl refl) (inl refl)
+did_of c label s (Chain p q) m (k, t, hk, ht, apart, few, is) = did c label s (Chain p q) m _ is (Chained p q k t hk ht apart few refl refl) (inl refl)
+did_of c label s (IfHead p n l) m (k, holds, is) = tested c label s (IfHead p n l) m (nat_lt (headroom k) n) l refl is
+did_of c label s (IfTail p n l) m (k, holds, is) = tested c label s (IfTail p n l) m (nat_lt (tailroom c.env.pools k) n) l refl is
+did_of c label s (IfLen p n l) m (k, holds, is) = tested c label s (IfLen p n l) m (nat_lt (first_len k) n) l refl is
+did_of c label s (IfLast p n l) m (k, holds, is) = tested c label s (IfLast p n l) m (nat_lt (last_len k) n) l refl is
+did_of c label s (Load r p off w) m (k, holds, le, is) = did c label s (Load r p off w) m _ is (Calculated _ refl refl) (inl refl)
+did_of c label s (LoadX r p x off w) m (k, holds, le, is) = did c label s (LoadX r p x off w) m _ is (Calculated _ refl refl) (inl refl)
+did_of c label s (Store p off w r) m (k, holds, le, sole, is) =
+    did c label s (Store p off w r) m _ is (Stored p off (bytes_in w) (slice_index s.numbers r) k holds le sole refl refl) (inl refl)
+did_of c label s (StoreX p x off w r) m (k, holds, le, sole, is) = did c label s (StoreX p x off w r) m _ is
+    (Stored p (slice_index s.numbers x + off) (bytes_in w) (slice_index s.numbers r) k holds le sole refl refl) (inl refl)
+did_of c label s (Tx p r l) m (k, port, packets, holds, is_port, there, is) =
+    left c label s (Tx p r l) m (nat_lt (length packets + 1) port.queue) l _ refl is (Sent p (slice_index s.numbers r) k packets holds there refl refl)
+did_of c label s (Enq p ring l) m (k, spec, packets, holds, is_ring, there, is) =
+    left c label s (Enq p ring l) m (nat_lt (length packets + 1) spec.count) l _ refl is (Queued p ring k packets holds there refl refl)
+did_of c label s Exit m (gone, is) = did c label s Exit m _ is (Kept refl refl) tt
+did_of c label s i m acts = did c label s i m _ acts.2 (Calculated acts.0.1 refl refl) (calculated_next i c.tables label s.numbers acts.0 acts.1)
+
 pub effect_of : (c : Setting) (label : ℕ) (s : State) (i : Instr) (m : Move) → Acts c label s i m → Effect c s m
-effect_of c label s (Alloc p pool l) m (empty, there, call) = matched (is_denied c s pool 1) _ _ call
-    (λ is. Refused (ap state_of_move is) (ap answers_of is))
-    (λ (ns, buffers, fresh, changes, is). Allocated p pool ns buffers empty fresh changes (ap state_of_move is) (ap answers_of is))
-effect_of c label s (Clone p q pool l) m (k, holds, empty, there, call) = matched (is_denied c s pool (length k)) _ _ call
-    (λ is. Refused (ap state_of_move is) (ap answers_of is))
-    (λ (ns, fresh, is). Cloned p q pool k ns holds empty fresh (ap state_of_move is) (ap answers_of is))
-effect_of c label s (Free p) m (k, holds, is) = Freed p k holds (ap state_of_move is) (ap answers_of is)
-effect_of c label s (Prepend p n) m (k, holds, le, sole, is) = Prepended p n k holds le sole (ap state_of_move is) (ap answers_of is)
-effect_of c label s (Append p n) m (k, holds, le, sole, is) = Appended p n k holds le sole (ap state_of_move is) (ap answers_of is)
-effect_of c label s (Adj p n) m (k, holds, le, is) = Adjusted p n k holds le (ap state_of_move is) (ap answers_of is)
-effect_of c label s (Trim p n) m (k, holds, le, is) = Trimmed p n k holds le (ap state_of_move is) (ap answers_of is)
-effect_of c label s (Chain p q) m (k, t, hk, ht, apart, few, is) = Chained p q k t hk ht apart few (ap state_of_move is) (ap answers_of is)
-effect_of c label s (IfHead p n l) m (k, holds, is) = tested c s m (nat_lt (headroom k) n) label l is
-effect_of c label s (IfTail p n l) m (k, holds, is) = tested c s m (nat_lt (tailroom c.env.pools k) n) label l is
-effect_of c label s (IfLen p n l) m (k, holds, is) = tested c s m (nat_lt (first_len k) n) label l is
-effect_of c label s (IfLast p n l) m (k, holds, is) = tested c s m (nat_lt (last_len k) n) label l is
-effect_of c label s (Load r p off w) m (k, holds, le, is) = counted c s m _ (label + 1) is
-effect_of c label s (LoadX r p x off w) m (k, holds, le, is) = counted c s m _ (label + 1) is
-effect_of c label s (Store p off w r) m (k, holds, le, sole, is) =
-    Stored p off (bytes_in w) (slice_index s.numbers r) k holds le sole (ap state_of_move is) (ap answers_of is)
-effect_of c label s (StoreX p x off w r) m (k, holds, le, sole, is) =
-    Stored p (slice_index s.numbers x + off) (bytes_in w) (slice_index s.numbers r) k holds le sole (ap state_of_move is) (ap answers_of is)
-effect_of c label s (Tx p r l) m (k, port, packets, holds, is_port, there, is) =
-    left c s m (nat_lt (length packets + 1) port.queue) label l _ is (Sent p (slice_index s.numbers r) k packets holds there)
-effect_of c label s (Enq p ring l) m (k, spec, packets, holds, is_ring, there, is) =
-    left c s m (nat_lt (length packets + 1) spec.count) label l _ is (Queued p ring k packets holds there)
-effect_of c label s Exit m (gone, is) = Kept (ap state_of_move is) (ap answers_of is)
-effect_of c label s i m acts = counted c s m acts.0.1 acts.0.0 acts.2
+effect_of c label s i m acts = (did_of c label s i m acts).effect

@@ -1,6 +1,7 @@
 -- Each clause is a lemma.
 use Rattle.std.proofs.Common.{arith}
-use Rattle.dp_model.proofs.Numbers.{ones_are, ones_enough, ones_least, spelled_low, stored_loaded}
+use Rattle.dp_model.proofs.Numbers.{ones_least, spelled_low, stored_loaded}
+use Rattle.dp_model.specs.Laws.Calculations.{ones_are, ones_enough}
 use Rattle.dp_model.proofs.words.numbers_are_as_called.Goals as goal
 
 pub returns : goal.returns
