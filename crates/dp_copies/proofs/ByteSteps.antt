@@ -1,31 +1,30 @@
 -- The steps that load and store bytes.
 use Rattle.std.proofs.Common.{◌≡◌, ℕ, ◌+◌, ◌<◌, ◌≤◌, Bool, List, [], ◌∷◌, length, Some, refl, ◌∙◌, ap, arith}
-use Rattle.std.specs.Prelude.{slice_set, slice_range, slice_index, nat_le}
+use Rattle.std.specs.Prelude.{slice_set, slice_range, nat_le}
 use Rattle.std.proofs.lemmas.Bool.{le-leb}
 use Rattle.dp_model.specs.Arithmetic.{big_endian, bytes_in, spelled}
 use Rattle.dp_model.specs.Packets.{Packet, first_len, IsHeadSole, stored, loaded, at_front}
-use Rattle.dp_model.specs.Machine.{State, live, Holds, with_buffers, At, Setting, Move, Acts, with_number}
+use Rattle.dp_model.specs.Machine.{State, live, Holds, with_buffers, At, Setting, with_number}
 use Rattle.dp_model.specs.CopyMachine.{with_stored, copy_on, first_piece, provided, copy_loads, copy_stores}
 use Rattle.dp_model.specs.Copies.{copy_of}
 use Rattle.dp_model.specs.declared.registers.Width.{Width}
 use Rattle.dp_model.specs.declared.registers.Width.TheVariants.{One, Two, Four, Eight}
-use Rattle.dp_model.specs.declared.instr.Instr.TheVariants.{Load, Store, LoadX, StoreX}
 use Rattle.dp_model.specs.Laws.Places.{IsInside}
 use Rattle.dp_copies.proofs.States.{copied}
 use Rattle.dp_copies.proofs.Lengths.{first_length, there}
 use Rattle.dp_copies.proofs.Stores.{store_copies}
-use Rattle.dp_copies.proofs.Moves.{Does, by, held_step}
+use Rattle.dp_copies.proofs.Moves.{held_step}
 use Rattle.dp_copies.proofs.EditSteps.{edits_step}
 
 -- a width is at least a byte
-some_bytes : (w : Width) → 0 < bytes_in w
+pub some_bytes : (w : Width) → 0 < bytes_in w
 some_bytes One = omega arith
 some_bytes Two = omega arith
 some_bytes Four = omega arith
 some_bytes Eight = omega arith
 
 -- the same bytes are loaded
-loads_step : (c : Setting) (st : State) (answers : List Bool) (p label offset w r : ℕ) (k : Packet) → IsInside c st → Holds st p k → 0 < w →
+pub loads_step : (c : Setting) (st : State) (answers : List Bool) (p label offset w r : ℕ) (k : Packet) → IsInside c st → Holds st p k → 0 < w →
     offset + w ≤ first_len k → copy_loads (copied c.env.pools st answers) p label offset w r
     ≡ Some (At (label + 1), copied c.env.pools (with_number r (loaded offset w k st.world.buffers) st) answers)
 loads_step c st answers p label offset w r k well holds some le =
@@ -46,7 +45,7 @@ loads_step c st answers p label offset w r k well holds some le =
     value (s ∷ rest) one = refl
 
 -- the same bytes are stored
-stores_step : (c : Setting) (st : State) (answers : List Bool) (p label offset w n : ℕ) (k : Packet) → IsInside c st → Holds st p k → 0 < w →
+pub stores_step : (c : Setting) (st : State) (answers : List Bool) (p label offset w n : ℕ) (k : Packet) → IsInside c st → Holds st p k → 0 < w →
     offset + w ≤ first_len k → IsHeadSole (live st) k → copy_stores (copied c.env.pools st answers) p label offset w n
     ≡ Some (At (label + 1), copied c.env.pools (with_buffers (stored offset w n k st.world.buffers) st) answers)
 stores_step c st answers p label offset w n k well holds some le sole =
@@ -54,25 +53,3 @@ stores_step c st answers p label offset w n k well holds some le sole =
     (at_front (with_stored offset (big_endian w n))) k holds
     (le-leb (offset + w) _ (omega (arith, le, first_length c.env.pools st.world.buffers k (there c st p k well holds))))
     (store_copies c.env.pools st p k offset w n answers holds some le sole well)
-
--- ---- each instruction
-
-pub load_step : (c : Setting) (label : ℕ) (s : State) (r p off : ℕ) (w : Width) (m : Move) (later : List Bool) → IsInside c s →
-    Acts c label s (Load r p off w) m → Does c label s (Load r p off w) later m
-load_step c label s r p off w m later well (k, holds, le, is) = by c label s (Load r p off w) later m _ is
-    (loads_step c s later p label off (bytes_in w) r k well holds (some_bytes w) le)
-
-pub load_x_step : (c : Setting) (label : ℕ) (s : State) (r p x off : ℕ) (w : Width) (m : Move) (later : List Bool) → IsInside c s →
-    Acts c label s (LoadX r p x off w) m → Does c label s (LoadX r p x off w) later m
-load_x_step c label s r p x off w m later well (k, holds, le, is) = by c label s (LoadX r p x off w) later m _ is
-    (loads_step c s later p label (slice_index s.numbers x + off) (bytes_in w) r k well holds (some_bytes w) le)
-
-pub store_step : (c : Setting) (label : ℕ) (s : State) (p off : ℕ) (w : Width) (r : ℕ) (m : Move) (later : List Bool) → IsInside c s →
-    Acts c label s (Store p off w r) m → Does c label s (Store p off w r) later m
-store_step c label s p off w r m later well (k, holds, le, sole, is) = by c label s (Store p off w r) later m _ is
-    (stores_step c s later p label off (bytes_in w) (slice_index s.numbers r) k well holds (some_bytes w) le sole)
-
-pub store_x_step : (c : Setting) (label : ℕ) (s : State) (p x off : ℕ) (w : Width) (r : ℕ) (m : Move) (later : List Bool) → IsInside c s →
-    Acts c label s (StoreX p x off w r) m → Does c label s (StoreX p x off w r) later m
-store_x_step c label s p x off w r m later well (k, holds, le, sole, is) = by c label s (StoreX p x off w r) later m _ is
-    (stores_step c s later p label (slice_index s.numbers x + off) (bytes_in w) (slice_index s.numbers r) k well holds (some_bytes w) le sole)
