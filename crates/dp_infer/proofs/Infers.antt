@@ -24,7 +24,7 @@ use Rattle.dp_infer.specs.declared.inferring.InferError.TheVariants.{Memory, NoC
 use Rattle.dp_infer.proofs.Stronger.{both_are}
 use Rattle.dp_infer.proofs.Changes.{AreWellFormed}
 use Rattle.dp_infer.proofs.PacketTests.{all_held_keeps}
-use Rattle.dp_infer.proofs.RulesKeep.{targets_keep, bytes_keep, share_keeps, segments_keep, leave_keeps, end_keeps}
+use Rattle.dp_infer.proofs.RowsAfter.{targets_keep, bytes_keep, share_keeps, segments_keep, leave_keeps, end_keeps}
 use Rattle.dp_infer.proofs.JoinLaws.{rows_join, joined_well_formed}
 use Rattle.dp_infer.proofs.RowLists.{all_at, all_set, set_here, passes_at, passes, fits_from}
 use Rattle.dp_infer.proofs.Reach.{Fit, fit_set}

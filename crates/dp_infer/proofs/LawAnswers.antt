@@ -13,9 +13,8 @@ use Rattle.dp_model.specs.Rows.{entails, leads, is_well_formed_row}
 use Rattle.dp_model.specs.Rules.{Question, targets_fit, holds_at, indices_exist, uses}
 use Rattle.dp_infer.specs.Laws.{LeadsEntail, HaveLeastRow}
 use Rattle.dp_infer.proofs.Stronger.{stronger, row_test, both_are}
-use Rattle.dp_infer.proofs.RowsAfter.{StrongerLead, leads_keep}
+use Rattle.dp_infer.proofs.RowsAfter.{StrongerLead, leads_keep, targets_keep, bytes_keep, share_keeps, segments_keep, leave_keeps, end_keeps, labels_keep}
 use Rattle.dp_infer.proofs.PacketTests.{all_held_keeps}
-use Rattle.dp_infer.proofs.RulesKeep.{targets_keep, bytes_keep, share_keeps, segments_keep, leave_keeps, end_keeps, labels_keep}
 use Rattle.dp_infer.proofs.JoinLaws.{rows_join}
 use Rattle.dp_infer.proofs.RowLists.{fits_from}
 use Rattle.dp_infer.proofs.Spread.{entailed_keeps}

@@ -1,12 +1,9 @@
 pub mod Stronger
 pub mod Registers
 pub mod Pairs
-pub mod Numbers
 pub mod Changes
-pub mod Forward
-pub mod RowsAfter
 pub mod PacketTests
-pub mod RulesKeep
+pub mod RowsAfter
 pub mod JoinLaws
 pub mod RowLists
 pub mod Reach

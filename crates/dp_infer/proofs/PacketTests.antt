@@ -1,17 +1,20 @@
 -- A test of a packet passes where more is known of it.
-use Rattle.std.proofs.Common.{◌≡◌, ℕ, zero, suc, ◌≤◌, Bool, true, false, List, [], ◌∷◌, Option, Some, None, refl, arith}
+use Rattle.std.proofs.Common.{◌≡◌, ℕ, zero, suc, ◌+◌, ◌≤◌, Bool, true, false, ◌&&◌, ◌||◌, ◌==◌, List, [], ◌∷◌, Option, Some, None, refl, arith, ⊎_elim}
 use Rattle.std.specs.Prelude.{nat_le, is_some, slice_get}
 use Rattle.std.specs.List.{AllZip, list_all}
 use Rattle.std.specs.Option.{option_map_or}
-use Rattle.std.proofs.lemmas.Bool.{leb-true, le-leb, and_parts}
+use Rattle.std.proofs.Math.Bool.{or-true}
+use Rattle.std.proofs.lemmas.Bool.{leb-true, le-leb, and_parts, eq-eqb, or_cases, eqb-true}
 use Rattle.dp_model.specs.declared.row.Fact.{Fact}
 use Rattle.dp_model.specs.declared.row.Fact.TheVariants.{Empty, Held}
 use Rattle.dp_model.specs.declared.row.Row.{Row}
+use Rattle.dp_model.specs.declared.registers.Operand.TheVariants.{Register}
 use Rattle.dp_model.specs.declared.row.Holding.{Holding}
-use Rattle.dp_model.specs.Rows.{held_at, is_empty}
+use Rattle.dp_model.specs.Rows.{holding, held_at, bound, is_empty, entails_option}
 use Rattle.dp_model.specs.Rules.{holds_with, is_held, is_empty_at}
-use Rattle.dp_infer.proofs.Stronger.{StrongerHolding, StrongerOption, StrongerFact, Stronger, both_are}
-use Rattle.dp_infer.proofs.Registers.{held_both}
+use Rattle.dp_infer.proofs.Sharing.{sole_more, owns_more}
+use Rattle.dp_infer.proofs.Stronger.{StrongerHolding, StrongerOption, StrongerFact, Stronger, both_are, stronger_option, option_test, option_further}
+use Rattle.dp_infer.proofs.Registers.{bound_at, held_both}
 use Rattle.dp_infer.proofs.Changes.{AreWellFormed, facts_fit, facts_segs}
 
 -- ---- tests of a packet
@@ -76,3 +79,40 @@ all_empty_keeps (f ∷ fs) (g ∷ gs) o e =
     both_are (empty_keeps f g o.0 here) (all_empty_keeps fs gs o.1 rest)
 all_empty_keeps [] (g ∷ gs) o e = absurd o
 all_empty_keeps (f ∷ fs) [] o e = absurd o
+
+-- ---- bytes, owners and rings
+
+-- at a place that is added to the offset
+pub from_keeps : (a b : Row) (p x off n : ℕ) → Stronger a b → AreWellFormed a
+    → holds_with b p (λ h. nat_le (bound b (Register x) + off + n) h.first) ≡ true → holds_with a p (λ h. nat_le (bound a (Register x) + off + n) h.first)
+    ≡ true
+from_keeps a b p x off n s fits e =
+    holds_keeps a b p (λ h. nat_le (bound a (Register x) + off + n) h.first) (λ h. nat_le (bound b (Register x) + off + n) h.first) s fits
+    (λ h k some m t. le-leb (bound a (Register x) + off + n) h.first (omega (
+      arith,
+      bound_at a b (Register x) s,
+      m.first,
+      leb-true (bound b (Register x) + off + n) k.first t,
+    ))) e
+
+-- the last buffer is the packet's own
+pub append_test : (h k : Holding) → 1 ≤ h.segs → StrongerHolding h k → ((k.share == 2) || ((k.share == 1) && (k.segs == 1))) ≡ true →
+    ((h.share == 2) || ((h.share == 1) && (h.segs == 1))) ≡ true
+append_test h k some m e = ⊎_elim
+    (λ two. rw (eq-eqb h.share 2 (sole_more h.share k.share m.share (eqb-true k.share 2 two))) refl)
+    (λ one.
+    let (first, single) = and_parts (k.share == 1) (k.segs == 1) one in
+    let same : h.segs ≡ 1 = omega (arith, m.segs, some, eqb-true k.segs 1 single) in
+    ⊎_elim
+    (λ is. let here : (h.share == 1) ≡ true = is in rw (here, eq-eqb h.segs 1 same) (or-true (h.share == 2)))
+    (λ is. rw is refl)
+    (or_cases (h.share == 1) (h.share == 2) (owns_more h.share k.share m.share (rw first refl))))
+    (or_cases (k.share == 2) ((k.share == 1) && (k.segs == 1)) e)
+
+pub ring_keeps : (a b : Row) (p : ℕ) (declared : Option Fact) → Stronger a b
+    → option_map_or (λ fact. entails_option (held_at b p) (holding fact)) declared false ≡ true →
+    option_map_or (λ fact. entails_option (held_at a p) (holding fact)) declared false ≡ true
+ring_keeps a b p None s e = e
+ring_keeps a b p (Some fact) s e =
+    option_test (held_at a p) (holding fact) (option_further (held_at a p) (held_at b p) (holding fact) (held_both a b p s)
+    (stronger_option (held_at b p) (holding fact) e))

@@ -1,159 +1,237 @@
--- Rows after keep entailment: a row that says all that another does leads to rows that say all that the other's do.
-use Rattle.std.proofs.Common.{◌≡◌, true, ℕ, ◌+◌, ◌-◌, ◌*◌, ◌^◌, ◌≤◌, min, max, refl, arith}
-use Rattle.std.specs.List.{AllZip}
+-- What an instruction asks of a row and where it leads: a row that says all that another does is asked no more, and leads to rows that say as much.
+use Rattle.std.proofs.Common.{◌≡◌, true, Bool, ℕ, suc, ◌+◌, ◌-◌, ◌*◌, ◌^◌, ◌<◌, ◌≤◌, ◌||◌, ◌&&◌, ◌==◌, max, List, [], ◌∷◌, length, Some, refl, ◌∙◌, ap, arith}
+use Rattle.std.specs.Prelude.{nat_le, nat_lt}
+use Rattle.std.specs.List.{AllZip, list_all}
+use Rattle.std.proofs.lemmas.Bool.{lt-ltb, and_parts}
 use Rattle.dp_model.specs.declared.row.Row.{Row}
 use Rattle.dp_model.specs.declared.row.Lead.{Lead}
 use Rattle.dp_model.specs.declared.registers.Operand.TheVariants.{Register}
 use Rattle.dp_model.specs.declared.instr.Instr.{Instr}
 use Rattle.dp_model.specs.declared.instr.Instr.TheVariants.{Alloc, Free, Clone, Prepend, Adj, Append, Trim, Chain, IfHead, IfTail, IfLen, IfLast, Load, Store}
-use Rattle.dp_model.specs.declared.instr.Instr.TheVariants.{LoadX, StoreX, Set, Mov, Add, Sub, And, Or, Xor, Shl, Shr, Jmp, Jeq, Jlt, Lookup, Tx, Enq, Exit}
-use Rattle.dp_model.specs.Arithmetic.{greatest, bytes_in}
+use Rattle.dp_model.specs.declared.instr.Instr.TheVariants.{LoadX, StoreX, Tx, Enq, Exit}
+use Rattle.dp_model.specs.Arithmetic.{bytes_in}
 use Rattle.dp_model.specs.Environments.{Environment, room_at}
 use Rattle.dp_model.specs.declared.row.Holding.{Holding}
+use Rattle.dp_model.specs.Jumps.{label_of}
 use Rattle.dp_model.specs.Rows.{holding, bound, with_fact, with_bound, changed, after_clone, after_prepend, after_adj, after_append, after_trim}
-use Rattle.dp_model.specs.Rows.{after_alloc, onward, fork, leads, after_free, after_leave, after_chained}
-use Rattle.dp_infer.proofs.Stronger.{StrongerHolding, Stronger, holding_same}
-use Rattle.dp_infer.proofs.Registers.{bound_at, bound_set, fact_set}
-use Rattle.dp_infer.proofs.Numbers.{all_ones_more, shifted_more, times_more}
-use Rattle.dp_infer.proofs.Changes.{AreWellFormed, changed_keeps, single_more, clone_keeps, free_keeps, leave_keeps', chain_keeps}
-use Rattle.dp_infer.proofs.Sharing.{keeps_out}
+use Rattle.dp_model.specs.Rows.{after_alloc, onward, fork, leads, after_free, after_leave, after_chained, fact_of_ring, owns_head}
+use Rattle.dp_model.specs.Rules.{holds_with, targets_fit, bytes_fit, share_fits, segments_fit, may_leave, may_end}
+use Rattle.dp_model.specs.Laws.Calculations.{Calculation, Sets, Jumps, Goes, Finds, Handles_packets, calculates, calculation_of}
 use Rattle.dp_model.specs.Laws.Groups.{sole_no_group}
-use Rattle.dp_model.specs.Rules.{targets_fit}
+use Rattle.dp_infer.proofs.Stronger.{StrongerHolding, Stronger, holding_same, both_are}
+use Rattle.dp_infer.proofs.Registers.{bound_at, bound_set, fact_set}
+use Rattle.dp_infer.proofs.Changes.{AreWellFormed, changed_keeps, single_more, clone_keeps, free_keeps, leave_keeps', chain_keeps}
+use Rattle.dp_infer.proofs.Sharing.{keeps_out, owns_more}
+use Rattle.dp_infer.proofs.PacketTests.{holds_keeps, le_keeps, below_keeps, empty_at_keeps, all_empty_keeps, from_keeps, append_test, ring_keeps}
+
+-- ---- what the rules ask
+
+pub targets_keep : (a b : Row) (i : Instr) → Stronger a b → targets_fit b i ≡ true → targets_fit a i ≡ true
+targets_keep a b (Alloc p pool l) s e = empty_at_keeps a b p s e
+targets_keep a b (Clone p q pool l) s e = empty_at_keeps a b p s e
+targets_keep a b (Chain p q) s e = e
+targets_keep a b _ s e = refl
+
+pub bytes_keep : (a b : Row) (i : Instr) → Stronger a b → AreWellFormed a → bytes_fit b i ≡ true → bytes_fit a i ≡ true
+bytes_keep a b (Prepend p n) s fits e = holds_keeps a b p (λ h. nat_le n h.head) (λ h. nat_le n h.head) s fits
+    (λ h k some m t. le_keeps n h.head k.head m.head t) e
+bytes_keep a b (Adj p n) s fits e = holds_keeps a b p (λ h. nat_le n h.first) (λ h. nat_le n h.first) s fits
+    (λ h k some m t. le_keeps n h.first k.first m.first t) e
+bytes_keep a b (Append p n) s fits e = holds_keeps a b p (λ h. nat_le n h.tail) (λ h. nat_le n h.tail) s fits
+    (λ h k some m t. le_keeps n h.tail k.tail m.tail t) e
+bytes_keep a b (Trim p n) s fits e = holds_keeps a b p (λ h. nat_le n h.last) (λ h. nat_le n h.last) s fits
+    (λ h k some m t. le_keeps n h.last k.last m.last t) e
+bytes_keep a b (Load r p off w) s fits e =
+    holds_keeps a b p (λ h. nat_le (off + bytes_in w) h.first) (λ h. nat_le (off + bytes_in w) h.first) s fits
+    (λ h k some m t. le_keeps (off + bytes_in w) h.first k.first m.first t) e
+bytes_keep a b (Store p off w r) s fits e =
+    holds_keeps a b p (λ h. nat_le (off + bytes_in w) h.first) (λ h. nat_le (off + bytes_in w) h.first) s fits
+    (λ h k some m t. le_keeps (off + bytes_in w) h.first k.first m.first t) e
+bytes_keep a b (LoadX r p x off w) s fits e = from_keeps a b p x off (bytes_in w) s fits e
+bytes_keep a b (StoreX p x off w r) s fits e = from_keeps a b p x off (bytes_in w) s fits e
+bytes_keep a b _ s fits e = refl
+
+pub share_keeps : (a b : Row) (i : Instr) → Stronger a b → AreWellFormed a → share_fits b i ≡ true → share_fits a i ≡ true
+share_keeps a b (Prepend p n) s fits e = holds_keeps a b p (λ h. owns_head h.share) (λ h. owns_head h.share) s fits
+    (λ h k some m t. owns_more h.share k.share m.share t) e
+share_keeps a b (Store p off w r) s fits e = holds_keeps a b p (λ h. owns_head h.share) (λ h. owns_head h.share) s fits
+    (λ h k some m t. owns_more h.share k.share m.share t) e
+share_keeps a b (StoreX p x off w r) s fits e = holds_keeps a b p (λ h. owns_head h.share) (λ h. owns_head h.share) s fits
+    (λ h k some m t. owns_more h.share k.share m.share t) e
+share_keeps a b (Append p n) s fits e =
+    holds_keeps a b p (λ h. (h.share == 2) || ((h.share == 1) && (h.segs == 1))) (λ h. (h.share == 2) || ((h.share == 1) && (h.segs == 1))) s fits append_test e
+share_keeps a b _ s fits e = refl
+
+pub segments_keep : (a b : Row) (i : Instr) → Stronger a b → AreWellFormed a → segments_fit b i ≡ true → segments_fit a i ≡ true
+segments_keep a b (Chain p q) s fits e =
+    holds_keeps a b p (λ h. holds_with a q (λ t. nat_le (h.segs + t.segs) 64)) (λ h. holds_with b q (λ t. nat_le (h.segs + t.segs) 64)) s fits
+    (λ h k some m t. holds_keeps a b q (λ u. nat_le (h.segs + u.segs) 64) (λ u. nat_le (k.segs + u.segs) 64) s fits
+    (λ u v more o r. below_keeps (h.segs + u.segs) (k.segs + v.segs) 64 (omega (arith, m.segs, o.segs)) r) t) e
+segments_keep a b _ s fits e = refl
+
+pub leave_keeps : (env : Environment) (a b : Row) (i : Instr) → Stronger a b → may_leave env b i ≡ true → may_leave env a i ≡ true
+leave_keeps env a b (Tx p r l) s e =
+    below_keeps (suc (bound a (Register r))) (suc (bound b (Register r))) (length env.ports) (omega (arith, bound_at a b (Register r) s)) e
+leave_keeps env a b (Enq p ring l) s e = ring_keeps a b p (fact_of_ring env.rings ring) s e
+leave_keeps env a b _ s e = refl
+
+pub end_keeps : (a b : Row) (i : Instr) → Stronger a b → may_end b i ≡ true → may_end a i ≡ true
+end_keeps a b Exit s e = all_empty_keeps a.facts b.facts s.facts e
+end_keeps a b _ s e = refl
+
+-- ---- where an instruction leads
 
 -- to the same label, with a row that says all that the other does
 abbrev pub StrongerLead : Lead → Lead → Type 0
 StrongerLead x y = (x.to ≡ y.to) × Stronger x.row y.row
 
-onward_keeps : (label : ℕ) (a b : Row) → Stronger a b → AllZip StrongerLead (onward label a) (onward label b)
-onward_keeps label a b s = ((refl, s), tt)
+-- what is known after an instruction keeps entailment; the target of `clone` is empty
+abbrev Keeps : Instr → (Row → Row) → Type 0
+Keeps i after = (a b : Row) → Stronger a b → AreWellFormed a → AreWellFormed b → targets_fit b i ≡ true → Stronger (after a) (after b)
 
-fork_keeps : (label l : ℕ) (a b a' b' : Row) → Stronger a b → Stronger a' b' → AllZip StrongerLead (fork label a l a') (fork label b l b')
-fork_keeps label l a b a' b' s t = ((refl, s), ((refl, t), tt))
+-- on, on or to the label that is named, to that label, or nowhere
+data Leading (env : Environment) (label : ℕ) (i : Instr) : Type 0 where
+  On : (after : Row → Row) → ((row : Row) → leads env label row i ≡ onward label (after row)) → Keeps i after → Leading env label i
+  Forks : (l : ℕ) (after at_l : Row → Row) → label_of i ≡ Some l → ((row : Row) → leads env label row i ≡ fork label (after row) l (at_l row)) →
+      Keeps i after → Keeps i at_l → Leading env label i
+  To : (l : ℕ) → label_of i ≡ Some l → ((row : Row) → leads env label row i ≡ record { to = l; row = row } ∷ []) → Leading env label i
+  Ends : ((row : Row) → leads env label row i ≡ []) → Leading env label i
 
--- a bound of the register that follows from the bounds
-bound_keeps : (label : ℕ) (a b : Row) (r m n : ℕ) → Stronger a b → m ≤ n →
-    AllZip StrongerLead (onward label (with_bound a r m)) (onward label (with_bound b r n))
-bound_keeps label a b r m n s le = onward_keeps label (with_bound a r m) (with_bound b r n) (bound_set a b r m n s le)
-
--- a least number that was tested
-least_keeps : (label l : ℕ) (a b : Row) (p : ℕ) (f : Holding → Holding) → Stronger a b → AreWellFormed a
-    → ((h k : Holding) → 1 ≤ h.segs → StrongerHolding h k → StrongerHolding (f h) (f k)) → ((h : Holding) → (f h).share ≡ h.share)
-    → AllZip StrongerLead (fork label (changed a p f) l a) (fork label (changed b p f) l b)
-least_keeps label l a b p f s fits each keep = fork_keeps label l (changed a p f) (changed b p f) a b (changed_keeps a b p f f s fits keep keep each) s
-
--- the target of `clone` is empty
-pub leads_keep : (env : Environment) (label : ℕ) (a b : Row) (i : Instr) → Stronger a b → AreWellFormed a → AreWellFormed b → targets_fit b i ≡ true →
-    AllZip StrongerLead (leads env label a i) (leads env label b i)
-leads_keep env label a b (Alloc p pool l) s fits fits' target =
-    let new = after_alloc (room_at env.pools pool) in
-    fork_keeps label l (with_fact a p new) (with_fact b p new) a b (fact_set a b p new new s (holding_same (holding new))
-    (keeps_out a.facts b.facts p new new sole_no_group sole_no_group s.groups)) s
-leads_keep env label a b (Free p) s fits fits' target = onward_keeps label (after_free a p) (after_free b p) (free_keeps a b p s fits fits')
-leads_keep env label a b (Clone p q pool l) s fits fits' target = fork_keeps label l (after_clone a p q) (after_clone b p q) a b
-    (clone_keeps a b p q s fits fits' target) s
-leads_keep env label a b (Prepend p n) s fits fits' target =
-    onward_keeps label (changed a p (after_prepend n)) (changed b p (after_prepend n))
-    (changed_keeps a b p (after_prepend n) (after_prepend n) s fits (λ h. refl) (λ h. refl) (λ h k some m. record {
-      share = m.share;
-      head = omega (arith, m.head);
-      tail = m.tail;
-      first = omega (arith, m.first);
-      last = omega (arith, m.last, single_more h k n some m.segs);
-      segs = m.segs;
-    }))
-leads_keep env label a b (Adj p n) s fits fits' target =
-    onward_keeps label (changed a p (after_adj n)) (changed b p (after_adj n))
-    (changed_keeps a b p (after_adj n) (after_adj n) s fits (λ h. refl) (λ h. refl) (λ h k some m. record {
-      share = m.share;
-      head = omega (arith, m.head);
-      tail = m.tail;
-      first = omega (arith, m.first);
-      last = omega (arith, m.last);
-      segs = m.segs;
-    }))
-leads_keep env label a b (Append p n) s fits fits' target =
-    onward_keeps label (changed a p (after_append n)) (changed b p (after_append n))
-    (changed_keeps a b p (after_append n) (after_append n) s fits (λ h. refl) (λ h. refl) (λ h k some m. record {
-      share = m.share;
-      head = m.head;
-      tail = omega (arith, m.tail);
-      first = omega (arith, m.first, single_more h k n some m.segs);
-      last = omega (arith, m.last);
-      segs = m.segs;
-    }))
-leads_keep env label a b (Trim p n) s fits fits' target =
-    onward_keeps label (changed a p (after_trim n)) (changed b p (after_trim n))
-    (changed_keeps a b p (after_trim n) (after_trim n) s fits (λ h. refl) (λ h. refl) (λ h k some m. record {
-      share = m.share;
-      head = m.head;
-      tail = omega (arith, m.tail);
-      first = omega (arith, m.first);
-      last = omega (arith, m.last);
-      segs = m.segs;
-    }))
-leads_keep env label a b (Chain p q) s fits fits' target = onward_keeps label (after_chained a p q) (after_chained b p q) (chain_keeps a b p q s fits)
-leads_keep env label a b (IfHead p n l) s fits fits' target = least_keeps label l a b p (λ h. record h { head = max h.head n }) s fits (λ h k some m. record {
+prepend_more : (n : ℕ) (h k : Holding) → 1 ≤ h.segs → StrongerHolding h k → StrongerHolding (after_prepend n h) (after_prepend n k)
+prepend_more n h k some m = record {
   share = m.share;
   head = omega (arith, m.head);
   tail = m.tail;
-  first = m.first;
-  last = m.last;
+  first = omega (arith, m.first);
+  last = omega (arith, m.last, single_more h k n some m.segs);
   segs = m.segs;
-}) (λ h. refl)
-leads_keep env label a b (IfTail p n l) s fits fits' target = least_keeps label l a b p (λ h. record h { tail = max h.tail n }) s fits (λ h k some m. record {
+}
+
+adj_more : (n : ℕ) (h k : Holding) → 1 ≤ h.segs → StrongerHolding h k → StrongerHolding (after_adj n h) (after_adj n k)
+adj_more n h k some m = record {
+  share = m.share;
+  head = omega (arith, m.head);
+  tail = m.tail;
+  first = omega (arith, m.first);
+  last = omega (arith, m.last);
+  segs = m.segs;
+}
+
+append_more : (n : ℕ) (h k : Holding) → 1 ≤ h.segs → StrongerHolding h k → StrongerHolding (after_append n h) (after_append n k)
+append_more n h k some m = record {
   share = m.share;
   head = m.head;
   tail = omega (arith, m.tail);
-  first = m.first;
-  last = m.last;
-  segs = m.segs;
-}) (λ h. refl)
-leads_keep env label a b (IfLen p n l) s fits fits' target = least_keeps label l a b p (λ h. record h { first = max h.first n }) s fits (λ h k some m. record {
-  share = m.share;
-  head = m.head;
-  tail = m.tail;
-  first = omega (arith, m.first);
-  last = m.last;
-  segs = m.segs;
-}) (λ h. refl)
-leads_keep env label a b (IfLast p n l) s fits fits' target = least_keeps label l a b p (λ h. record h { last = max h.last n }) s fits (λ h k some m. record {
-  share = m.share;
-  head = m.head;
-  tail = m.tail;
-  first = m.first;
+  first = omega (arith, m.first, single_more h k n some m.segs);
   last = omega (arith, m.last);
   segs = m.segs;
-}) (λ h. refl)
-leads_keep env label a b (Load r p off w) s fits fits' target = bound_keeps label a b r (2 ^ (8 * bytes_in w) - 1) (2 ^ (8 * bytes_in w) - 1) s (omega arith)
-leads_keep env label a b (Store p off w r) s fits fits' target = onward_keeps label a b s
-leads_keep env label a b (LoadX r p x off w) s fits fits' target = bound_keeps label a b r (2 ^ (8 * bytes_in w) - 1) (2 ^ (8 * bytes_in w) - 1) s (omega arith)
-leads_keep env label a b (StoreX p x off w r) s fits fits' target = onward_keeps label a b s
-leads_keep env label a b (Set r c) s fits fits' target = bound_keeps label a b r c c s (omega arith)
-leads_keep env label a b (Mov r x) s fits fits' target = bound_keeps label a b r (bound a (Register x)) (bound b (Register x)) s (bound_at a b (Register x) s)
-leads_keep env label a b (Add r x) s fits fits' target = bound_keeps label a b r (min (bound a (Register r) + bound a x) greatest)
-    (min (bound b (Register r) + bound b x) greatest) s (omega (arith, bound_at a b (Register r) s, bound_at a b x s))
-leads_keep env label a b (Sub r x) s fits fits' target = bound_keeps label a b r greatest greatest s (omega arith)
-leads_keep env label a b (And r x) s fits fits' target = bound_keeps label a b r (min (bound a (Register r)) (bound a x))
-    (min (bound b (Register r)) (bound b x)) s (omega (arith, bound_at a b (Register r) s, bound_at a b x s))
-leads_keep env label a b (Or r x) s fits fits' target =
-    let more : max (bound a (Register r)) (bound a x) ≤ max (bound b (Register r)) (bound b x) = omega (arith, bound_at a b (Register r) s, bound_at a b x s) in
-    bound_keeps label a b r _ _ s (all_ones_more _ _ more)
-leads_keep env label a b (Xor r x) s fits fits' target =
-    let more : max (bound a (Register r)) (bound a x) ≤ max (bound b (Register r)) (bound b x) = omega (arith, bound_at a b (Register r) s, bound_at a b x s) in
-    bound_keeps label a b r _ _ s (all_ones_more _ _ more)
-leads_keep env label a b (Shl r c) s fits fits' target = bound_keeps label a b r _ _ s
-    (omega (arith, times_more (bound a (Register r)) (bound b (Register r)) c (bound_at a b (Register r) s)))
-leads_keep env label a b (Shr r c) s fits fits' target = bound_keeps label a b r _ _ s
-    (shifted_more (bound a (Register r)) (bound b (Register r)) c (bound_at a b (Register r) s))
-leads_keep env label a b (Jmp l) s fits fits' target = ((refl, s), tt)
-leads_keep env label a b (Jeq r x l) s fits fits' target =
-    fork_keeps label l a b (with_bound a r (min (bound a (Register r)) (bound a x))) (with_bound b r (min (bound b (Register r)) (bound b x))) s
-    (bound_set a b r _ _ s (omega (arith, bound_at a b (Register r) s, bound_at a b x s)))
-leads_keep env label a b (Jlt r c l) s fits fits' target =
-    fork_keeps label l a b (with_bound a r (min (bound a (Register r)) (c - 1))) (with_bound b r (min (bound b (Register r)) (c - 1))) s
-    (bound_set a b r _ _ s (omega (arith, bound_at a b (Register r) s)))
-leads_keep env label a b (Lookup r table x l) s fits fits' target = fork_keeps label l (with_bound a r 16777215) (with_bound b r 16777215) a b
-    (bound_set a b r 16777215 16777215 s (omega arith)) s
-leads_keep env label a b (Tx p r l) s fits fits' target = fork_keeps label l (after_leave a p) (after_leave b p) a b (leave_keeps' a b p s) s
-leads_keep env label a b (Enq p ring l) s fits fits' target = fork_keeps label l (after_leave a p) (after_leave b p) a b (leave_keeps' a b p s) s
-leads_keep env label a b Exit s fits fits' target = tt
+}
+
+trim_more : (n : ℕ) (h k : Holding) → 1 ≤ h.segs → StrongerHolding h k → StrongerHolding (after_trim n h) (after_trim n k)
+trim_more n h k some m = record {
+  share = m.share;
+  head = m.head;
+  tail = omega (arith, m.tail);
+  first = omega (arith, m.first);
+  last = omega (arith, m.last);
+  segs = m.segs;
+}
+
+module _ (env : Environment) (label : ℕ) (i : Instr) where
+  -- the packet of a register is changed
+  edits : (p : ℕ) (f : Holding → Holding) → ((row : Row) → leads env label row i ≡ onward label (changed row p f)) → ((h : Holding) → (f h).share ≡ h.share)
+      → ((h k : Holding) → 1 ≤ h.segs → StrongerHolding h k → StrongerHolding (f h) (f k)) → Leading env label i
+  edits p f is keep each = On (λ row. changed row p f) is (λ a b s fits fits' target. changed_keeps a b p f f s fits keep keep each)
+
+  -- a least number is tested
+  tests : (p l : ℕ) (f : Holding → Holding) → label_of i ≡ Some l → ((row : Row) → leads env label row i ≡ fork label (changed row p f) l row) →
+      ((h : Holding) → (f h).share ≡ h.share) → ((h k : Holding) → 1 ≤ h.segs → StrongerHolding h k → StrongerHolding (f h) (f k)) → Leading env label i
+  tests p l f names is keep each = Forks l (λ row. changed row p f) (λ row. row) names is
+      (λ a b s fits fits' target. changed_keeps a b p f f s fits keep keep each) (λ a b s fits fits' target. s)
+
+  -- a register has a greatest number
+  bounds : (r n : ℕ) → ((row : Row) → leads env label row i ≡ onward label (with_bound row r n)) → Leading env label i
+  bounds r n is = On (λ row. with_bound row r n) is (λ a b s fits fits' target. bound_set a b r n n s (omega arith))
+
+  -- a packet leaves, or stays where the list is full
+  leaves : (p l : ℕ) → label_of i ≡ Some l → ((row : Row) → leads env label row i ≡ fork label (after_leave row p) l row) → Leading env label i
+  leaves p l names is = Forks l (λ row. after_leave row p) (λ row. row) names is (λ a b s fits fits' target. leave_keeps' a b p s)
+      (λ a b s fits fits' target. s)
+
+  -- a calculation
+  counts : (kind : Calculation i) → calculates kind ≡ true → Leading env label i
+  counts (Sets r x number top does to within grows) is = On (λ row. with_bound row r (top (bound row (Register r)) (bound row x))) (to env label)
+      (λ a b s fits fits' target. bound_set a b r _ _ s (grows _ _ _ _ (bound_at a b (Register r) s) (bound_at a b x s)))
+  counts (Jumps r x l test top names does to within grows) is = Forks l (λ row. row)
+      (λ row. with_bound row r (top (bound row (Register r)) (bound row x))) names (to env label) (λ a b s fits fits' target. s)
+      (λ a b s fits fits' target. bound_set a b r _ _ s (grows _ _ _ _ (bound_at a b (Register r) s) (bound_at a b x s)))
+  counts (Goes l names does to) is = To l names (to env label)
+  counts (Finds r table x l names does to there) is = Forks l (λ row. with_bound row r 16777215) (λ row. row) names (to env label)
+      (λ a b s fits fits' target. bound_set a b r 16777215 16777215 s (omega arith)) (λ a b s fits fits' target. s)
+  counts (Handles_packets none) is = cc is
+
+leading : (env : Environment) (label : ℕ) (i : Instr) → Leading env label i
+unfolding calculation_of
+leading env label (Alloc p pool l) =
+    let new = after_alloc (room_at env.pools pool) in
+    Forks l (λ row. with_fact row p new) (λ row. row) refl (λ row. refl) (λ a b s fits fits' target. fact_set a b p new new s (holding_same (holding new))
+    (keeps_out a.facts b.facts p new new sole_no_group sole_no_group s.groups)) (λ a b s fits fits' target. s)
+leading env label (Free p) = On (λ row. after_free row p) (λ row. refl) (λ a b s fits fits' target. free_keeps a b p s fits fits')
+leading env label (Clone p q pool l) = Forks l (λ row. after_clone row p q) (λ row. row) refl (λ row. refl)
+    (λ a b s fits fits' target. clone_keeps a b p q s fits fits' target) (λ a b s fits fits' target. s)
+leading env label (Prepend p n) = edits env label (Prepend p n) p (after_prepend n) (λ row. refl) (λ h. refl) (prepend_more n)
+leading env label (Adj p n) = edits env label (Adj p n) p (after_adj n) (λ row. refl) (λ h. refl) (adj_more n)
+leading env label (Append p n) = edits env label (Append p n) p (after_append n) (λ row. refl) (λ h. refl) (append_more n)
+leading env label (Trim p n) = edits env label (Trim p n) p (after_trim n) (λ row. refl) (λ h. refl) (trim_more n)
+leading env label (Chain p q) = On (λ row. after_chained row p q) (λ row. refl) (λ a b s fits fits' target. chain_keeps a b p q s fits)
+leading env label (IfHead p n l) = tests env label (IfHead p n l) p l (λ h. record h { head = max h.head n }) refl (λ row. refl) (λ h. refl)
+    (λ h k some m. record { share = m.share; head = omega (arith, m.head); tail = m.tail; first = m.first; last = m.last; segs = m.segs })
+leading env label (IfTail p n l) = tests env label (IfTail p n l) p l (λ h. record h { tail = max h.tail n }) refl (λ row. refl) (λ h. refl)
+    (λ h k some m. record { share = m.share; head = m.head; tail = omega (arith, m.tail); first = m.first; last = m.last; segs = m.segs })
+leading env label (IfLen p n l) = tests env label (IfLen p n l) p l (λ h. record h { first = max h.first n }) refl (λ row. refl) (λ h. refl)
+    (λ h k some m. record { share = m.share; head = m.head; tail = m.tail; first = omega (arith, m.first); last = m.last; segs = m.segs })
+leading env label (IfLast p n l) = tests env label (IfLast p n l) p l (λ h. record h { last = max h.last n }) refl (λ row. refl) (λ h. refl)
+    (λ h k some m. record { share = m.share; head = m.head; tail = m.tail; first = m.first; last = omega (arith, m.last); segs = m.segs })
+leading env label (Load r p off w) = bounds env label (Load r p off w) r (2 ^ (8 * bytes_in w) - 1) (λ row. refl)
+leading env label (Store p off w r) = On (λ row. row) (λ row. refl) (λ a b s fits fits' target. s)
+leading env label (LoadX r p x off w) = bounds env label (LoadX r p x off w) r (2 ^ (8 * bytes_in w) - 1) (λ row. refl)
+leading env label (StoreX p x off w r) = On (λ row. row) (λ row. refl) (λ a b s fits fits' target. s)
+leading env label (Tx p r l) = leaves env label (Tx p r l) p l refl (λ row. refl)
+leading env label (Enq p ring l) = leaves env label (Enq p ring l) p l refl (λ row. refl)
+leading env label Exit = Ends (λ row. refl)
+leading env label i = counts env label i (calculation_of i) refl
+
+-- a row that says all that another does leads to rows that say all that the other's do
+pub leads_keep : (env : Environment) (label : ℕ) (a b : Row) (i : Instr) → Stronger a b → AreWellFormed a → AreWellFormed b → targets_fit b i ≡ true →
+    AllZip StrongerLead (leads env label a i) (leads env label b i)
+leads_keep env label a b i s fits fits' target = go (leading env label i)
+  where
+    go : Leading env label i → AllZip StrongerLead (leads env label a i) (leads env label b i)
+    go (On after is keeps) = rw (is a, is b) ((refl, keeps a b s fits fits' target), tt)
+    go (Forks l after at_l names is keeps keeps') = rw (is a, is b) ((refl, keeps a b s fits fits' target), ((refl, keeps' a b s fits fits' target), tt))
+    go (To l names is) = rw (is a, is b) ((refl, s), tt)
+    go (Ends is) = rw (is a, is b) tt
+
+-- the labels to which an instruction leads are the same
+pub labels_keep : (test : ℕ → Bool) (xs ys : List Lead) → AllZip StrongerLead xs ys → list_all (λ to. test to.to) ys ≡ true → list_all (λ to. test to.to) xs
+    ≡ true
+labels_keep test [] [] z e = refl
+labels_keep test (x ∷ xs) (y ∷ ys) z e =
+    let (here, rest) = and_parts (test y.to) (list_all (λ to. test to.to) ys) e in
+    both_are (ap test z.0.0 ∙ here) (labels_keep test xs ys z.1 rest)
+labels_keep test [] (y ∷ ys) z e = absurd z
+labels_keep test (x ∷ xs) [] z e = absurd z
+
+-- in a forward program each instruction leads to later labels
+pub forward_leads : (env : Environment) (label : ℕ) (row : Row) (i : Instr) → ((to : ℕ) → label_of i ≡ Some to → label < to) →
+    list_all (λ to. nat_lt label to.to) (leads env label row i) ≡ true
+forward_leads env label row i forward = go (leading env label i)
+  where
+    next : nat_lt label (label + 1) ≡ true
+    next = lt-ltb label (label + 1) (omega arith)
+
+    go : Leading env label i → list_all (λ to. nat_lt label to.to) (leads env label row i) ≡ true
+    go (On after is keeps) = rw (is row) (both_are next refl)
+    go (Forks l after at_l names is keeps keeps') = rw (is row) (both_are next (both_are (lt-ltb label l (forward l names)) refl))
+    go (To l names is) = rw (is row) (both_are (lt-ltb label l (forward l names)) refl)
+    go (Ends is) = rw (is row) refl

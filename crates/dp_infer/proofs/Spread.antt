@@ -15,12 +15,10 @@ use Rattle.dp_model.specs.Rules.{Question, row_passes, holds_at, holds_if_live, 
 use Rattle.dp_infer.specs.Joins.{passed_on, passed_from, spread}
 use Rattle.dp_infer.proofs.Stronger.{Stronger, further, both_are}
 use Rattle.dp_infer.proofs.Changes.{AreWellFormed}
-use Rattle.dp_infer.proofs.RowsAfter.{StrongerLead, leads_keep}
-use Rattle.dp_infer.proofs.RulesKeep.{labels_keep}
+use Rattle.dp_infer.proofs.RowsAfter.{StrongerLead, leads_keep, labels_keep, forward_leads}
 use Rattle.dp_infer.proofs.RowLists.{all_at, there_is, passes_at, passes, fits_from}
 use Rattle.dp_infer.proofs.Reach.{Fit, Grows, Step, no_step, leads_grow, pass_step, passed_well_formed}
 use Rattle.dp_infer.proofs.Accepted.{each_rule, all_from}
-use Rattle.dp_infer.proofs.Forward.{forward_leads}
 
 -- what holds of the rows, where control passed on from all labels below one, if a certificate is accepted
 pub record Sound (q : Question) (rows : List Row) (label : ℕ) : Type 0 where
