@@ -4,6 +4,7 @@ ghost use Rattle.dp_pcap.specs.declared.byte_order.Order.{Order};
 ghost use Rattle.dp_pcap.specs.declared.time.Unit.{Unit as TimeUnit};
 ghost use Rattle.dp_pcap.specs.Capture.{captured, IsHeader};
 ghost use Rattle.dp_pcap.specs.Counting.{none_yet, records_in, IsBehind};
+ghost use Rattle.dp_pcap.specs.Passing.{StepsBy};
 
 use crate::byte_order::{Order, long_number, short_number};
 use crate::format::{CAPTURED_AT, HEAD_SIZE, HEADER_SIZE, MAJOR, MAJOR_AT, MINOR_AT};
@@ -110,12 +111,7 @@ impl WholeRecords {
     // Goes by the front of these bytes: what is there of the header, of a record's head, or of the bytes behind it.
     fn step(&mut self, bytes: &[u8]) -> usize
         requires { 0 < length bytes.now }
-        ensures some { 0 < result }
-        ensures most { result ≤ length bytes.now }
-        ensures order { self.new.order ≡ self.old.order }
-        ensures pieces { self.new.pieces ≤ self.old.pieces + 1 }
-        ensures behind { self.old.pieces + 1 < 2 ^ 64 →
-            (before : List ℕ) → IsBehind self.old before → IsBehind self.new (before ++ take result bytes.now) }
+        ensures { StepsBy self.old self.new bytes.now result }
     {
         if self.left == 0 {
             self.take_record(bytes)
@@ -128,12 +124,7 @@ impl WholeRecords {
     fn take_record(&mut self, bytes: &[u8]) -> usize
         requires some { 0 < length bytes.now }
         requires none { self.old.left ≡ 0 }
-        ensures some { 0 < result }
-        ensures most { result ≤ length bytes.now }
-        ensures order { self.new.order ≡ self.old.order }
-        ensures pieces { self.new.pieces ≤ self.old.pieces + 1 }
-        ensures behind { self.old.pieces + 1 < 2 ^ 64 →
-            (before : List ℕ) → IsBehind self.old before → IsBehind self.new (before ++ take result bytes.now) }
+        ensures { StepsBy self.old self.new bytes.now result }
     {
         if self.came > 0 || bytes.len() < HEAD_SIZE {
             return self.take_head(bytes);
@@ -150,12 +141,7 @@ impl WholeRecords {
     fn skip(&mut self, bytes: &[u8]) -> usize
         requires some { 0 < length bytes.now }
         requires left { 0 < self.old.left }
-        ensures some { 0 < result }
-        ensures most { result ≤ length bytes.now }
-        ensures order { self.new.order ≡ self.old.order }
-        ensures pieces { self.new.pieces ≤ self.old.pieces + 1 }
-        ensures behind { self.old.pieces + 1 < 2 ^ 64 →
-            (before : List ℕ) → IsBehind self.old before → IsBehind self.new (before ++ take result bytes.now) }
+        ensures { StepsBy self.old self.new bytes.now result }
     {
         let taken = self.left.min(bytes.len());
         self.left -= taken;
@@ -169,12 +155,7 @@ impl WholeRecords {
     fn take_head(&mut self, bytes: &[u8]) -> usize
         requires some { 0 < length bytes.now }
         requires none { self.old.left ≡ 0 }
-        ensures some { 0 < result }
-        ensures most { result ≤ length bytes.now }
-        ensures order { self.new.order ≡ self.old.order }
-        ensures pieces { self.new.pieces ≤ self.old.pieces + 1 }
-        ensures behind { self.old.pieces + 1 < 2 ^ 64 →
-            (before : List ℕ) → IsBehind self.old before → IsBehind self.new (before ++ take result bytes.now) }
+        ensures { StepsBy self.old self.new bytes.now result }
     {
         let taken = (HEAD_SIZE - self.came).min(bytes.len());
         self.head[self.came..self.came + taken].copy_from_slice(&bytes[..taken]);

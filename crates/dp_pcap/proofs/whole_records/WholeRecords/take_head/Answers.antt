@@ -23,14 +23,26 @@ head c = record {
 none : (c : After-body_length) → c.self.inside.left ≡ 0
 none c = ap (λ (v : Counted). v.left) c.self.view_is ∙ c.requires.none
 
-pub returns-then-self-eq0-clause-behind : goal.returns-then-self-eq0-clause-behind
-returns-then-self-eq0-clause-behind c = λ few before b.
-    let same : c.self.inside.pieces ≡ c.args.self.now.pieces = ap (λ (v : Counted). v.pieces) c.self.view_is in
-    let opened = (goal.at.returns-then-self-eq0-clause-behind c).After-body_length in
-    head_ends _ _ _ _ _ _ _ _ _ _ _ _ before (none opened) (omega (arith, c.saturating_add-self-inside.ensures, few, same)) (search rules) refl (head opened)
-    (subst (λ v. IsBehind v before) (sym c.self.view_is) b)
+pub returns-then-self-eq0 : goal.returns-then-self-eq0
+returns-then-self-eq0 c = record {
+  some = search rules;
+  most = search rules;
+  order = search rules;
+  pieces = search rules;
+  behind = λ few before b.
+      let same : c.self.inside.pieces ≡ c.args.self.now.pieces = ap (λ (v : Counted). v.pieces) c.self.view_is in
+      let opened = (goal.at.returns-then-self-eq0 c).After-body_length in
+      head_ends _ _ _ _ _ _ _ _ _ _ _ _ before (none opened) (omega (arith, c.saturating_add-self-inside.ensures, few, same)) (search rules) refl (head opened)
+      (subst (λ v. IsBehind v before) (sym c.self.view_is) b);
+}
 
-pub returns-else-self-eq0-clause-behind : goal.returns-else-self-eq0-clause-behind
-returns-else-self-eq0-clause-behind c = λ few before b.
-    let opened = (goal.at.returns-else-self-eq0-clause-behind c).After-body_length in
-    head_goes_on _ _ _ _ _ _ _ _ _ _ _ before (none opened) (search rules) refl (head opened) (subst (λ v. IsBehind v before) (sym c.self.view_is) b)
+pub returns-else-self-eq0 : goal.returns-else-self-eq0
+returns-else-self-eq0 c = record {
+  some = search rules;
+  most = search rules;
+  order = search rules;
+  pieces = search rules;
+  behind = λ few before b.
+      let opened = (goal.at.returns-else-self-eq0 c).After-body_length in
+      head_goes_on _ _ _ _ _ _ _ _ _ _ _ before (none opened) (search rules) refl (head opened) (subst (λ v. IsBehind v before) (sym c.self.view_is) b);
+}
