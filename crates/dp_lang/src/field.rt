@@ -17,6 +17,7 @@ pub fn operand_at<'a>(arguments: &[Named<'a>], k: usize) -> Named<'a>
     }
 }
 
+/// The packet register of an operand, the first where it is none.
 pub fn packet_in(given: Named) -> PacketRegister
     ensures { result ≡ spec.packet_in given.entry }
 {
@@ -26,6 +27,7 @@ pub fn packet_in(given: Named) -> PacketRegister
     }
 }
 
+/// The number register of an operand, the first where it is none.
 pub fn register_in(given: Named) -> NumberRegister
     ensures { result ≡ spec.register_in given.entry }
 {
@@ -35,6 +37,7 @@ pub fn register_in(given: Named) -> NumberRegister
     }
 }
 
+/// The number that an operand is, 0 where it is none.
 pub fn number_in(given: Named) -> u64
     ensures { result ≡ spec.number_in given.entry }
 {
@@ -44,6 +47,7 @@ pub fn number_in(given: Named) -> u64
     }
 }
 
+/// The number that an operand is, 0 where it is none of one byte.
 pub fn byte_in(given: Named) -> u8
     ensures { result ≡ spec.byte_in given.entry }
 {
@@ -51,6 +55,7 @@ pub fn byte_in(given: Named) -> u8
     if n < 256 { n as u8 } else { 0 }
 }
 
+/// The number of bytes, or the offset, that an operand is, 0 where it is none.
 pub fn count_in(given: Named) -> u16
     ensures { result ≡ spec.count_in given.entry }
 {
@@ -58,6 +63,7 @@ pub fn count_in(given: Named) -> u16
     if n <= LARGEST_COUNT { n as u16 } else { 0 }
 }
 
+/// The width of so many bytes as an operand says, eight where there is none of so many.
 pub fn width_in(given: Named) -> Width
     ensures { result ≡ spec.width_in given.entry }
 {
@@ -69,6 +75,7 @@ pub fn width_in(given: Named) -> Width
     }
 }
 
+/// The number register or the constant that an operand is, the constant 0 where it is neither.
 pub fn operand_in(given: Named) -> Operand
     ensures { result ≡ spec.operand_in given.entry }
 {

@@ -16,7 +16,9 @@ use dp_model::Instr;
 /// What an operand has to be.
 #[derive(Clone, Copy)]
 pub enum Kind {
+    /// A packet register.
     Packet,
+    /// A number register.
     Register,
     /// A number of this range.
     Number { least: u64, most: u64 },
