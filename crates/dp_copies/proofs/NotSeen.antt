@@ -1,20 +1,19 @@
 -- What an instruction writes is not seen through the packets beside, nor are the bytes of buffers that it takes.
-use Rattle.std.proofs.Common.{◌≡◌, ℕ, ◌+◌, ◌-◌, ◌≤◌, Bool, true, false, cond, List, [], ◌∷◌, length, replicate, Some, refl, ◌∙◌, ap, arith, inl, inr}
-use Rattle.std.specs.Prelude.{◌⊎◌, slice_index}
+use Rattle.std.proofs.Common.{◌≡◌, ℕ, ◌+◌, ◌-◌, ◌≤◌, Bool, List, [], ◌∷◌, replicate, Some, refl, ◌∙◌, ap, arith, inl, inr}
+use Rattle.std.specs.Prelude.{◌⊎◌}
 use Rattle.dp_model.specs.declared.instr.Instr.{Instr}
-use Rattle.dp_model.specs.declared.instr.Instr.TheVariants.{Alloc, Free, Clone, Prepend, Adj, Append, Trim, Chain, IfHead, IfTail, IfLen, IfLast, Load, Store}
-use Rattle.dp_model.specs.declared.instr.Instr.TheVariants.{LoadX, StoreX, Tx, Enq, Exit}
 use Rattle.dp_model.specs.declared.env.PoolSpec.{PoolSpec}
 use Rattle.dp_model.specs.declared.env.PortSpec.{PortSpec}
-use Rattle.dp_model.specs.Arithmetic.{bytes_in, big_endian}
+use Rattle.dp_model.specs.Arithmetic.{big_endian}
 use Rattle.dp_model.specs.Buffers.{Number, Buffers, bytes_of, with_bytes, overwritten}
 use Rattle.dp_model.specs.Packets.{Segment, Packet, refs, IsHeadSole, IsTailSole, zeroed_before, zeroed_behind, stored}
-use Rattle.dp_model.specs.Machine.{Setting, World, State, live, Move, Acts, Holds, branches, goes_on, moves_to, is_denied}
+use Rattle.dp_model.specs.Machine.{Setting, World, State, live, Move, Acts, Holds}
 use Rattle.dp_model.specs.Runs.{Receives, between}
 use Rattle.dp_model.specs.Copies.{copy_of}
 use Rattle.dp_model.specs.Laws.References.{refs-cons, refs_first, live_parts}
 use Rattle.dp_model.specs.Laws.Stored.{bytes_other}
-use Rattle.dp_model.specs.Laws.Cases.{matched}
+use Rattle.dp_model.specs.Laws.Effects.{Effect, Kept, Calculated, Refused, Allocated, Cloned, Freed, Prepended, Appended, Adjusted, Trimmed, Chained, Stored}
+use Rattle.dp_model.specs.Laws.Effects.{Sent, Queued, NamesWritten, WritesAt, did_of}
 use Rattle.dp_copies.specs.Seen.{written_register, IsBeside, IsQueued}
 use Rattle.dp_copies.proofs.Unchanged.{Same, copy_same}
 use Rattle.dp_copies.proofs.Writes.{apart, counts}
@@ -95,55 +94,43 @@ write_stays pools i s p j k new written holds beside (inr w) =
     (λ b one. bytes_other s.world.buffers w.buffer b w.bytes
     (apart s w.buffer b (refs k b) w.sole (omega (arith, counts j w.buffer b w.part, refs_beside_written i s p j k b written holds beside)) one))
 
-module _ (c : Setting) (label : ℕ) (s : State) (k : Packet) where
-  -- a move by another name
-  moved : (m m' : Move) → m ≡ m' → Stays c s k m' → Stays c s k m
-  moved m m' is e = ap (λ m. copy_of c.env.pools m.state.world.buffers k) is ∙ e
+-- the state by another name
+moved : (c : Setting) (s s' : State) (k : Packet) (m : Move) → m.state ≡ s' → copy_of c.env.pools s'.world.buffers k ≡ copy_of c.env.pools s.world.buffers k →
+    Stays c s k m
+moved c s s' k m is e = ap (λ (s : State). copy_of c.env.pools s.world.buffers k) is ∙ e
 
-  -- a branch writes nothing
-  branched : (b : Bool) (l : ℕ) → Stays c s k (branches b label l s)
-  branched true l = refl
-  branched false l = refl
+-- nor is what an instruction does
+effect_stays : (c : Setting) (s : State) (i : Instr) (m : Move) (k : Packet) (effect : Effect c s m) → WritesAt (written_register i) effect → IsBeside i s k →
+    Stays c s k m
+unfolding Same
+effect_stays c s i m k (Kept is _) at beside = moved c s _ k m is refl
+effect_stays c s i m k (Calculated numbers is _) at beside = moved c s _ k m is refl
+effect_stays c s i m k (Refused is _) at beside = moved c s _ k m is refl
+effect_stays c s i m k (Allocated p pool ns buffers empty fresh changes is _) at beside = moved c s _ k m is
+    (copy_same c.env.pools s.world.buffers buffers k
+    (λ b one. changes.others b (quiet c.env.pools (live s) pool ns b fresh.each (omega (arith, one, refs_beside i s k b beside)))))
+effect_stays c s i m k (Cloned p q pool j ns holds empty fresh is _) at beside = moved c s _ k m is refl
+effect_stays c s i m k (Freed p j holds is _) at beside = moved c s _ k m is refl
+effect_stays c s i m k (Prepended p n j holds le sole is _) at beside =
+    moved c s _ k m is (write_stays c.env.pools i s p j k _ at holds beside (before_written (live s) n j s.world.buffers sole))
+effect_stays c s i m k (Appended p n j holds le sole is _) at beside =
+    moved c s _ k m is (write_stays c.env.pools i s p j k _ at holds beside (behind_written (live s) n j s.world.buffers sole))
+effect_stays c s i m k (Adjusted p n j holds le is _) at beside = moved c s _ k m is refl
+effect_stays c s i m k (Trimmed p n j holds le is _) at beside = moved c s _ k m is refl
+effect_stays c s i m k (Chained p q j t hj ht apart few is _) at beside = moved c s _ k m is refl
+effect_stays c s i m k (Stored p offset w n j holds le sole is _) at beside =
+    moved c s _ k m is (write_stays c.env.pools i s p j k _ at holds beside (stored_written (live s) offset w n j s.world.buffers sole))
+effect_stays c s i m k (Sent p port j packets holds there is _) at beside = moved c s _ k m is refl
+effect_stays c s i m k (Queued p ring j packets holds there is _) at beside = moved c s _ k m is refl
 
-  -- nor does a packet that leaves, or stays
-  queued : (b : Bool) (l : ℕ) (put : State) → put.world.buffers ≡ s.world.buffers → Stays c s k (cond b (goes_on label put) (moves_to l s))
-  queued true l put e = ap (λ buffers. copy_of c.env.pools buffers k) e
-  queued false l put e = refl
+names_written : NamesWritten written_register
+names_written = record { prepend = λ p n. refl; append = λ p n. refl; store = λ p off w r. refl; store_x = λ p x off w r. refl }
 
 -- no packet beside changes by a step
 pub beside_stays : (c : Setting) (label : ℕ) (s : State) (i : Instr) (m : Move) (k : Packet) → Acts c label s i m → IsBeside i s k → Stays c s k m
-unfolding Same
-beside_stays c label s (Alloc p pool l) m k (empty, there, call) beside = matched (is_denied c s pool 1) _ _ call
-    (λ is. moved c label s k m _ is refl)
-    (λ (ns, buffers, fresh, changes, is). moved c label s k m _ is (copy_same c.env.pools s.world.buffers buffers k
-    (λ b one. changes.others b (quiet c.env.pools (live s) pool ns b fresh.each (omega (arith, one, refs_beside (Alloc p pool l) s k b beside))))))
-beside_stays c label s (Clone p q pool l) m k (j, holds, empty, there, call) beside = matched (is_denied c s pool (length j)) _ _ call
-    (λ is. moved c label s k m _ is refl)
-    (λ (ns, fresh, is). moved c label s k m _ is refl)
-beside_stays c label s (Prepend p n) m k (j, holds, le, sole, is) beside =
-    moved c label s k m _ is (write_stays c.env.pools (Prepend p n) s p j k _ refl holds beside (before_written (live s) n j s.world.buffers sole))
-beside_stays c label s (Append p n) m k (j, holds, le, sole, is) beside =
-    moved c label s k m _ is (write_stays c.env.pools (Append p n) s p j k _ refl holds beside (behind_written (live s) n j s.world.buffers sole))
-beside_stays c label s (Store p off w r) m k (j, holds, le, sole, is) beside =
-    moved c label s k m _ is (write_stays c.env.pools (Store p off w r) s p j k _ refl holds beside
-    (stored_written (live s) off (bytes_in w) (slice_index s.numbers r) j s.world.buffers sole))
-beside_stays c label s (StoreX p x off w r) m k (j, holds, le, sole, is) beside =
-    moved c label s k m _ is (write_stays c.env.pools (StoreX p x off w r) s p j k _ refl holds beside
-    (stored_written (live s) (slice_index s.numbers x + off) (bytes_in w) (slice_index s.numbers r) j s.world.buffers sole))
-beside_stays c label s (Free p) m k (j, holds, is) beside = moved c label s k m _ is refl
-beside_stays c label s (Adj p n) m k (j, holds, le, is) beside = moved c label s k m _ is refl
-beside_stays c label s (Trim p n) m k (j, holds, le, is) beside = moved c label s k m _ is refl
-beside_stays c label s (Chain p q) m k (j, t, hj, ht, other, few, is) beside = moved c label s k m _ is refl
-beside_stays c label s (IfHead p n l) m k (j, holds, is) beside = moved c label s k m _ is (branched c label s k _ l)
-beside_stays c label s (IfTail p n l) m k (j, holds, is) beside = moved c label s k m _ is (branched c label s k _ l)
-beside_stays c label s (IfLen p n l) m k (j, holds, is) beside = moved c label s k m _ is (branched c label s k _ l)
-beside_stays c label s (IfLast p n l) m k (j, holds, is) beside = moved c label s k m _ is (branched c label s k _ l)
-beside_stays c label s (Load r p off w) m k (j, holds, le, is) beside = moved c label s k m _ is refl
-beside_stays c label s (LoadX r p x off w) m k (j, holds, le, is) beside = moved c label s k m _ is refl
-beside_stays c label s (Tx p r l) m k (j, port, packets, holds, is_port, is_there, is) beside = moved c label s k m _ is (queued c label s k _ l _ refl)
-beside_stays c label s (Enq p ring l) m k (j, spec, packets, holds, is_ring, is_there, is) beside = moved c label s k m _ is (queued c label s k _ l _ refl)
-beside_stays c label s Exit m k (gone, is) beside = moved c label s k m _ is refl
-beside_stays c label s i m k acts beside = moved c label s k m _ acts.2 refl
+beside_stays c label s i m k acts beside =
+    let it = did_of c label s i m acts in
+    effect_stays c s i m k it.effect (it.writes written_register names_written) beside
 
 -- a record that is received is not seen through the packets in rings and transmit lists
 pub queued_stays : (c : Setting) (program : List Instr) (port : ℕ) (spec : PortSpec) (bytes : List ℕ) (w w' : World) (answers : List Bool) (k : Packet)

@@ -1,18 +1,18 @@
 -- The steps by which packets leave for transmit lists and rings, and the end of a node run.
 use Rattle.std.proofs.Common.{◌≡◌, ℕ, ◌+◌, Bool, false, List, [], ◌∷◌, ◌++◌, length, map, Option, Some, None, refl, ◌∙◌, ap, true, cond, sym}
-use Rattle.std.specs.Prelude.{slice_get, slice_set, option_map, nat_lt, slice_index}
+use Rattle.std.specs.Prelude.{slice_get, slice_set, option_map, nat_lt}
 use Rattle.std.proofs.lemmas.Option.{slice_get-map}
 use Rattle.std.specs.List.{AllByRecursion, list_all}
 use Rattle.std.proofs.lemmas.List.{map-set, map-append, length-map}
 use Rattle.dp_model.specs.declared.env.PoolSpec.{PoolSpec}
 use Rattle.dp_model.specs.Buffers.{Buffers}
 use Rattle.dp_model.specs.Packets.{Packet}
-use Rattle.dp_model.specs.Machine.{State, At, Setting, Ended, Move, Acts, goes_on, moves_to, without_packet, with_ring, with_outbox}
-use Rattle.dp_model.specs.CopyMachine.{Copy, CopyMove, copy_put, copy_step, copy_on, is_gone, CopyState, provided, copy_leaves}
+use Rattle.dp_model.specs.Machine.{State, At, Setting, Holds, Move, goes_on, moves_to, without_packet, with_ring, with_outbox}
+use Rattle.dp_model.specs.CopyMachine.{Copy, with_held, copy_put, copy_step, copy_on, is_gone, CopyState, copy_leaves}
 use Rattle.dp_model.specs.Copies.{copy_of}
 use Rattle.dp_model.specs.declared.instr.Instr.{Instr}
-use Rattle.dp_model.specs.declared.instr.Instr.TheVariants.{Tx, Enq, Exit}
-use Rattle.dp_model.specs.Laws.Places.{IsInside}
+use Rattle.dp_model.specs.declared.env.PortSpec.{PortSpec}
+use Rattle.dp_model.specs.declared.env.RingSpec.{RingSpec}
 use Rattle.dp_copies.proofs.States.{copied}
 use Rattle.dp_copies.proofs.Moves.{Does, by, either, held_step, put_copies}
 
@@ -38,26 +38,29 @@ leaves_step c label st i later count packets k p l put put' step same =
     (λ no. e false no)
 
 -- no register holds a packet, so none holds a copy
-all_gone : (pools : List PoolSpec) (buffers : Buffers) (packets : List (Option Packet)) → AllByRecursion (λ o. o ≡ None) packets →
+pub all_gone : (pools : List PoolSpec) (buffers : Buffers) (packets : List (Option Packet)) → AllByRecursion (λ o. o ≡ None) packets →
     list_all is_gone (map (option_map (copy_of pools buffers)) packets) ≡ true
 all_gone pools buffers [] gone = refl
 all_gone pools buffers (None ∷ packets) gone = all_gone pools buffers packets gone.1
 all_gone pools buffers (Some k ∷ packets) gone = let h = gone.0 in cc
 
--- ---- each instruction
-
-pub tx_step : (c : Setting) (label : ℕ) (s : State) (p r l : ℕ) (m : Move) (later : List Bool) → IsInside c s → Acts c label s (Tx p r l) m →
-    Does c label s (Tx p r l) later m
-tx_step c label s p r l m later well (k, port, packets, holds, is_port, is_there, is) = by c label s (Tx p r l) later m _ is
+-- to a transmit list
+pub sends : (c : Setting) (label : ℕ) (s : State) (i : Instr) (m : Move) (later : List Bool) (p to l : ℕ) (k : Packet) (port : PortSpec)
+    (packets : List Packet) → ((answers : List Bool) → copy_step c.env c.tables label (copied c.env.pools s answers) i
+    ≡ with_held (copied c.env.pools s answers) p (λ k. copy_leaves (option_map (λ port. port.queue) (slice_get c.env.ports to))
+    (slice_get (copied c.env.pools s answers).outboxes to) k p label l (λ packets t. record t { outboxes = slice_set t.outboxes to packets })
+    (copied c.env.pools s answers))) → Holds s p k → slice_get c.env.ports to ≡ Some port → slice_get s.world.outboxes to ≡ Some packets →
+    m ≡ cond (nat_lt (length packets + 1) port.queue) (goes_on label (with_outbox to (packets ++ k ∷ []) (without_packet p s))) (moves_to l s) →
+    Does c label s i later m
+sends c label s i m later p to l k port packets step holds is_port is_there is = by c label s i later m _ is
     (let pools = c.env.pools in
     let copy = copy_of pools s.world.buffers in
-    let to = slice_index s.numbers r in
     let put = λ (packets : List Copy) (t : CopyState). record t { outboxes = slice_set t.outboxes to packets } in
-    leaves_step c label s (Tx p r l) later port.queue packets k p l (with_outbox to) put
-    (λ answers. held_step pools s answers p k (λ k. copy_leaves (option_map (λ port. port.queue) (slice_get c.env.ports to))
+    leaves_step c label s i later port.queue packets k p l (with_outbox to) put
+    (λ answers. step answers ∙ held_step pools s answers p k (λ k. copy_leaves (option_map (λ port. port.queue) (slice_get c.env.ports to))
     (slice_get (copied pools s answers).outboxes to) k p label l put (copied pools s answers)) holds
-    ∙ (ap (λ o. copy_leaves (option_map (λ port. port.queue) o) (slice_get (copied pools s answers).outboxes to) (copy k) p label l put (copied pools s answers))
-    is_port
+    ∙ (ap (λ o. copy_leaves (option_map (λ port. port.queue) o) (slice_get (copied pools s answers).outboxes to) (copy k) p label l put
+    (copied pools s answers)) is_port
     ∙ ap (λ o. copy_leaves (Some port.queue) o (copy k) p label l put (copied pools s answers)) (slice_get-map (map copy) s.world.outboxes to
     ∙ ap (option_map (map copy)) is_there)))
     (let lists = map-set (map copy) s.world.outboxes to (packets ++ k ∷ [])
@@ -65,14 +68,20 @@ tx_step c label s p r l m later well (k, port, packets, holds, is_port, is_there
     ap (λ x. record (copied pools (without_packet p s) later) { outboxes = x }) lists
     ∙ ap (put (map copy packets ++ copy k ∷ [])) (put_copies pools s p None later)))
 
-pub enq_step : (c : Setting) (label : ℕ) (s : State) (p ring l : ℕ) (m : Move) (later : List Bool) → IsInside c s → Acts c label s (Enq p ring l) m →
-    Does c label s (Enq p ring l) later m
-enq_step c label s p ring l m later well (k, spec, packets, holds, is_ring, is_there, is) = by c label s (Enq p ring l) later m _ is
+-- to a ring
+pub enqueues : (c : Setting) (label : ℕ) (s : State) (i : Instr) (m : Move) (later : List Bool) (p ring l : ℕ) (k : Packet) (spec : RingSpec)
+    (packets : List Packet) → ((answers : List Bool) → copy_step c.env c.tables label (copied c.env.pools s answers) i
+    ≡ with_held (copied c.env.pools s answers) p (λ k. copy_leaves (option_map (λ spec. spec.count) (slice_get c.env.rings ring))
+    (slice_get (copied c.env.pools s answers).rings ring) k p label l (λ packets t. record t { rings = slice_set t.rings ring packets })
+    (copied c.env.pools s answers))) → Holds s p k → slice_get c.env.rings ring ≡ Some spec → slice_get s.world.rings ring ≡ Some packets →
+    m ≡ cond (nat_lt (length packets + 1) spec.count) (goes_on label (with_ring ring (packets ++ k ∷ []) (without_packet p s))) (moves_to l s) →
+    Does c label s i later m
+enqueues c label s i m later p ring l k spec packets step holds is_ring is_there is = by c label s i later m _ is
     (let pools = c.env.pools in
     let copy = copy_of pools s.world.buffers in
     let put = λ (packets : List Copy) (t : CopyState). record t { rings = slice_set t.rings ring packets } in
-    leaves_step c label s (Enq p ring l) later spec.count packets k p l (with_ring ring) put
-    (λ answers. held_step pools s answers p k (λ k. copy_leaves (option_map (λ spec. spec.count) (slice_get c.env.rings ring))
+    leaves_step c label s i later spec.count packets k p l (with_ring ring) put
+    (λ answers. step answers ∙ held_step pools s answers p k (λ k. copy_leaves (option_map (λ spec. spec.count) (slice_get c.env.rings ring))
     (slice_get (copied pools s answers).rings ring) k p label l put (copied pools s answers)) holds
     ∙ (ap (λ o. copy_leaves (option_map (λ spec. spec.count) o) (slice_get (copied pools s answers).rings ring) (copy k) p label l put (copied pools s answers))
     is_ring
@@ -82,7 +91,3 @@ enq_step c label s p ring l m later well (k, spec, packets, holds, is_ring, is_t
     ∙ ap (λ x. slice_set (map (map copy) s.world.rings) ring x) (map-append copy packets (k ∷ [])) in
     ap (λ x. record (copied pools (without_packet p s) later) { rings = x }) lists
     ∙ ap (put (map copy packets ++ copy k ∷ [])) (put_copies pools s p None later)))
-
-pub exit_step : (c : Setting) (label : ℕ) (s : State) (m : Move) (later : List Bool) → IsInside c s → Acts c label s Exit m → Does c label s Exit later m
-exit_step c label s m later well (gone, is) = by c label s Exit later m _ is
-    (ap (λ b. provided {A = CopyMove} b (Ended, copied c.env.pools s later)) (all_gone c.env.pools s.world.buffers s.packets gone))

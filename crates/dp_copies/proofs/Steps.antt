@@ -4,20 +4,20 @@ use Rattle.std.specs.Prelude.{option_map, nat_le, slice_index}
 use Rattle.std.proofs.lemmas.Bool.{le-leb}
 use Rattle.dp_model.specs.Arithmetic.{bytes_in}
 use Rattle.dp_model.specs.Packets.{IsWithin, at_front, at_end}
-use Rattle.dp_model.specs.Machine.{State, live, At, Setting, Move, Acts}
-use Rattle.dp_model.specs.CopyMachine.{CopyMove, copy_step, first_piece, last_piece, with_front, without_front, with_back, without_back}
+use Rattle.dp_model.specs.Machine.{State, live, At, Ended, Setting, Move, Acts}
+use Rattle.dp_model.specs.CopyMachine.{CopyMove, copy_step, first_piece, last_piece, with_front, without_front, with_back, without_back, provided}
 use Rattle.dp_model.specs.declared.instr.Instr.TheVariants.{Alloc, Clone, Free, Prepend, Adj, Append, Trim, Chain, IfHead, IfTail, IfLen, IfLast, Load, Store}
 use Rattle.dp_model.specs.declared.instr.Instr.TheVariants.{LoadX, StoreX, Tx, Enq, Exit}
 use Rattle.dp_model.specs.declared.instr.Instr.{Instr}
 use Rattle.dp_copies.proofs.States.{copied}
 use Rattle.dp_copies.proofs.Moves.{by}
-use Rattle.dp_copies.proofs.AllocationSteps.{alloc_step, clone_step}
+use Rattle.dp_copies.proofs.AllocationSteps.{allocates, clones}
 use Rattle.dp_copies.proofs.Lengths.{first_before, first_length, last_behind, last_length, there}
 use Rattle.dp_copies.proofs.Lengthening.{prepend_copies, append_copies}
 use Rattle.dp_copies.proofs.EditSteps.{edited, free_copies, adj_copies, trim_copies, chain_copies}
 use Rattle.dp_copies.proofs.TestSteps.{tested}
 use Rattle.dp_copies.proofs.ByteSteps.{some_bytes, loads_step, stores_step}
-use Rattle.dp_copies.proofs.SendSteps.{tx_step, enq_step, exit_step}
+use Rattle.dp_copies.proofs.SendSteps.{sends, enqueues, all_gone}
 
 -- each step is a step of the copies
 abbrev pub StepsCopy : Setting → Type 0
@@ -31,8 +31,10 @@ leads c s later after = (At after.0, record (copied c.env.pools s later) { numbe
 -- each step is a step of the copies
 pub steps_copy : (c : Setting) → StepsCopy c
 unfolding leads
-steps_copy c label s (Alloc p pool l) m later well acts = alloc_step c label s p pool l m later well acts
-steps_copy c label s (Clone p q pool l) m later well acts = clone_step c label s p q pool l m later well acts
+steps_copy c label s (Alloc p pool l) m later well (empty, there, call) =
+    allocates c label s (Alloc p pool l) m later p l pool (λ answers. refl) empty call
+steps_copy c label s (Clone p q pool l) m later well (k, holds, empty, there, call) =
+    clones c label s (Clone p q pool l) m later p l q pool k (λ answers. refl) holds empty call
 steps_copy c label s (Free p) m later well (k, holds, is) = by c label s (Free p) later m _ is (free_copies c label s p k later holds)
 steps_copy c label s (Prepend p n) m later well (k, holds, le, sole, is) = edited c label s _ (Prepend p n) m later p
     (λ k. nat_le n (first_piece k).before) (at_front (with_front n)) k (λ answers. refl) is holds
@@ -64,7 +66,10 @@ steps_copy c label s (Store p off w r) m later well (k, holds, le, sole, is) = b
     (stores_step c s later p label off (bytes_in w) (slice_index s.numbers r) k well holds (some_bytes w) le sole)
 steps_copy c label s (StoreX p x off w r) m later well (k, holds, le, sole, is) = by c label s (StoreX p x off w r) later m _ is
     (stores_step c s later p label (slice_index s.numbers x + off) (bytes_in w) (slice_index s.numbers r) k well holds (some_bytes w) le sole)
-steps_copy c label s (Tx p r l) m later well acts = tx_step c label s p r l m later well acts
-steps_copy c label s (Enq p ring l) m later well acts = enq_step c label s p ring l m later well acts
-steps_copy c label s Exit m later well acts = exit_step c label s m later well acts
+steps_copy c label s (Tx p r l) m later well (k, port, packets, holds, is_port, is_there, is) =
+    sends c label s (Tx p r l) m later p (slice_index s.numbers r) l k port packets (λ answers. refl) holds is_port is_there is
+steps_copy c label s (Enq p ring l) m later well (k, spec, packets, holds, is_ring, is_there, is) =
+    enqueues c label s (Enq p ring l) m later p ring l k spec packets (λ answers. refl) holds is_ring is_there is
+steps_copy c label s Exit m later well (gone, is) = by c label s Exit later m _ is
+    (ap (λ b. provided {A = CopyMove} b (Ended, copied c.env.pools s later)) (all_gone c.env.pools s.world.buffers s.packets gone))
 steps_copy c label s i m later well acts = by c label s i later m _ acts.2 (ap (option_map (leads c s later)) acts.1)

@@ -160,13 +160,13 @@ module _ (env : Environment) (label : ℕ) (i : Instr) where
 
   -- a calculation
   counts : (kind : Calculation i) → calculates kind ≡ true → Leading env label i
-  counts (Sets r x number top does to within grows) is = On (λ row. with_bound row r (top (bound row (Register r)) (bound row x))) (to env label)
+  counts (Sets r x number top does to within grows plain) is = On (λ row. with_bound row r (top (bound row (Register r)) (bound row x))) (to env label)
       (λ a b s fits fits' target. bound_set a b r _ _ s (grows _ _ _ _ (bound_at a b (Register r) s) (bound_at a b x s)))
-  counts (Jumps r x l test top names does to within grows) is = Forks l (λ row. row)
+  counts (Jumps r x l test top names does to within grows plain) is = Forks l (λ row. row)
       (λ row. with_bound row r (top (bound row (Register r)) (bound row x))) names (to env label) (λ a b s fits fits' target. s)
       (λ a b s fits fits' target. bound_set a b r _ _ s (grows _ _ _ _ (bound_at a b (Register r) s) (bound_at a b x s)))
-  counts (Goes l names does to) is = To l names (to env label)
-  counts (Finds r table x l names does to there) is = Forks l (λ row. with_bound row r 16777215) (λ row. row) names (to env label)
+  counts (Goes l names does to plain) is = To l names (to env label)
+  counts (Finds r table x l names does to there plain) is = Forks l (λ row. with_bound row r 16777215) (λ row. row) names (to env label)
       (λ a b s fits fits' target. bound_set a b r 16777215 16777215 s (omega arith)) (λ a b s fits fits' target. s)
   counts (Handles_packets none) is = cc is
 

@@ -19,7 +19,7 @@ use Rattle.dp_model.specs.Prefixes.{Route, hop_for}
 use Rattle.dp_model.specs.Jumps.{label_of}
 use Rattle.dp_model.specs.Rows.{leads, onward, fork, bound, with_bound}
 use Rattle.dp_model.specs.Rules.{indices_exist}
-use Rattle.dp_model.specs.Machine.{calculated, sets, jumps, finds}
+use Rattle.dp_model.specs.Machine.{Setting, State, Move, Acts, moves_to, calculated, sets, jumps, finds}
 
 -- ---- numbers and their bounds
 
@@ -70,26 +70,37 @@ shifted_more m n k le = le-div (m / 2 ^ k) n (2 ^ k) (omega (arith, one-le-pow k
 
 -- ---- the instructions
 
+-- what an instruction does that handles no packet
+abbrev pub Plain : Setting → State → Option (ℕ × List ℕ) → Move → Type 0
+Plain c s o m = (after : ℕ × List ℕ) × (o ≡ Some after) × (m ≡ moves_to after.0 (record s { numbers = after.1 }))
+
+abbrev pub IsPlain : Instr → Type 0
+IsPlain i = (c : Setting) (label : ℕ) (s : State) (m : Move) →
+    (Acts c label s i m → Plain c s (calculated c.tables label s.numbers i) m) × (Plain c s (calculated c.tables label s.numbers i) m → Acts c label s i m)
+
+abbrev pub same : {A : Type 0} → (A → A) × (A → A)
+same = (λ a. a, λ a. a)
+
 -- What an instruction gives to a register r, out of r and an operand, and what is known of it; where it jumps, and what is
 -- known of r there
 pub data Calculation (i : Instr) : Type 0 where
   Sets : (r : ℕ) (x : Operand) (number top : ℕ → ℕ → ℕ)
       → ((tables : List (List Route)) (label : ℕ) (ns : List ℕ) → calculated tables label ns i ≡ sets label ns r (number (slice_index ns r) (value ns x)))
       → ((env : Environment) (label : ℕ) (row : Row) → leads env label row i ≡ onward label (with_bound row r (top (bound row (Register r)) (bound row x))))
-      → ((m n : ℕ) → number m n ≤ top m n) → Grows top → Calculation i
+      → ((m n : ℕ) → number m n ≤ top m n) → Grows top → IsPlain i → Calculation i
   Jumps : (r : ℕ) (x : Operand) (l : ℕ) (test : ℕ → ℕ → Bool) (top : ℕ → ℕ → ℕ) → label_of i ≡ Some l
       → ((tables : List (List Route)) (label : ℕ) (ns : List ℕ) → calculated tables label ns i ≡ jumps (test (slice_index ns r) (value ns x)) label l ns)
       → ((env : Environment) (label : ℕ) (row : Row) → leads env label row i
       ≡ fork label row l (with_bound row r (top (bound row (Register r)) (bound row x))))
-      → ((m n : ℕ) → test m n ≡ true → m ≤ top m n) → Grows top → Calculation i
+      → ((m n : ℕ) → test m n ≡ true → m ≤ top m n) → Grows top → IsPlain i → Calculation i
   Goes : (l : ℕ) → label_of i ≡ Some l
       → ((tables : List (List Route)) (label : ℕ) (ns : List ℕ) → calculated tables label ns i ≡ Some (l, ns))
-      → ((env : Environment) (label : ℕ) (row : Row) → leads env label row i ≡ record { to = l; row = row } ∷ []) → Calculation i
+      → ((env : Environment) (label : ℕ) (row : Row) → leads env label row i ≡ record { to = l; row = row } ∷ []) → IsPlain i → Calculation i
   Finds : (r table x l : ℕ) → label_of i ≡ Some l
       → ((tables : List (List Route)) (label : ℕ) (ns : List ℕ) → calculated tables label ns i
       ≡ finds (slice_get tables table) (slice_index ns x % 2 ^ 32) label r l ns)
       → ((env : Environment) (label : ℕ) (row : Row) → leads env label row i ≡ fork label (with_bound row r largest_hop) l row)
-      → ((env : Environment) → indices_exist env i ≡ nat_lt table env.tables) → Calculation i
+      → ((env : Environment) → indices_exist env i ≡ nat_lt table env.tables) → IsPlain i → Calculation i
   Handles_packets : ((tables : List (List Route)) (label : ℕ) (ns : List ℕ) → calculated tables label ns i ≡ None) → Calculation i
 
 abbrev pub calculates : {i : Instr} → Calculation i → Bool
@@ -99,27 +110,30 @@ calculates _ = true
 -- each instruction is one of them, or handles packets
 unfoldable pub calculation_of : (i : Instr) → Calculation i
 calculation_of (Set r n) = Sets r (Constant n) (λ m n. n) (λ m n. n) (λ tables label ns. refl) (λ env label row. refl) (λ m n. omega arith)
-    (λ m n m' n' le le'. le')
+    (λ m n m' n' le le'. le') (λ c label s m. same)
 calculation_of (Mov r s) = Sets r (Register s) (λ m n. n) (λ m n. n) (λ tables label ns. refl) (λ env label row. refl) (λ m n. omega arith)
-    (λ m n m' n' le le'. le')
+    (λ m n m' n' le le'. le') (λ c label s m. same)
 calculation_of (Add r x) = Sets r x (λ m n. wrapped (m + n)) (λ m n. min (m + n) greatest) (λ tables label ns. refl) (λ env label row. refl)
-    (λ m n. omega (arith, wrapped_le (m + n))) (λ m n m' n' le le'. omega (arith, le, le'))
+    (λ m n. omega (arith, wrapped_le (m + n))) (λ m n m' n' le le'. omega (arith, le, le')) (λ c label s m. same)
 calculation_of (Sub r x) = Sets r x (λ m n. wrapped (m + (2 ^ 64 - n))) (λ m n. greatest) (λ tables label ns. refl) (λ env label row. refl)
-    (λ m n. (wrapped_le (m + (2 ^ 64 - n))).1) (λ m n m' n' le le'. omega arith)
+    (λ m n. (wrapped_le (m + (2 ^ 64 - n))).1) (λ m n m' n' le le'. omega arith) (λ c label s m. same)
 calculation_of (And r x) = Sets r x bit_and min (λ tables label ns. refl) (λ env label row. refl) (λ m n. omega (arith, and_le_l m n, and_le_r m n))
-    (λ m n m' n' le le'. omega (arith, le, le'))
+    (λ m n m' n' le le'. omega (arith, le, le')) (λ c label s m. same)
 calculation_of (Or r x) = Sets r x bit_or (λ m n. all_ones (max m n)) (λ tables label ns. refl) (λ env label row. refl) or_within ones_grow
+    (λ c label s m. same)
 calculation_of (Xor r x) = Sets r x bit_xor (λ m n. all_ones (max m n)) (λ tables label ns. refl) (λ env label row. refl) xor_within ones_grow
+    (λ c label s m. same)
 calculation_of (Shl r k) = Sets r (Constant k) (λ m n. wrapped (m * 2 ^ k)) (λ m n. min (m * 2 ^ k) greatest) (λ tables label ns. refl)
     (λ env label row. refl) (λ m n. omega (arith, wrapped_le (m * 2 ^ k))) (λ m n m' n' le le'. omega (arith, mul-le-mul_right (2 ^ k) le))
-calculation_of (Shr r k) = Sets r (Constant k) (λ m n. m / 2 ^ k) (λ m n. m / 2 ^ k) (λ tables label ns. refl) (λ env label row. refl)
-    (λ m n. omega arith) (λ m n m' n' le le'. shifted_more m m' k le)
-calculation_of (Jmp l) = Goes l refl (λ tables label ns. refl) (λ env label row. refl)
+    (λ c label s m. same)
+calculation_of (Shr r k) = Sets r (Constant k) (λ m n. m / 2 ^ k) (λ m n. m / 2 ^ k) (λ tables label ns. refl) (λ env label row. refl) (λ m n. omega arith)
+    (λ m n m' n' le le'. shifted_more m m' k le) (λ c label s m. same)
+calculation_of (Jmp l) = Goes l refl (λ tables label ns. refl) (λ env label row. refl) (λ c label s m. same)
 calculation_of (Jeq r x l) = Jumps r x l (λ m n. m == n) min refl (λ tables label ns. refl) (λ env label row. refl)
-    (λ m n yes. omega (arith, eqb-true m n yes)) (λ m n m' n' le le'. omega (arith, le, le'))
+    (λ m n yes. omega (arith, eqb-true m n yes)) (λ m n m' n' le le'. omega (arith, le, le')) (λ c label s m. same)
 calculation_of (Jlt r k l) = Jumps r (Constant k) l nat_lt (λ m n. min m (n - 1)) refl (λ tables label ns. refl) (λ env label row. refl)
-    (λ m n yes. omega (arith, ltb-true m n yes)) (λ m n m' n' le le'. omega (arith, le, le'))
-calculation_of (Lookup r table x l) = Finds r table x l refl (λ tables label ns. refl) (λ env label row. refl) (λ env. refl)
+    (λ m n yes. omega (arith, ltb-true m n yes)) (λ m n m' n' le le'. omega (arith, le, le')) (λ c label s m. same)
+calculation_of (Lookup r table x l) = Finds r table x l refl (λ tables label ns. refl) (λ env label row. refl) (λ env. refl) (λ c label s m. same)
 calculation_of _ = Handles_packets (λ tables label ns. refl)
 
 -- ---- where they lead
@@ -150,10 +164,10 @@ calculated_next i tables label ns after e = go (calculation_of i)
         hop (Some h) is = inl (first_is (label + 1) (slice_set ns r h) after is)
 
     go : Calculation i → (after.0 ≡ label + 1) ⊎ (label_of i ≡ Some after.0)
-    go (Sets r x number top does to within grows) =
+    go (Sets r x number top does to within grows plain) =
         inl (first_is (label + 1) (slice_set ns r (number (slice_index ns r) (value ns x))) after (sym (does tables label ns) ∙ e))
-    go (Jumps r x l test top names does to within grows) = jumped (test (slice_index ns r) (value ns x)) l names (sym (does tables label ns) ∙ e)
-    go (Goes l names does to) = named l names (sym (does tables label ns) ∙ e)
-    go (Finds r table x l names does to there) =
+    go (Jumps r x l test top names does to within grows plain) = jumped (test (slice_index ns r) (value ns x)) l names (sym (does tables label ns) ∙ e)
+    go (Goes l names does to plain) = named l names (sym (does tables label ns) ∙ e)
+    go (Finds r table x l names does to there plain) =
         found (slice_get tables table) (slice_index ns x % 2 ^ 32) r l names (sym (does tables label ns) ∙ e)
     go (Handles_packets none) = let no : None ≡ Some after = sym (none tables label ns) ∙ e in cc
