@@ -1,5 +1,5 @@
 -- What the rules say of all labels.
-use Rattle.std.proofs.Common.{◌≡◌, ℕ, zero, suc, ◌≤◌, ◌<◌, true, false, List, [], ◌∷◌, length, Some, Option, None, refl, subst, ◌∙◌, ◌+◌, inl, inr, arith}
+use Rattle.std.proofs.Common.{◌≡◌, ℕ, zero, suc, ◌≤◌, ◌<◌, true, false, List, [], ◌∷◌, length, Some, None, refl, ◌∙◌, ◌+◌, inl, inr, arith}
 use Rattle.std.specs.Prelude.{slice_get, IsTrue}
 use Rattle.std.specs.List.{list_all}
 use Rattle.std.proofs.lemmas.Bool.{and_parts, eq-eqb, cases_lt}
@@ -7,14 +7,9 @@ use borrow.Author.Count.{below_more}
 use Rattle.std.proofs.lemmas.Option.{slice_get_past}
 use Rattle.dp_model.specs.declared.row.Row.{Row}
 use Rattle.dp_model.specs.Rows.{is_well_formed_row}
-use Rattle.dp_model.specs.Rules.{Question, begins_well, holds, fault_at, IsAccepted}
+use Rattle.dp_model.specs.Rules.{Question, holds, fault_at, IsAccepted}
 use Rattle.dp_model.specs.declared.rule.Rule.TheVariants.{J1, J2}
-use Rattle.dp_model.specs.declared.env.Entry.{Entry}
-use Rattle.dp_model.specs.declared.instr.Instr.{Instr}
-use Rattle.dp_model.specs.declared.rule.Rule.{Rule}
-use Rattle.dp_model.specs.Environments.{Environment}
-use Rattle.dp_cert.specs.Spelling.{Certificate}
-use Rattle.dp_check.specs.Faults.{question, later_fault}
+use Rattle.dp_check.specs.Faults.{later_fault}
 
 -- a row of well-formed rows is well formed
 pub well_formed_at : (rows : List Row) (k : ℕ) (row : Row) → IsTrue (list_all is_well_formed_row rows) → slice_get rows k ≡ Some row →
@@ -22,18 +17,6 @@ pub well_formed_at : (rows : List Row) (k : ℕ) (row : Row) → IsTrue (list_al
 well_formed_at (r ∷ rows) zero row h e = let here = (and_parts (is_well_formed_row r) (list_all is_well_formed_row rows) h).0 in cc
 well_formed_at (r ∷ rows) (suc k) row h e = well_formed_at rows k row (and_parts (is_well_formed_row r) (list_all is_well_formed_row rows) h).1 e
 well_formed_at [] k row h e = cc
-
--- what was found of the rows of a certificate
-pub begins_with : (program : List Instr) (rows : List Row) (cert : Certificate) (env : Environment) (entry : Entry) → rows ≡ cert.rows →
-    begins_well (question program (record { version = cert.version; rows = rows }) env entry) ≡ true → begins_well (question program cert env entry) ≡ true
-begins_with program rows cert env entry same begins = subst (λ (rs : List Row).
-    begins_well (question program (record { version = cert.version; rows = rs }) env entry) ≡ true) same begins
-
-pub fault_with : (program : List Instr) (rows : List Row) (cert : Certificate) (env : Environment) (entry : Entry) (label : ℕ) (fault : Option Rule) →
-    rows ≡ cert.rows → later_fault (question program (record { version = cert.version; rows = rows }) env entry) label ≡ fault →
-    later_fault (question program cert env entry) label ≡ fault
-fault_with program rows cert env entry label fault same found = subst (λ (rs : List Row).
-    later_fault (question program (record { version = cert.version; rows = rs }) env entry) label ≡ fault) same found
 
 -- with J1 and J2 the rules of each label are the later ones
 pub later_is : (q : Question) (label : ℕ) → holds q 0 J1 ≡ true → holds q 0 J2 ≡ true → fault_at q label ≡ later_fault q label

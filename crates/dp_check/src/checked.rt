@@ -3,16 +3,15 @@
 ghost use Rattle.std.specs.Prelude.{◌≡◌, ◌≤◌, length, IsTrue, IfSome, IfNone, IfOk, IfErr};
 ghost use Rattle.std.specs.List.{list_all};
 ghost use Rattle.dp_model.specs.Rows.{is_well_formed_row};
-ghost use Rattle.dp_model.specs.Rules.{begins_well, IsAccepted, IsRefused};
+ghost use Rattle.dp_model.specs.Rules.{IsAccepted, IsRefused};
 ghost use Rattle.dp_lang.specs.Programs.{IsProgram};
 ghost use Rattle.dp_cert.specs.Spelling.{Certificate};
-ghost use Rattle.dp_cert.specs.declared.cert.Version.{Version};
 ghost use Rattle.dp_check.specs.Faults.{question, IsWith, IsChecked, IsRefusedWith};
 
-use crate::rules::{fault_at, is_entailed};
+use crate::diagnosis::first_reason;
 use dp_cert::Cert;
 use dp_lang::Program;
-use dp_model::{Entry, Env, Instr, Row, Rule};
+use dp_model::{Entry, Env, Rule};
 use std::fmt::{self, Display, Formatter, Write};
 use std::marker::Model;
 
@@ -94,37 +93,16 @@ impl Display for Refused {
     }
 }
 
-/// Whether the entry's row entails the first.
-fn begins_well(program: &[Instr], rows: &[Row], env: &Env, entry: Entry) -> bool
-    ensures { (version : Version) → result ≡ begins_well (question program.now (record { version = version; rows = rows.now }) env.now entry) }
-{
-    match env.entry_row(entry) {
-        Some(row) => is_entailed(rows, &row, 0),
-        None => false,
-    }
-}
-
 /// The least failing label with its first failing rule.
-#[tactic(auto, using(crate::proofs::RuleLemmas::later_is, crate::proofs::RuleLemmas::later_past))]
-fn first_fault(program: &[Instr], cert: &Cert, env: &Env, entry: Entry) -> Option<(u16, Rule)>
-    requires at_most { length program.now ≤ 1024 }
+fn first_fault(program: &Program, cert: &Cert, env: &Env, entry: Entry) -> Option<(u16, Rule)>
     ensures none { IfNone result (IsAccepted (question program.now cert.now env.now entry)) }
     ensures some { IfSome result (λ f. IsRefused (question program.now cert.now env.now entry) f.0 f.1) }
     ensures well_formed { IsTrue (list_all is_well_formed_row cert.now.rows) }
 {
-    let rows = cert.rows();
-    if rows.len() != program.len() {
-        return Some((0, Rule::J1));
+    match first_reason(program.instrs(), cert.rows(), env, entry) {
+        Some(found) => Some((found.label, found.reason.rule())),
+        None => None,
     }
-    if !begins_well(program, rows, env, entry) {
-        return Some((0, Rule::J2));
-    }
-    for label in 0..program.len() as u16 {
-        if let Some(rule) = fault_at(program, rows, env, label) {
-            return Some((label, rule));
-        }
-    }
-    None
 }
 
 /// Why a program would be refused: the least failing label and its first failing rule, or nothing where it would be
@@ -133,7 +111,7 @@ pub fn fault_of(program: &Program, cert: &Cert, env: &Env, entry: Entry) -> Opti
     ensures none { IfNone result (IsAccepted (question program.now cert.now env.now entry)) }
     ensures some { IfSome result (λ f. IsRefused (question program.now cert.now env.now entry) f.0 f.1) }
 {
-    first_fault(program.instrs(), cert, env, entry)
+    first_fault(program, cert, env, entry)
 }
 
 /// Whether a program may be run in an environment at an entry, as its certificate shows. Each instruction is looked
@@ -149,7 +127,7 @@ pub fn check(program: Program, cert: Cert, env: &Env, entry: Entry) -> Result<Ch
     ensures program_back { IfErr result (λ r. r.program ≡ program) }
     ensures cert_back { IfErr result (λ r. r.cert ≡ cert) }
 {
-    match first_fault(program.instrs(), &cert, env, entry) {
+    match first_fault(&program, &cert, env, entry) {
         Some((label, rule)) => Err(Refused {
             label,
             rule: rule.number(),

@@ -2,7 +2,6 @@
 
 ghost use Rattle.std.specs.Prelude.{◌≡◌, ◌<◌, ◌≤◌, true, false, length, IsTrue, IfSome, IfNone};
 ghost use Rattle.std.specs.List.{list_all};
-ghost use Rattle.std.specs.Option.{option_map};
 ghost use Rattle.dp_model.specs.declared.rule.Rule.TheVariants.{J2};
 ghost use Rattle.dp_model.specs.Rows.{is_well_formed_row};
 ghost use Rattle.dp_model.specs.Rules.{begins_well, IsAccepted};
@@ -13,7 +12,7 @@ ghost use Rattle.dp_check.specs.Diagnoses.{rule_of, Explains, IsDiagnosis, SaysO
 use crate::entailing::entails;
 use crate::gap::gap;
 use crate::reason::Reason;
-use crate::shortfall::reason_in;
+use crate::rules::reason_at;
 use dp_cert::Cert;
 use dp_lang::Program;
 use dp_model::{Entry, Env, Instr, Row};
@@ -45,28 +44,14 @@ fn entry_reason(program: &[Instr], rows: &[Row], env: &Env, entry: Entry) -> Opt
     }
 }
 
-/// Why the first of the rules from J3 on that fails at a label does, if one does.
-#[tactic(auto, using(crate::proofs::RuleLemmas::well_formed_at))]
-fn reason_at(program: &[Instr], rows: &[Row], env: &Env, label: u16) -> Option<Reason>
-    requires in_range { label < length program.now }
-    requires at_most { length program.now ≤ 1024 }
-    requires same_length { length rows.now ≡ length program.now }
-    requires well_formed { IsTrue (list_all is_well_formed_row rows.now) }
-    ensures rule { (version : Version) (entry : Entry) → option_map rule_of result
-        ≡ later_fault (question program.now (record { version = version; rows = rows.now }) env.now entry) label }
-    ensures explains { (version : Version) (entry : Entry) → IfSome result
-        (Explains (question program.now (record { version = version; rows = rows.now }) env.now entry) label) }
-{
-    let row = &rows[label as usize];
-    if !row.live {
-        return None;
-    }
-    reason_in(program, rows, env, label, &program[label as usize], row)
-}
-
 /// Why a program with its rows is refused, if it is.
 #[tactic(auto, using(crate::proofs::RuleLemmas::later_is, crate::proofs::RuleLemmas::later_past))]
-fn first_reason(program: &[Instr], rows: &[Row], env: &Env, entry: Entry) -> Option<Diagnosis>
+pub(crate) fn first_reason(
+    program: &[Instr],
+    rows: &[Row],
+    env: &Env,
+    entry: Entry,
+) -> Option<Diagnosis>
     requires some { 0 < length program.now }
     requires at_most { length program.now ≤ 1024 }
     requires well_formed { IsTrue (list_all is_well_formed_row rows.now) }

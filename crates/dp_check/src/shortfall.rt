@@ -1,27 +1,18 @@
 //! What an instruction wants and does not get, for each rule that fails at it.
 
-ghost use Rattle.std.specs.Prelude.{◌≡◌, ℕ, ◌+◌, ◌<◌, ◌≤◌, ◌∷◌, [], true, false, not, find, length, Some, IsTrue, IfSome, IfNone, MatchOption, nat_lt, nat_le, slice_get};
+ghost use Rattle.std.specs.Prelude.{◌≡◌, ℕ, ◌+◌, ◌<◌, ◌≤◌, true, false, length, IfSome, IfNone, MatchOption, slice_get};
 ghost use Rattle.std.specs.List.{list_all};
-ghost use Rattle.std.specs.Option.{option_map};
-ghost use Rattle.dp_model.specs.declared.env.Entry.{Entry};
 ghost use Rattle.dp_model.specs.declared.rule.Rule.TheVariants.{J3, J5, J6, J7, J8, J9, J10};
-ghost use Rattle.dp_model.specs.Rows.{entails, entails_share, is_empty, is_well_formed_row};
+ghost use Rattle.dp_model.specs.Rows.{entails_share, is_empty};
 ghost use Rattle.dp_model.specs.Rules.{Question, indices_exist, is_held, uses, targets_fit, bytes_fit, share_fits, segments_fit, may_leave, may_end};
-ghost use Rattle.dp_model.specs.Rules.{row_passes, holds_at, later_rules};
-ghost use Rattle.dp_cert.specs.declared.cert.Version.{Version};
-ghost use Rattle.dp_check.specs.Faults.{question};
-ghost use Rattle.dp_check.specs.Leads.{last_label, listed};
-ghost use Rattle.dp_check.specs.Diagnoses.{Is, IsUnmet, Says, SomeOf, measured, measured_at, rule_of, segs_in, share_in};
+ghost use Rattle.dp_check.specs.Diagnoses.{Is, Says, SomeOf, measured, measured_at, rule_of, segs_in, share_in};
 
-use crate::after::{Leads, leads_of};
-use crate::entailing::{entails, fact_entails, share_entails};
-use crate::gap::gap;
+use crate::entailing::{fact_entails, share_entails};
 use crate::reason::{Measure, Reason};
-use crate::rules::is_held;
-use dp_model::{Env, Fact, Instr, Lead, MOST_SEGMENTS, PacketRegister, Row};
+use dp_model::{Env, Fact, Instr, MOST_SEGMENTS, PacketRegister, Row};
 
 /// The pool, the table or the ring that is not there, if the instruction names one.
-fn missing_index(env: &Env, instr: Instr) -> Option<Reason>
+pub(crate) fn missing_index(env: &Env, instr: Instr) -> Option<Reason>
     ensures none { IfNone result (indices_exist env.now instr ≡ true) }
     ensures some { IfSome result (λ reason. (indices_exist env.now instr ≡ false) × (rule_of reason ≡ J3)) }
     ensures says { (q : Question) → q.env ≡ env.now → (label : ℕ) (row : Row) → IfSome result (Says q label instr row) }
@@ -55,46 +46,18 @@ fn missing_index(env: &Env, instr: Instr) -> Option<Reason>
     }
 }
 
-/// Where this leads, if that is behind the last instruction.
-fn behind(lead: &Lead, count: usize) -> Option<u16>
-    ensures { MatchOption result (lead.now.to < count) (λ to. (to ≡ lead.now.to) × (count ≤ to)) }
-{
-    if (lead.to as usize) < count {
-        None
-    } else {
-        Some(lead.to)
-    }
-}
-
-/// The label behind the last instruction to which control goes, if it goes there.
-fn label_behind(leads: &Leads, count: usize) -> Option<u16>
-    ensures none { IfNone result (list_all (λ to. nat_lt to.to count) (listed leads.now) ≡ true) }
-    ensures some { IfSome result (λ to. (list_all (λ to. nat_lt to.to count) (listed leads.now) ≡ false)
-        × SomeOf (λ lead. lead.to ≡ to) (listed leads.now) × (count ≤ to)) }
-{
-    match leads {
-        Leads::Ends => None,
-        Leads::One(lead) => behind(lead, count),
-        Leads::Two(lead, other) => match behind(lead, count) {
-            Some(to) => Some(to),
-            None => behind(other, count),
-        },
-    }
-}
-
 /// The packet register, if it is empty.
 fn not_held(row: &Row, packet: PacketRegister) -> Option<PacketRegister>
     ensures { MatchOption result (is_held row.now packet ≡ true) (λ p. (p ≡ packet) × (is_held row.now packet ≡ false)) }
 {
-    if is_held(row, packet) {
-        None
-    } else {
-        Some(packet)
+    match row.fact(packet) {
+        Fact::Held { .. } => None,
+        Fact::Empty => Some(packet),
     }
 }
 
 /// A packet register that is used and empty, if there is one.
-fn empty_use(row: &Row, instr: Instr) -> Option<PacketRegister>
+pub(crate) fn empty_use(row: &Row, instr: Instr) -> Option<PacketRegister>
     ensures none { IfNone result (list_all (is_held row.now) (uses instr) ≡ true) }
     ensures some { IfSome result (λ p. (list_all (is_held row.now) (uses instr) ≡ false)
         × SomeOf (λ used. used ≡ p) (uses instr) × (is_held row.now p ≡ false)) }
@@ -125,7 +88,7 @@ fn empty_use(row: &Row, instr: Instr) -> Option<PacketRegister>
 }
 
 /// The register that should be empty, or that is chained to itself, if there is one.
-fn unfit_target(row: &Row, instr: Instr) -> Option<Reason>
+pub(crate) fn unfit_target(row: &Row, instr: Instr) -> Option<Reason>
     ensures none { IfNone result (targets_fit row.now instr ≡ true) }
     ensures some { IfSome result (λ reason. (targets_fit row.now instr ≡ false) × (rule_of reason ≡ J5)) }
     ensures says { (q : Question) (label : ℕ) → IfSome result (Says q label instr row.now) }
@@ -199,7 +162,7 @@ fn too_little(
 }
 
 /// What is taken and is not there, if it is not.
-fn unfit_bytes(row: &Row, instr: Instr) -> Option<Reason>
+pub(crate) fn unfit_bytes(row: &Row, instr: Instr) -> Option<Reason>
     requires held { list_all (is_held row.now) (uses instr) ≡ true }
     ensures none { IfNone result (bytes_fit row.now instr ≡ true) }
     ensures some { IfSome result (λ reason. (bytes_fit row.now instr ≡ false) × (rule_of reason ≡ J6)) }
@@ -286,7 +249,7 @@ fn not_alone(packet: PacketRegister, known: Fact, wanted: u8) -> Option<Reason>
 }
 
 /// The packet that is written though others may have it, if they may.
-fn unfit_share(row: &Row, instr: Instr) -> Option<Reason>
+pub(crate) fn unfit_share(row: &Row, instr: Instr) -> Option<Reason>
     requires held { list_all (is_held row.now) (uses instr) ≡ true }
     ensures none { IfNone result (share_fits row.now instr ≡ true) }
     ensures some { IfSome result (λ reason. (share_fits row.now instr ≡ false) × (rule_of reason ≡ J7)) }
@@ -306,7 +269,7 @@ fn unfit_share(row: &Row, instr: Instr) -> Option<Reason>
 }
 
 /// The packets that are too long together, if they are.
-fn unfit_segments(row: &Row, instr: Instr) -> Option<Reason>
+pub(crate) fn unfit_segments(row: &Row, instr: Instr) -> Option<Reason>
     requires held { list_all (is_held row.now) (uses instr) ≡ true }
     ensures none { IfNone result (segments_fit row.now instr ≡ true) }
     ensures some { IfSome result (λ reason. (segments_fit row.now instr ≡ false) × (rule_of reason ≡ J8)) }
@@ -331,7 +294,7 @@ fn unfit_segments(row: &Row, instr: Instr) -> Option<Reason>
 }
 
 /// The port that is not there, or what the ring declares, if there is less.
-fn unfit_exit(env: &Env, row: &Row, instr: Instr) -> Option<Reason>
+pub(crate) fn unfit_exit(env: &Env, row: &Row, instr: Instr) -> Option<Reason>
     requires places { indices_exist env.now instr ≡ true }
     ensures none { IfNone result (may_leave env.now row.now instr ≡ true) }
     ensures some { IfSome result (λ reason. (may_leave env.now row.now instr ≡ false) × (rule_of reason ≡ J9)) }
@@ -382,42 +345,8 @@ fn first_held(facts: &[Fact; 8]) -> Option<PacketRegister>
     None
 }
 
-/// What the row at a label wants beyond what is known where control goes there, if it wants more.
-fn unmet(rows: &[Row], lead: &Lead) -> Option<Reason>
-    requires exist { lead.now.to < length rows.now }
-    ensures none { IfNone result (row_passes rows.now lead.now.to (entails lead.now.row) ≡ true) }
-    ensures some { IfSome result (λ reason. (row_passes rows.now lead.now.to (entails lead.now.row) ≡ false) × IsUnmet rows.now (lead.now ∷ []) reason) }
-{
-    let there = &rows[lead.to as usize];
-    if entails(&lead.row, there) {
-        return None;
-    }
-    Some(Reason::Successor {
-        to: lead.to,
-        gap: gap(&lead.row, there),
-    })
-}
-
-/// The lead to a row that wants more than is known, if there is one.
-fn unmet_lead(rows: &[Row], leads: &Leads, count: usize) -> Option<Reason>
-    requires exist { list_all (λ to. nat_lt to.to count) (listed leads.now) ≡ true }
-    requires rows { length rows.now ≡ count }
-    ensures none { IfNone result (list_all (λ to. row_passes rows.now to.to (entails to.row)) (listed leads.now) ≡ true) }
-    ensures some { IfSome result (λ reason. (list_all (λ to. row_passes rows.now to.to (entails to.row)) (listed leads.now) ≡ false)
-        × IsUnmet rows.now (listed leads.now) reason) }
-{
-    match leads {
-        Leads::Ends => None,
-        Leads::One(lead) => unmet(rows, lead),
-        Leads::Two(lead, other) => match unmet(rows, lead) {
-            Some(reason) => Some(reason),
-            None => unmet(rows, other),
-        },
-    }
-}
-
 /// The packet that is held at the end, if one is.
-fn unfit_end(row: &Row, instr: Instr) -> Option<Reason>
+pub(crate) fn unfit_end(row: &Row, instr: Instr) -> Option<Reason>
     ensures none { IfNone result (may_end row.now instr ≡ true) }
     ensures some { IfSome result (λ reason. (may_end row.now instr ≡ false) × (rule_of reason ≡ J10)) }
     ensures says { (q : Question) (label : ℕ) → IfSome result (Says q label instr row.now) }
@@ -432,54 +361,4 @@ fn unfit_end(row: &Row, instr: Instr) -> Option<Reason>
         }
         _ => None,
     }
-}
-
-/// Why the first rule that fails at a live label fails, if one does.
-pub(crate) fn reason_in(
-    program: &[Instr],
-    rows: &[Row],
-    env: &Env,
-    label: u16,
-    instr: &Instr,
-    row: &Row,
-) -> Option<Reason>
-    requires in_range { label < last_label }
-    requires same_length { length rows.now ≡ length program.now }
-    requires well_formed { IsTrue (is_well_formed_row row.now) }
-    ensures rule { (version : Version) (entry : Entry) → option_map rule_of result
-        ≡ find (λ rule. not (holds_at (question program.now (record { version = version; rows = rows.now }) env.now entry) label instr.now row.now rule))
-        later_rules }
-    ensures says { (version : Version) (entry : Entry) → IfSome result
-        (Says (question program.now (record { version = version; rows = rows.now }) env.now entry) label instr.now row.now) }
-{
-    let ways = leads_of(*instr, env, label, row);
-    let count = program.len();
-    if let Some(reason) = missing_index(env, *instr) {
-        return Some(reason);
-    }
-    if let Some(to) = label_behind(&ways, count) {
-        return Some(Reason::NoInstruction { to, known: count });
-    }
-    if let Some(packet) = empty_use(row, *instr) {
-        return Some(Reason::NotHeld { packet });
-    }
-    if let Some(reason) = unfit_target(row, *instr) {
-        return Some(reason);
-    }
-    if let Some(reason) = unfit_bytes(row, *instr) {
-        return Some(reason);
-    }
-    if let Some(reason) = unfit_share(row, *instr) {
-        return Some(reason);
-    }
-    if let Some(reason) = unfit_segments(row, *instr) {
-        return Some(reason);
-    }
-    if let Some(reason) = unfit_exit(env, row, *instr) {
-        return Some(reason);
-    }
-    if let Some(reason) = unfit_end(row, *instr) {
-        return Some(reason);
-    }
-    unmet_lead(rows, &ways, count)
 }

@@ -1,7 +1,7 @@
 -- What each rule's part ensures.
 use Rattle.std.proofs.Common.{refl}
 use Rattle.dp_check.specs.Faults.{question}
-use Rattle.dp_check.proofs.shortfall.reason_in.Goals as goal
+use Rattle.dp_check.proofs.rules.reason_in.Goals as goal
 
 pub returns-in-Some-clause-says : goal.returns-in-Some-clause-says
 returns-in-Some-clause-says c = λ version entry. c.in-Some.ensures.says

@@ -2,7 +2,7 @@
 use Rattle.std.proofs.Common.{◌∙◌, sym, ap, Some, false, [], arith}
 use Rattle.dp_check.specs.Faults.{question}
 use Rattle.dp_check.proofs.GapLemmas.{explained, at_index}
-use Rattle.dp_check.proofs.diagnosis.reason_at.Goals as goal
+use Rattle.dp_check.proofs.rules.reason_at.Goals as goal
 
 pub returns-clause-explains : goal.returns-clause-explains
 returns-clause-explains c = λ version entry.
