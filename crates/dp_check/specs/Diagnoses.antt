@@ -1,20 +1,21 @@
 -- What a diagnosis says of a program that is refused: what is known, and what the rule wants.
-use Rattle.std.specs.Prelude.{◌≡◌, ◌≢◌, ◌⊎◌, ℕ, ◌+◌, ◌<◌, ◌≤◌, ◌==◌, false, ◌&&◌, if◌then◌else◌, List, [], ◌∷◌, length, Option, Some, None}
+use Rattle.std.specs.Prelude.{◌≡◌, ◌≢◌, ◌⊎◌, ℕ, ◌+◌, ◌<◌, ◌≤◌, false, ◌&&◌, nat_lt, nat_le, List, [], ◌∷◌, length, replicate, Option, Some, None}
 use Rattle.std.specs.Prelude.{MatchOption, slice_get}
 use Rattle.std.proofs.Math.Bool.{beq}
 use Rattle.std.specs.Option.{option_map_or}
 use Rattle.dp_model.specs.declared.row.Fact.{Fact}
 use Rattle.dp_model.specs.declared.row.Fact.TheVariants.{Empty, Held}
 use Rattle.dp_model.specs.declared.row.Row.{Row}
+use Rattle.dp_model.specs.declared.row.Holding.{Holding}
 use Rattle.dp_model.specs.declared.row.Lead.{Lead}
 use Rattle.dp_model.specs.declared.registers.Operand.TheVariants.{Register}
 use Rattle.dp_model.specs.declared.instr.Instr.{Instr}
-use Rattle.dp_model.specs.declared.instr.Instr.TheVariants.{Alloc, Clone, Prepend, Adj, Append, Trim, Chain, Load, Store, LoadX, StoreX, Lookup, Tx, Enq, Exit}
-use Rattle.dp_model.specs.Arithmetic.{bytes_in}
+use Rattle.dp_model.specs.declared.instr.Instr.TheVariants.{Chain, Exit}
+use Rattle.dp_model.specs.Environments.{Environment}
 use Rattle.dp_model.specs.Groups.{group_of, is_in}
 use Rattle.dp_model.specs.Limits.{most_segments}
-use Rattle.dp_model.specs.Rows.{is_empty, entails_fact, entails_share, entry_row, fact_of_ring, bound, leads}
-use Rattle.dp_model.specs.Rules.{Question, is_held, uses, IsRefused}
+use Rattle.dp_model.specs.Rows.{is_empty, holding, held, held_at, entails_fact, entails_option, entails_share, entry_row, fact_of_ring, bound, leads}
+use Rattle.dp_model.specs.Rules.{Question, is_held, is_empty_at, holds_with, uses, indices_exist, targets_fit, bytes_fit, share_fits, may_leave, IsRefused}
 use Rattle.dp_model.specs.declared.rule.Rule.{Rule}
 use Rattle.dp_model.specs.declared.rule.Rule.TheVariants.{J1, J2, J3, J4, J5, J6, J7, J8, J9, J10, J11}
 use Rattle.dp_check.specs.declared.reason.Measure.{Measure}
@@ -83,58 +84,7 @@ IsGap a b (gap.Packet p known wanted) = IsFactGap a.facts b.facts p known wanted
 IsGap a b (gap.Group g p known wanted) = IsGroupGap a.facts b.facts g p known wanted
 IsGap a b (gap.Number r known wanted) = IsBoundGap a.bounds b.bounds r known wanted
 
--- ---- what an instruction asks for
-
-abbrev pub pool_of : Instr → Option ℕ
-pool_of (Alloc p pool l) = Some pool
-pool_of (Clone p q pool l) = Some pool
-pool_of _ = None
-
-abbrev pub table_of : Instr → Option ℕ
-table_of (Lookup r table s l) = Some table
-table_of _ = None
-
--- the register and the ring of `enq`
-abbrev pub queued_at : Instr → Option (ℕ × ℕ)
-queued_at (Enq p ring l) = Some (p, ring)
-queued_at _ = None
-
-abbrev pub ring_of : Instr → Option ℕ
-ring_of (Enq p ring l) = Some ring
-ring_of _ = None
-
--- the register that gets a new packet
-abbrev pub target_of : Instr → Option ℕ
-target_of (Alloc p pool l) = Some p
-target_of (Clone p q pool l) = Some p
-target_of _ = None
-
--- the register that names a port
-abbrev pub port_of : Instr → Option ℕ
-port_of (Tx p r l) = Some r
-port_of _ = None
-
--- bytes of a packet, or room at it: so many, counted from a place
-pub record Need : Type 0 where
-  pub packet : ℕ
-  pub part : Measure
-  pub start : ℕ
-  pub count : ℕ
-
-abbrev pub need : ℕ → Measure → ℕ → ℕ → Option Need
-need p part start count = Some (record { packet = p; part = part; start = start; count = count })
-
--- what an instruction takes; an index counts with its greatest value
-abbrev pub need_of : Row → Instr → Option Need
-need_of row (Prepend p n) = need p measure.Headroom 0 n
-need_of row (Adj p n) = need p measure.First 0 n
-need_of row (Append p n) = need p measure.Tailroom 0 n
-need_of row (Trim p n) = need p measure.Last 0 n
-need_of row (Load r p off w) = need p measure.First 0 (off + bytes_in w)
-need_of row (Store p off w r) = need p measure.First 0 (off + bytes_in w)
-need_of row (LoadX r p s off w) = need p measure.First (bound row (Register s)) (off + bytes_in w)
-need_of row (StoreX p s off w r) = need p measure.First (bound row (Register s)) (off + bytes_in w)
-need_of row _ = None
+-- ---- words of facts
 
 -- what a fact says of a part
 abbrev pub measured : Measure → Fact → ℕ
@@ -156,13 +106,37 @@ abbrev pub segs_in : Fact → ℕ
 segs_in Empty = 0
 segs_in (Held share head tail first last segs) = segs
 
--- the register whose packet is written, and the share that it must have: behind a packet of several segments 2, else 1
-abbrev pub written_with : Fact → Instr → Option (ℕ × ℕ)
-written_with fact (Prepend p n) = Some (p, 1)
-written_with fact (Store p off w r) = Some (p, 1)
-written_with fact (StoreX p s off w r) = Some (p, 1)
-written_with fact (Append p n) = Some (p, if segs_in fact == 1 then 1 else 2)
-written_with fact _ = None
+-- ---- what a rule asks for at an instruction: it holds exactly where that is there
+
+abbrev pub AsksPool : Instr → ℕ → Type 0
+AsksPool i pool = (env : Environment) → indices_exist env i ≡ nat_lt pool (length env.pools)
+
+abbrev pub AsksTable : Instr → ℕ → Type 0
+AsksTable i table = (env : Environment) → indices_exist env i ≡ nat_lt table env.tables
+
+abbrev pub AsksRing : Instr → ℕ → Type 0
+AsksRing i ring = (env : Environment) → indices_exist env i ≡ nat_lt ring (length env.rings)
+
+-- that a register is empty
+abbrev pub AsksEmpty : Instr → ℕ → Type 0
+AsksEmpty i p = (row : Row) → targets_fit row i ≡ is_empty_at row p
+
+-- so many bytes of a packet, or room at it, where the numbers have these greatest values
+abbrev pub AsksBytes : List ℕ → Instr → ℕ → Measure → ℕ → Type 0
+AsksBytes bounds i p part n = (row : Row) → row.bounds ≡ bounds → bytes_fit row i ≡ holds_with row p (λ h. nat_le n (measured part (held h)))
+
+-- a share of a packet that has at most so many segments
+abbrev pub AsksShare : Instr → ℕ → ℕ → ℕ → Type 0
+AsksShare i p segs wanted = (row : Row) (h : Holding) → held_at row p ≡ Some h → h.segs ≡ segs → share_fits row i ≡ entails_share h.share wanted
+
+-- a port for each value of a register
+abbrev pub AsksPort : Instr → ℕ → Type 0
+AsksPort i r = (env : Environment) (row : Row) → may_leave env row i ≡ nat_lt (bound row (Register r)) (length env.ports)
+
+-- what a ring declares
+abbrev pub AsksAtRing : Instr → ℕ → ℕ → Type 0
+AsksAtRing i p ring = (env : Environment) (row : Row) → may_leave env row i ≡ option_map_or (λ fact. entails_option (held_at row p) (holding fact))
+    (fact_of_ring env.rings ring) false
 
 -- ---- what a reason says
 
@@ -171,27 +145,27 @@ abbrev pub IsUnmet : List Row → List Lead → Reason → Type 0
 IsUnmet rows ways (Successor to gap) = SomeOf (λ lead. (lead.to ≡ to) × Is (slice_get rows to) (λ there. IsGap lead.row there gap)) ways
 IsUnmet rows ways _ = ⊥
 
--- a reason of the rules that belong to an instruction with its row
+-- a reason of the rules that belong to an instruction with its row. Of bytes, `count` are asked for even where each number is 0
 abbrev pub Says : Question → ℕ → Instr → Row → Reason → Type 0
-Says q label i row (NoPool pool known) = (pool_of i ≡ Some pool) × (known ≡ length q.env.pools) × (known ≤ pool)
-Says q label i row (NoTable table known) = (table_of i ≡ Some table) × (known ≡ q.env.tables) × (known ≤ table)
-Says q label i row (NoRing ring known) = (ring_of i ≡ Some ring) × (known ≡ length q.env.rings) × (known ≤ ring)
+Says q label i row (NoPool pool known) = AsksPool i pool × (known ≡ length q.env.pools) × (known ≤ pool)
+Says q label i row (NoTable table known) = AsksTable i table × (known ≡ q.env.tables) × (known ≤ table)
+Says q label i row (NoRing ring known) = AsksRing i ring × (known ≡ length q.env.rings) × (known ≤ ring)
 Says q label i row (NoInstruction to known) =
     SomeOf (λ lead. lead.to ≡ to) (leads q.env label row i) × (known ≡ length q.program) × (known ≤ to)
 Says q label i row (NotHeld p) = SomeOf (λ used. used ≡ p) (uses i) × (is_held row p ≡ false)
-Says q label i row (NotEmpty p known) = (target_of i ≡ Some p) × (slice_get row.facts p ≡ Some known) × (is_empty known ≡ false)
+Says q label i row (NotEmpty p known) = AsksEmpty i p × (slice_get row.facts p ≡ Some known) × (is_empty known ≡ false)
 Says q label i row (OneRegister p) = i ≡ Chain p p
 Says q label i row (TooLittle p part known start count) =
-    (need_of row i ≡ need p part start count) × (known ≡ measured_at row p part) × (known < start + count)
+    AsksBytes row.bounds i p part (start + count) × AsksBytes (replicate 8 0) i p part count × (known ≡ measured_at row p part) × (known < start + count)
 Says q label i row (NotAlone p known wanted) =
-    (slice_get row.facts p ≡ Some known) × (written_with known i ≡ Some (p, wanted)) × (entails_share (share_in known) wanted ≡ false)
+    (slice_get row.facts p ≡ Some known) × AsksShare i p (segs_in known) wanted × (entails_share (share_in known) wanted ≡ false)
 Says q label i row (TooLong p r known more) =
     (i ≡ Chain p r) × Is (slice_get row.facts p) (λ fact. known ≡ segs_in fact) × Is (slice_get row.facts r) (λ fact. more ≡ segs_in fact)
     × (most_segments < known + more)
 Says q label i row (NoPort r known ports) =
-    (port_of i ≡ Some r) × (known ≡ bound row (Register r)) × (ports ≡ length q.env.ports) × (ports ≤ known)
+    AsksPort i r × (known ≡ bound row (Register r)) × (ports ≡ length q.env.ports) × (ports ≤ known)
 Says q label i row (LessThanRing p ring known wanted) =
-    (queued_at i ≡ Some (p, ring)) × (slice_get row.facts p ≡ Some known) × (fact_of_ring q.env.rings ring ≡ Some wanted)
+    AsksAtRing i p ring × (slice_get row.facts p ≡ Some known) × (fact_of_ring q.env.rings ring ≡ Some wanted)
     × (entails_fact known wanted ≡ false)
 Says q label i row (LeftOver p known) = (i ≡ Exit) × (slice_get row.facts p ≡ Some known) × (is_empty known ≡ false)
 Says q label i row (Successor to gap) = IsUnmet q.rows (leads q.env label row i) (Successor to gap)
