@@ -1,8 +1,11 @@
--- The leads of an instruction, as the program has them.
-use Rattle.std.specs.Prelude.{ℕ, List, [], ◌∷◌}
+-- The leads of an instruction, as the program has them, and what is known where a test holds.
+use Rattle.std.specs.Prelude.{ℕ, max, List, [], ◌∷◌}
+use Rattle.dp_model.specs.declared.row.Holding.{Holding}
 use Rattle.dp_model.specs.declared.row.Lead.{Lead}
 use Rattle.dp_check.specs.declared.after.Leads.{Leads}
 use Rattle.dp_check.specs.declared.after.Leads.TheVariants.{Ends, One, Two}
+use Rattle.dp_check.specs.declared.reason.Measure.{Measure}
+use Rattle.dp_check.specs.declared.reason.Measure.TheVariants as measure
 
 -- the greatest label that 16 bits number: no instruction is next to it
 abbrev pub last_label : ℕ
@@ -13,3 +16,10 @@ abbrev pub listed : Leads → List Lead
 listed Ends = []
 listed (One a) = a ∷ []
 listed (Two a b) = a ∷ b ∷ []
+
+-- a part of a packet is at least that
+abbrev pub raised : Measure → ℕ → Holding → Holding
+raised measure.Headroom n h = record h { head = max h.head n }
+raised measure.Tailroom n h = record h { tail = max h.tail n }
+raised measure.First n h = record h { first = max h.first n }
+raised measure.Last n h = record h { last = max h.last n }

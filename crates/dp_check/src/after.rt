@@ -6,10 +6,8 @@ ghost use Rattle.dp_check.specs.Leads.{last_label, listed};
 
 use crate::bounds::{with_bits, with_bound, with_left_shift, with_right_shift};
 use crate::groups::{chained, cloned, freed, sent};
-use crate::holding::{
-    allocated, appended, cut_behind, cut_in_front, prepended, with_first, with_head, with_last,
-    with_tail,
-};
+use crate::holding::{allocated, appended, cut_behind, cut_in_front, prepended, with_least};
+use crate::reason::Measure;
 use dp_model::{Env, Instr, LARGEST_HOP, Lead, Row, by_instr};
 
 /// Where an instruction leads.
@@ -53,10 +51,10 @@ pub fn leads_of(instr: Instr, env: &Env, label: u16, row: &Row) -> Leads
         Append: { packet, count } => Leads::onward(label, appended(row, packet, count));
         Trim: { packet, count } => Leads::onward(label, cut_behind(row, packet, count));
         Chain: { front, back } => Leads::onward(label, chained(row, front, back));
-        IfHead: { packet, least, less } => Leads::fork(label, with_head(row, packet, least), less, *row);
-        IfTail: { packet, least, less } => Leads::fork(label, with_tail(row, packet, least), less, *row);
-        IfLen: { packet, least, less } => Leads::fork(label, with_first(row, packet, least), less, *row);
-        IfLast: { packet, least, less } => Leads::fork(label, with_last(row, packet, least), less, *row);
+        IfHead: { packet, least, less } => Leads::fork(label, with_least(row, packet, Measure::Headroom, least), less, *row);
+        IfTail: { packet, least, less } => Leads::fork(label, with_least(row, packet, Measure::Tailroom, least), less, *row);
+        IfLen: { packet, least, less } => Leads::fork(label, with_least(row, packet, Measure::First, least), less, *row);
+        IfLast: { packet, least, less } => Leads::fork(label, with_least(row, packet, Measure::Last, least), less, *row);
         Load | LoadX: { into, width, .. } => Leads::onward(label, with_bound(row, into, width.greatest()));
         Store | StoreX: { .. } => Leads::onward(label, *row);
         Set: { into, value } => Leads::onward(label, with_bound(row, into, value));

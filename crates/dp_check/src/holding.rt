@@ -1,12 +1,14 @@
 //! What is known of the packet in a register, and how an instruction on one packet changes it.
 
-ghost use Rattle.std.specs.Prelude.{◌≡◌, ◌≤◌, IsTrue, max};
+ghost use Rattle.std.specs.Prelude.{◌≡◌, ◌≤◌, IsTrue};
 ghost use Rattle.std.specs.List.{list_all};
 ghost use Rattle.dp_model.specs.Facts.{is_fact_of_row};
 ghost use Rattle.dp_model.specs.Limits.{most_segments};
 ghost use Rattle.dp_model.specs.Rows.{held, held_at, with_fact, emptied, changed, after_prepend, after_adj, after_append, after_trim};
 ghost use Rattle.dp_model.specs.Rows.{shared, owns_head, chained_share, after_chain, chained, after_alloc};
+ghost use Rattle.dp_check.specs.Leads.{raised};
 
+use crate::reason::Measure;
 use dp_model::{DEFAULT_HEADROOM, Fact, Holding, PacketRegister, Row};
 
 /// What a row says of the packet in a register, if there is one.
@@ -103,48 +105,38 @@ pub(crate) fn cut_behind(row: &Row, packet: PacketRegister, count: u16) -> Row
     with_held(row, packet, after)
 }
 
-/// Where the headroom is at least that.
-pub(crate) fn with_head(row: &Row, packet: PacketRegister, least: u16) -> Row
-    ensures { result ≡ changed row.now packet (λ h. record h { head = max h.head least }) }
+/// With a part of the packet at least that.
+fn raised(h: Holding, part: Measure, least: u16) -> Holding
+    ensures { result ≡ raised part least h }
 {
-    let Some(h) = held_at(row, packet) else {
-        return *row;
-    };
-    let head = h.head.max(least);
-    with_held(row, packet, Holding { head, ..h })
+    match part {
+        Measure::Headroom => Holding {
+            head: h.head.max(least),
+            ..h
+        },
+        Measure::Tailroom => Holding {
+            tail: h.tail.max(least),
+            ..h
+        },
+        Measure::First => Holding {
+            first: h.first.max(least),
+            ..h
+        },
+        Measure::Last => Holding {
+            last: h.last.max(least),
+            ..h
+        },
+    }
 }
 
-/// Where the tailroom is at least that.
-pub(crate) fn with_tail(row: &Row, packet: PacketRegister, least: u16) -> Row
-    ensures { result ≡ changed row.now packet (λ h. record h { tail = max h.tail least }) }
+/// Where a part of the register's packet is at least that.
+pub(crate) fn with_least(row: &Row, packet: PacketRegister, part: Measure, least: u16) -> Row
+    ensures { result ≡ changed row.now packet (raised part least) }
 {
     let Some(h) = held_at(row, packet) else {
         return *row;
     };
-    let tail = h.tail.max(least);
-    with_held(row, packet, Holding { tail, ..h })
-}
-
-/// Where the first length is at least that.
-pub(crate) fn with_first(row: &Row, packet: PacketRegister, least: u16) -> Row
-    ensures { result ≡ changed row.now packet (λ h. record h { first = max h.first least }) }
-{
-    let Some(h) = held_at(row, packet) else {
-        return *row;
-    };
-    let first = h.first.max(least);
-    with_held(row, packet, Holding { first, ..h })
-}
-
-/// Where the last length is at least that.
-pub(crate) fn with_last(row: &Row, packet: PacketRegister, least: u16) -> Row
-    ensures { result ≡ changed row.now packet (λ h. record h { last = max h.last least }) }
-{
-    let Some(h) = held_at(row, packet) else {
-        return *row;
-    };
-    let last = h.last.max(least);
-    with_held(row, packet, Holding { last, ..h })
+    with_held(row, packet, raised(h, part, least))
 }
 
 /// With another share of the register's packet.
