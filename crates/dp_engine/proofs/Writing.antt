@@ -75,7 +75,8 @@ pub AppendsPart-after : (a b c : Option (List ℕ)) (xs ys : List ℕ) → Appen
 AppendsPart-after a b c xs ys p (n, less, q) =
     (length xs + n, omega (arith, length-append xs ys, less), rw (take-append-add xs ys n) (Appends-trans a b c xs (take n ys) p q))
 
-part_before : (a b : Option (List ℕ)) (xs ys : List ℕ) → AppendsPart a b xs → AppendsPart a b (xs ++ ys)
+-- a part of a front is a part of the whole
+pub part_before : (a b : Option (List ℕ)) (xs ys : List ℕ) → AppendsPart a b xs → AppendsPart a b (xs ++ ys)
 part_before a b xs ys (n, less, appends) = (n, omega (arith, less, length-append xs ys), rw (take-append-le n xs ys (omega (arith, less))) appends)
 
 -- a piece was written in part

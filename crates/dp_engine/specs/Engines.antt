@@ -1,5 +1,5 @@
 -- What an engine is, how it begins, and what its calls do.
-use Rattle.std.specs.Prelude.{◌≡◌, ℕ, ◌+◌, ◌*◌, ◌≤◌, List, [], ◌∷◌, length, replicate, slice_index_or, slice_set, None}
+use Rattle.std.specs.Prelude.{◌≡◌, ℕ, ◌+◌, ◌*◌, ◌≤◌, Bool, List, [], ◌∷◌, length, replicate, slice_index_or, slice_set, None}
 use Rattle.std.specs.List.{AllByRecursion}
 use Rattle.dp_region.specs.Ownership.{Home}
 use Rattle.dp_pool.specs.Pools.{PoolZones}
@@ -12,10 +12,12 @@ use Rattle.dp_model.specs.Packets.{Packet}
 use Rattle.dp_model.specs.Rules.{Question}
 use Rattle.dp_model.specs.Machine.{Setting, World}
 use Rattle.dp_model.specs.Runs as runs
-use Rattle.dp_model.specs.Runs.{Nodes, with_empty_outboxes, with_empty_rings, left_in_rings}
+use Rattle.dp_model.specs.Runs.{Turn as IsTurn, Took, NeverStuck, Nodes, with_empty_outboxes, with_empty_rings, left_in_rings}
+use Rattle.dp_model.specs.Safety.{Beginning, IsOfTurn}
 use Rattle.dp_model.specs.Starts.{IsStart}
+use Rattle.dp_engine.specs.declared.engine.Turn.{Turn}
 use Rattle.dp_engine.specs.declared.report.Tallies.{Tallies}
-use Rattle.dp_engine.specs.Outcomes.{most_steps}
+use Rattle.dp_engine.specs.Outcomes.{outcome_of, most_steps}
 use Rattle.dp_engine.specs.Handles.{Frames, Core}
 use Rattle.dp_engine.specs.Schemes.{Scheme, scheme_of}
 use Rattle.dp_engine.specs.Serving.{Rests}
@@ -117,6 +119,16 @@ tallies_at tallies port = slice_index_or tallies port no_tallies
 -- one record more at a port, of which that became
 abbrev pub counted_at : ℕ → runs.Outcome → List Tallies → List Tallies
 counted_at port outcome tallies = slice_set tallies port (counted outcome (tallies_at tallies port))
+
+-- What a turn of a port with a record is, of an engine that was `old` and is `new`, which answered that: a turn of the definitions,
+-- none of whose node runs is stuck, and behind which each port has its transmit list.
+pub record TakesTurn (old new : EngineState) (port : ℕ) (bytes : List ℕ) (answer : Turn) : Type 0 where
+  pub turn : (answers : List Bool) × IsTurn old.setting old.nodes port bytes old.world (outcome_of answer.outcome) answer.runs answers new.world
+  pub never_stuck : (b : Beginning) → IsOfTurn old.setting old.nodes port bytes old.world b → NeverStuck old.setting b.program b.packet b.number b.world
+  pub took : Took old.world new.world answer.steps answer.cuts
+  pub few : answer.steps ≤ answer.runs * most_steps
+  pub lists : length new.world.outboxes ≡ length new.setting.env.ports
+  pub rest : new ≡ record old { world = new.world; turns = old.turns + 1; tallies = counted_at port (outcome_of answer.outcome) old.tallies }
 
 -- so many records more that a port wrote whole
 abbrev pub sent_at : ℕ → ℕ → List Tallies → List Tallies

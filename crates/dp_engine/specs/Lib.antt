@@ -1,4 +1,5 @@
 pub mod Drains
+pub mod Putting
 pub mod Engines
 pub mod Handles
 pub mod Laws

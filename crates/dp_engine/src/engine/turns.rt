@@ -1,10 +1,9 @@
 //! Turns of an engine.
-ghost use Rattle.std.specs.Prelude.{◌≡◌, ℕ, ◌+◌, ◌<◌, ◌≤◌, ◌*◌, Bool, List, length};
+ghost use Rattle.std.specs.Prelude.{◌≡◌, ◌<◌, ◌≤◌, length};
 ghost use Rattle.dp_pcap.specs.declared.format.TheConstants.{LARGEST_RECORD};
-ghost use Rattle.dp_model.specs.Runs.{Turn as IsTurn, Took, NeverStuck, runs_of};
-ghost use Rattle.dp_model.specs.Safety.{Beginning, IsOfTurn};
-ghost use Rattle.dp_engine.specs.Engines.{most_turns, tallies_at, counted_at, records_of};
-ghost use Rattle.dp_engine.specs.Outcomes.{outcome_of, most_steps};
+ghost use Rattle.dp_model.specs.Runs.{runs_of};
+ghost use Rattle.dp_engine.specs.Engines.{most_turns, tallies_at, counted_at, records_of, TakesTurn};
+ghost use Rattle.dp_engine.specs.Outcomes.{outcome_of};
 
 use crate::engine::{Engine, Outcome, Turn};
 use crate::report::Tallies;
@@ -33,19 +32,7 @@ impl Engine {
         requires exists { port < length self.old.setting.env.ports }
         requires limit { self.old.turns < most_turns }
         requires size { length bytes.now ≤ LARGEST_RECORD }
-        ensures turn { (answers : List Bool) × IsTurn self.old.setting self.old.nodes port bytes.now self.old.world (outcome_of result.outcome) result.runs answers
-            self.new.world }
-        ensures never_stuck { (b : Beginning) → IsOfTurn self.old.setting self.old.nodes port bytes.now self.old.world b →
-            NeverStuck self.old.setting b.program b.packet b.number b.world }
-        ensures took { Took self.old.world self.new.world result.steps result.cuts }
-        ensures few { result.steps ≤ result.runs * most_steps }
-        // Each port has its transmit list.
-        ensures lists { length self.new.world.outboxes ≡ length self.new.setting.env.ports }
-        ensures rest { self.new ≡ record self.old {
-          world = self.new.world;
-          turns = self.old.turns + 1;
-          tallies = counted_at port (outcome_of result.outcome) self.old.tallies;
-        } }
+        ensures { TakesTurn self.old self.new port bytes.now result }
     {
         self.watched_turn(port, bytes, &mut Silent)
     }
@@ -57,19 +44,7 @@ impl Engine {
         requires exists { port < length self.old.setting.env.ports }
         requires limit { self.old.turns < most_turns }
         requires size { length bytes.now ≤ LARGEST_RECORD }
-        ensures turn { (answers : List Bool) × IsTurn self.old.setting self.old.nodes port bytes.now self.old.world (outcome_of result.outcome) result.runs answers
-            self.new.world }
-        ensures never_stuck { (b : Beginning) → IsOfTurn self.old.setting self.old.nodes port bytes.now self.old.world b →
-            NeverStuck self.old.setting b.program b.packet b.number b.world }
-        ensures took { Took self.old.world self.new.world result.steps result.cuts }
-        ensures few { result.steps ≤ result.runs * most_steps }
-        // Each port has its transmit list.
-        ensures lists { length self.new.world.outboxes ≡ length self.new.setting.env.ports }
-        ensures rest { self.new ≡ record self.old {
-          world = self.new.world;
-          turns = self.old.turns + 1;
-          tallies = counted_at port (outcome_of result.outcome) self.old.tallies;
-        } }
+        ensures { TakesTurn self.old self.new port bytes.now result }
     {
         self.turns += 1;
         let (outcome, own) = arrive(&self.plan, &mut self.machine, port, bytes, watch);

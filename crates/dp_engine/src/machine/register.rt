@@ -77,14 +77,7 @@ pub(crate) fn no_packets() -> [Register; 8]
 pub(crate) fn one_packet(handle: u32) -> [Register; 8]
     ensures { result ≡ Some handle ∷ replicate 7 None }
 {
-    [
-        Register::of(handle),
-        Register::empty(),
-        Register::empty(),
-        Register::empty(),
-        Register::empty(),
-        Register::empty(),
-        Register::empty(),
-        Register::empty(),
-    ]
+    let mut registers = no_packets();
+    registers[0] = Register::of(handle);
+    registers
 }

@@ -1,10 +1,11 @@
 -- A packet of one segment.
-use Rattle.std.proofs.Common.{◌≡◌, ℕ, ◌+◌, ◌≤◌, List, [], ◌∷◌, length, Some, arith, sym, ap, refl, ◌∙◌, subst, append-nil, length-append}
+use Rattle.std.proofs.Common.{rules, ◌≡◌, ℕ, ◌+◌, ◌≤◌, List, [], ◌∷◌, length, Some, arith, sym, ap, refl, ◌∙◌, subst, append-nil, length-append}
 use Rattle.std.specs.Prelude.{slice_get}
 use Rattle.std.specs.Io.KnownBytes.{Appends}
 use Rattle.std.proofs.lemmas.Result.{on_err_weaker, on_ok_weaker}
 use Rattle.dp_model.specs.Buffers.{Buffers}
 use Rattle.dp_model.specs.Packets.{Packet, Segment, packet_bytes, segment_bytes}
+use Rattle.dp_model.specs.Stores.{Has}
 use Rattle.dp_pcap.specs.Text.{head_text, record_text, AppendsPart}
 use Rattle.dp_engine.proofs.Called.{length_head}
 use Rattle.dp_engine.proofs.put.put_packet.Goals as goal
@@ -27,31 +28,28 @@ put_record-requires-clause-len g c =
     let bytes = one_segment _ k _ (omega (arith, c.segments.ensures k has, c.if-segments-ne1.false)) (c.segment_bytes.ensures k has) in
     omega (arith, ap length bytes, c.length-length.ensures.value k has, c.length-length.ensures.bound)
 
-pub returns-clause-ok : goal.returns-clause-ok
-returns-clause-ok g c =
-    on_ok_weaker c.put_record.result (λ wrote k has.
-    subst (λ bytes. Appends (g.W.Sink.contents c.args.w.now) (g.W.Sink.contents c.put_record.new.w)
-    (record_text c.args.unit (record { time = c.args.time; bytes = bytes })))
-    (one_segment _ k _ (omega (arith, c.segments.ensures k has, c.if-segments-ne1.false)) (c.segment_bytes.ensures k has)) wrote)
-    c.put_record.ensures.ok
-
-pub returns-clause-err : goal.returns-clause-err
-returns-clause-err g c =
-    on_err_weaker c.put_record.result (λ part k has.
-    subst (λ bytes. AppendsPart (g.W.Sink.contents c.args.w.now) (g.W.Sink.contents c.put_record.new.w)
-    (record_text c.args.unit (record { time = c.args.time; bytes = bytes })))
-    (one_segment _ k _ (omega (arith, c.segments.ensures k has, c.if-segments-ne1.false)) (c.segment_bytes.ensures k has)) part)
-    c.put_record.ensures.err
-
-pub returns-clause-counted : goal.returns-clause-counted
-returns-clause-counted g c k has =
-    let bytes = one_segment _ k _ (omega (arith, c.segments.ensures k has, c.if-segments-ne1.false)) (c.segment_bytes.ensures k has) in
-    subst (λ bytes. g.W.Sink.calls c.put_record.new.w ≤ g.W.Sink.calls c.args.w.now + length
-    (record_text c.args.unit (record { time = c.args.time; bytes = bytes }))) bytes
-    (omega (
-      arith,
-      c.put_record.ensures.counted,
-      length_head c.args.unit c.args.time (length c.segment_bytes.result.now),
-      length-append
-          (head_text c.args.unit c.args.time (length c.segment_bytes.result.now)) c.segment_bytes.result.now,
-    ))
+pub returns : goal.returns
+returns g c =
+    let same : (k : Packet) → Has c.args.mbufs.now.store c.args.packet k → c.segment_bytes.result.now ≡ packet_bytes c.args.mbufs.now.store.buffers k = λ k has.
+    one_segment _ k _ (omega (arith, c.segments.ensures k has, c.if-segments-ne1.false)) (c.segment_bytes.ensures k has) in
+    let written : List ℕ → List ℕ = λ bytes. record_text c.args.unit (record { time = c.args.time; bytes = bytes }) in
+    record {
+      ok = on_ok_weaker c.put_record.result (λ wrote k has.
+          subst (λ bytes. Appends (g.W.Sink.contents c.args.w.now) (g.W.Sink.contents c.put_record.new.w) (written bytes)) (same k has) wrote)
+          c.put_record.ensures.ok;
+      err = on_err_weaker c.put_record.result (λ part k has.
+          subst (λ bytes. AppendsPart (g.W.Sink.contents c.args.w.now) (g.W.Sink.contents c.put_record.new.w) (written bytes)) (same k has) part)
+          c.put_record.ensures.err;
+      failed = search rules;
+      stays = search rules;
+      write = search rules;
+      counted = λ k has.
+          subst (λ bytes. g.W.Sink.calls c.put_record.new.w ≤ g.W.Sink.calls c.args.w.now + length (written bytes)) (same k has)
+          (omega (
+            arith,
+            c.put_record.ensures.counted,
+            length_head c.args.unit c.args.time (length c.segment_bytes.result.now),
+            length-append (head_text c.args.unit c.args.time (length c.segment_bytes.result.now)) c.segment_bytes.result.now,
+          ));
+      failures = search rules;
+    }

@@ -1,7 +1,6 @@
 -- What was laid out is at its start.
 use Rattle.std.proofs.Common.{◌≡◌, ◌*◌, List, [], length, replicate, sym, ◌∙◌, ap, subst}
 use Rattle.dp_ring.specs.Rings.{RingView}
-use Rattle.dp_model.specs.Environments.{Environment}
 use Rattle.dp_engine.specs.Handles.{Core}
 use Rattle.dp_engine.specs.Queues.{rings_in}
 use Rattle.dp_engine.specs.Schemes.{Scheme, scheme_of}

@@ -1,5 +1,5 @@
 -- A turn: what its port and the number of turns keep is settled once, and each goal is one step from there.
-use Rattle.std.proofs.Common.{◌+◌, ◌<◌, Bool, List, length, sym, ◌∙◌, ap, subst, arith}
+use Rattle.std.proofs.Common.{rules, ◌+◌, ◌<◌, Bool, List, length, sym, ◌∙◌, ap, subst, arith}
 use Rattle.dp_model.specs.Runs.{Turn as IsTurn, NeverStuck}
 use Rattle.dp_model.specs.Safety.{Beginning, IsOfTurn}
 use Rattle.dp_model.specs.Laws.Runs.{safe_never_stuck}
@@ -41,23 +41,23 @@ invariant_of-self g c =
     c.self.invariant (few g here) (small g here) r.rests (r.frames ∙ a.frames) (omega (arith, a.calls, r.calls))
     (omega (arith, a.took.cuts_are, a.few_cuts, r.took.cuts_are, r.few_cuts)) (omega (arith, a.packets, r.packets)))
 
-pub returns-clause-turn : goal.returns-clause-turn
-returns-clause-turn g c =
+pub returns : goal.returns
+returns g c =
     let m2 = c.serve-served.new.m in
     let outcome = outcome_of c.arrive-outcome.result.0 in
     let more = c.serve-served.result.runs in
-    subst (λ (v : EngineState). (answers : List Bool) × IsTurn v.setting v.nodes c.args.port c.args.bytes.now v.world outcome
-    (c.runs_of.result + more) answers m2.state.world) c.self.view_is
-    (turn_is c.self.inside.plan c.args.port c.args.bytes.now c.self.inside.machine.state.world c.arrive-outcome.new.m.state.world m2.state.world outcome
-    more (c.runs_of.result + more)
-    (ap (λ n. n + more) c.runs_of.ensures.value) c.arrive-outcome.ensures.arrives c.serve-served.ensures.serves)
-
-pub returns-clause-never_stuck : goal.returns-clause-never_stuck
-returns-clause-never_stuck g c =
-    subst (λ (v : EngineState). (b : Beginning) → IsOfTurn v.setting v.nodes c.args.port c.args.bytes.now v.world b
-    → NeverStuck v.setting b.program b.packet b.number b.world) c.self.view_is
-    (λ b of. safe_never_stuck c.self.inside.plan.setting b
-    (c.arrive-outcome.ensures.safe.turn_runs c.args.port c.args.bytes.now c.self.inside.machine.state.world b c.self.invariant.rests.rest of))
-
-pub returns-clause-lists : goal.returns-clause-lists
-returns-clause-lists g c = c.serve-served.ensures.rests.rest.ready.world.outboxes
+    record {
+      turn = subst (λ (v : EngineState). (answers : List Bool) × IsTurn v.setting v.nodes c.args.port c.args.bytes.now v.world outcome
+          (c.runs_of.result + more) answers m2.state.world) c.self.view_is
+          (turn_is c.self.inside.plan c.args.port c.args.bytes.now c.self.inside.machine.state.world c.arrive-outcome.new.m.state.world m2.state.world outcome
+          more (c.runs_of.result + more)
+          (ap (λ n. n + more) c.runs_of.ensures.value) c.arrive-outcome.ensures.arrives c.serve-served.ensures.serves);
+      never_stuck = subst (λ (v : EngineState). (b : Beginning) → IsOfTurn v.setting v.nodes c.args.port c.args.bytes.now v.world b
+          → NeverStuck v.setting b.program b.packet b.number b.world) c.self.view_is
+          (λ b of. safe_never_stuck c.self.inside.plan.setting b
+          (c.arrive-outcome.ensures.safe.turn_runs c.args.port c.args.bytes.now c.self.inside.machine.state.world b c.self.invariant.rests.rest of));
+      took = search rules;
+      few = search rules;
+      lists = c.serve-served.ensures.rests.rest.ready.world.outboxes;
+      rest = search rules;
+    }
