@@ -12,22 +12,15 @@ use std::alloc::{AllocError, Global};
 fn push_fact(out: &mut Vec<u8>, fact: &Fact) -> Result<(), AllocError>
     ensures { OnOk result (out.new.items ≡ out.old.items ++ spec.fact_bytes fact.now) }
 {
-    match fact {
-        Fact::Empty => out.extend_from_slice(&[0; 11])?,
-        Fact::Held {
-            share,
-            head,
-            tail,
-            first,
-            last,
-            segs,
-        } => {
-            out.extend_from_slice(&[1, *share])?;
-            out.extend_from_slice(&head.to_be_bytes())?;
-            out.extend_from_slice(&tail.to_be_bytes())?;
-            out.extend_from_slice(&first.to_be_bytes())?;
-            out.extend_from_slice(&last.to_be_bytes())?;
-            out.push(*segs)?;
+    match fact.holding() {
+        None => out.extend_from_slice(&[0; 11])?,
+        Some(held) => {
+            out.extend_from_slice(&[1, held.share])?;
+            out.extend_from_slice(&held.head.to_be_bytes())?;
+            out.extend_from_slice(&held.tail.to_be_bytes())?;
+            out.extend_from_slice(&held.first.to_be_bytes())?;
+            out.extend_from_slice(&held.last.to_be_bytes())?;
+            out.push(held.segs)?;
         }
     }
     Ok(())
