@@ -1,11 +1,11 @@
 -- Loaded nodes are those of a pipeline.
-use Rattle.std.proofs.Common.{◌≡◌, ℕ, ◌+◌, ◌-◌, ◌<◌, ◌≤◌, ◌⊎◌, inl, inr, List, length, Option, Some, None, ap, sym, ◌∙◌, arith, length-append, zero-add}
+use Rattle.std.proofs.Common.{◌≡◌, ℕ, ◌+◌, ◌-◌, ◌<◌, ◌≤◌, ◌⊎◌, inl, inr, List, length, Option, Some, ap, sym, ◌∙◌, arith, length-append, zero-add}
 use Rattle.std.proofs.Common.{get_or, refl, subst}
 use Rattle.std.proofs.lemmas.Option.{slice_get_read}
 use Rattle.std.specs.Prelude.{slice_get}
 use Rattle.dp_model.specs.declared.env.Entry.{Entry}
 use Rattle.dp_model.specs.declared.env.Entry.TheVariants.{Port, Ring}
-use Rattle.dp_model.specs.Environments.{Environment, fault_of}
+use Rattle.dp_model.specs.Environments.{Environment}
 use Rattle.dp_model.specs.Prefixes.{Route}
 use Rattle.dp_model.specs.Rules.{Question}
 use Rattle.std.specs.List.{AllByRecursion}

@@ -1,5 +1,5 @@
 -- What a pipeline is.
-use Rattle.std.specs.Prelude.{◌≡◌, ℕ, ◌+◌, ◌<◌, List, length, Some, None, slice_get, string_bytes}
+use Rattle.std.specs.Prelude.{◌≡◌, ℕ, ◌+◌, ◌<◌, List, length, map, Some, None, slice_get, string_bytes}
 use Rattle.dp_model.specs.declared.env.Entry.{Entry}
 use Rattle.dp_model.specs.declared.env.Entry.TheVariants.{Port, Ring}
 use Rattle.dp_model.specs.Environments.{Environment, fault_of}
@@ -47,3 +47,14 @@ input_of port = string_bytes port.input
 -- the captures that ports write
 abbrev pub output_of : PortNames → List ℕ
 output_of port = string_bytes port.output
+
+-- what a contract sees of a pipeline of these parts
+abbrev pub plan_of : Environment → ℕ → List RouteTable → List Question → List PortNames → Plan
+plan_of env region tables nodes ports = record {
+  env = env;
+  region = region;
+  tables = tables;
+  nodes = nodes;
+  inputs = map input_of ports;
+  outputs = map output_of ports;
+}

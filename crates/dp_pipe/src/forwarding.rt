@@ -114,49 +114,6 @@ fn drain_all<W: Sink>(engine: &mut Engine, time: Time, unit: Unit, outs: &mut [W
     Ok(())
 }
 
-// Asks an input that is open for what comes next. Behind a record there is a turn, and then all ports are drained.
-fn advance<R: Feed, W: Sink>(
-    engine: &mut Engine,
-    port: u8,
-    input: &mut Progress,
-    r: &mut R,
-    outs: &mut [W],
-    unit: Unit,
-    buf: &mut [u8],
-) -> Result<(), RunCause>
-    requires exists { port < length engine.old.setting.env.ports }
-    requires many { length outs.old ≡ length engine.old.setting.env.ports }
-    requires few { length outs.old ≤ 8 }
-    requires counted { length engine.old.tallies ≡ 8 }
-    requires buf { LARGEST_RECORD ≤ length buf.old }
-    requires open { input.old.source.is_open ≡ true }
-    requires state { input.old.state ≡ InputState.Open }
-    requires limit { engine.old.turns + MOST_RECORDS ≤ MOST_TURNS + input.old.source.given }
-    ensures step { Advances port unit engine.old engine.new input.old input.new (R.remaining r.old) (R.remaining r.new) (map W.contents outs.old)
-        (map W.contents outs.new) result }
-    ensures many { length outs.new ≡ length outs.old }
-    ensures buf { length buf.new ≡ length buf.old }
-    ensures reader { IsTrue (R.is_broken r.new) → result ≡ Err (RunCause.In port PcapError.Read) }
-    ensures fared_reader { FaredAlone R.is_broken R.failures (failed_reader result) port r.old r.new }
-    ensures fared_writers { AllSound W.is_broken outs.old → AllFared W.is_broken W.failures (failed_writer result) outs.old outs.new }
-{
-    match next_turn(engine, port, r, &mut input.source, buf) {
-        Ok(Next::Record(time, _)) => match drain_all(engine, time, unit, outs) {
-            Ok(()) => Ok(()),
-            Err(failed) => Err(RunCause::Out(failed)),
-        },
-        Ok(Next::End) => {
-            input.state = InputState::Whole;
-            Ok(())
-        }
-        Ok(Next::Cut(byte)) => {
-            input.state = InputState::Cut(byte);
-            Ok(())
-        }
-        Err(error) => Err(RunCause::In(port, error)),
-    }
-}
-
 // Whether an input has not ended.
 pub(crate) fn is_open(input: &Progress) -> bool
     ensures { IsTrue result ↔ (input.now.state ≡ InputState.Open) }
@@ -164,7 +121,7 @@ pub(crate) fn is_open(input: &Progress) -> bool
     input.state == InputState::Open
 }
 
-// Asks an input for what comes next, if it is open.
+// Asks an input for what comes next, if it is open. Behind a record there is a turn, and then all ports are drained.
 fn ask<R: Feed, W: Sink>(
     engine: &mut Engine,
     port: u8,
@@ -187,13 +144,28 @@ fn ask<R: Feed, W: Sink>(
         × (outs.new ≡ outs.old) }
     ensures many { length outs.new ≡ length outs.old }
     ensures buf { length buf.new ≡ length buf.old }
+    ensures reader { input.old.state ≡ InputState.Open → IsTrue (R.is_broken r.new) → result ≡ Err (RunCause.In port PcapError.Read) }
     ensures fared_reader { FaredAlone R.is_broken R.failures (failed_reader result) port r.old r.new }
     ensures fared_writers { AllSound W.is_broken outs.old → AllFared W.is_broken W.failures (failed_writer result) outs.old outs.new }
 {
     if !is_open(input) {
         return Ok(());
     }
-    advance(engine, port, input, r, outs, unit, buf)
+    match next_turn(engine, port, r, &mut input.source, buf) {
+        Ok(Next::Record(time, _)) => match drain_all(engine, time, unit, outs) {
+            Ok(()) => Ok(()),
+            Err(failed) => Err(RunCause::Out(failed)),
+        },
+        Ok(Next::End) => {
+            input.state = InputState::Whole;
+            Ok(())
+        }
+        Ok(Next::Cut(byte)) => {
+            input.state = InputState::Cut(byte);
+            Ok(())
+        }
+        Err(error) => Err(RunCause::In(port, error)),
+    }
 }
 
 // Asks each input that is open once, in port order.

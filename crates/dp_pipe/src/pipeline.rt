@@ -1,10 +1,10 @@
 //! Pipelines that are ready to run.
 
-ghost use Rattle.std.specs.Prelude.{◌≡◌, ℕ, ◌+◌, ◌<◌, length, map, Some, None, slice_get};
+ghost use Rattle.std.specs.Prelude.{◌≡◌, ℕ, ◌+◌, ◌<◌, length, Some, None, slice_get};
 ghost use Rattle.dp_model.specs.declared.env.Entry.TheVariants.{Port, Ring};
 ghost use Rattle.dp_model.specs.Environments.{fault_of};
 ghost use Rattle.dp_region.specs.Region.{IsRegionSize};
-ghost use Rattle.dp_pipe.specs.Pipelines.{HasNodes, IsFor, IsPlan, input_of, output_of};
+ghost use Rattle.dp_pipe.specs.Pipelines.{HasNodes, IsFor, IsPlan, plan_of};
 
 use crate::file_names::PortNames;
 use dp_check::Checked;
@@ -24,28 +24,13 @@ pub struct Pipeline {
 }
 
 impl Model for Pipeline {
-    ghost use Rattle.std.specs.Prelude.{map};
-    ghost use Rattle.dp_pipe.specs.Pipelines.{Plan, IsPlan, input_of, output_of};
+    ghost use Rattle.dp_pipe.specs.Pipelines.{Plan, IsPlan, plan_of};
 
     ghost Value = { Plan };
 
-    ghost view = { λ a. record {
-      env = a.env;
-      region = a.region;
-      tables = a.tables.items;
-      nodes = a.nodes.items;
-      inputs = map input_of a.ports.items;
-      outputs = map output_of a.ports.items;
-    } };
+    ghost view = { λ a. plan_of a.env a.region a.tables.items a.nodes.items a.ports.items };
 
-    ghost invariant = { λ a. IsPlan (record {
-      env = a.env;
-      region = a.region;
-      tables = a.tables.items;
-      nodes = a.nodes.items;
-      inputs = map input_of a.ports.items;
-      outputs = map output_of a.ports.items;
-    }) };
+    ghost invariant = { λ a. IsPlan (plan_of a.env a.region a.tables.items a.nodes.items a.ports.items) };
 }
 
 impl Pipeline {
@@ -63,14 +48,7 @@ impl Pipeline {
         requires nodes { HasNodes env nodes.items }
         requires tables { length tables.items ≡ env.tables }
         requires ports { length ports.items ≡ length env.ports }
-        ensures { result ≡ record {
-          env = env;
-          region = region;
-          tables = tables.items;
-          nodes = nodes.items;
-          inputs = map input_of ports.items;
-          outputs = map output_of ports.items;
-        } }
+        ensures { result ≡ plan_of env region tables.items nodes.items ports.items }
     {
         Pipeline {
             env,

@@ -1,32 +1,32 @@
--- `advance`: an input at a record, at its end, or at a fault.
+-- `ask`: an input at a record, at its end, or at a fault.
 use Rattle.std.proofs.Common.{ap, ◌∙◌, Ok}
 use Rattle.dp_pipe.proofs.Following.{follows_drained, follows_stopped, follows_end, follows_cut, drained_ok, stopped_err}
-use Rattle.dp_pipe.proofs.forwarding.advance.Goals as goal
+use Rattle.dp_pipe.proofs.forwarding.ask.Goals as goal
 
 pub returns-in-Ok-clause-step : goal.returns-in-Ok-clause-step
-returns-in-Ok-clause-step g c = record {
+returns-in-Ok-clause-step g c goes = record {
   next = c.next_turn.result;
   engine = c.next_turn.new.engine;
   read = c.next_turn.ensures.turn;
   in_range = c.next_turn.ensures.in_range;
   moves = c.next_turn.ensures.source;
-  follows = follows_drained _ _ _ _ _ _ _ _ _ _ (c.in-Ok-Record.is ∙ ap Ok c.in-Ok-Record.field-0-is) c.requires.state
+  follows = follows_drained _ _ _ _ _ _ _ _ _ _ (c.in-Ok-Record.is ∙ ap Ok c.in-Ok-Record.field-0-is) goes
       (drained_ok c.drain_all.result _ c.in-Ok.is c.drain_all.ensures.ok);
 }
 
 pub returns-in-Err-drain_all-clause-step : goal.returns-in-Err-drain_all-clause-step
-returns-in-Err-drain_all-clause-step g c = record {
+returns-in-Err-drain_all-clause-step g c goes = record {
   next = c.next_turn.result;
   engine = c.next_turn.new.engine;
   read = c.next_turn.ensures.turn;
   in_range = c.next_turn.ensures.in_range;
   moves = c.next_turn.ensures.source;
   follows = follows_stopped _ _ _ _ _ _ _ _ _ _ c.in-Err-drain_all.failed (c.in-Ok-Record.is
-      ∙ ap Ok c.in-Ok-Record.field-0-is) c.requires.state (stopped_err c.drain_all.result _ _ c.in-Err-drain_all.is c.drain_all.ensures.err);
+      ∙ ap Ok c.in-Ok-Record.field-0-is) goes (stopped_err c.drain_all.result _ _ c.in-Err-drain_all.is c.drain_all.ensures.err);
 }
 
 pub returns-in-Ok-End-clause-step : goal.returns-in-Ok-End-clause-step
-returns-in-Ok-End-clause-step g c = record {
+returns-in-Ok-End-clause-step g c goes = record {
   next = c.next_turn.result;
   engine = c.next_turn.new.engine;
   read = c.next_turn.ensures.turn;
@@ -36,7 +36,7 @@ returns-in-Ok-End-clause-step g c = record {
 }
 
 pub returns-in-Ok-Cut-clause-step : goal.returns-in-Ok-Cut-clause-step
-returns-in-Ok-Cut-clause-step g c = record {
+returns-in-Ok-Cut-clause-step g c goes = record {
   next = c.next_turn.result;
   engine = c.next_turn.new.engine;
   read = c.next_turn.ensures.turn;
