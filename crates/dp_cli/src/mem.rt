@@ -8,7 +8,8 @@ ghost use Rattle.dp_heap.specs.Refusals.{IsAlign, IsRefused};
 ghost use Rattle.dp_region.specs.Region.{IsRegionSize};
 ghost use Rattle.dp_cli.specs.Commands.{command_in};
 ghost use Rattle.dp_cli.specs.Heaps as spec;
-ghost use Rattle.dp_cli.specs.Scripts.{IsBad, IsDone, IsEnding, IsEndingTold, IsFilled, IsFreed, IsLineDone, IsNoRegion, IsPrinted, IsRefusalTold, IsScriptTold, IsTaken};
+ghost use Rattle.dp_cli.specs.Scripts.{IsBad, IsDone, IsEnding, IsEndingTold, IsFilled, IsFreed, IsLineDone, IsNoRegion, IsPrinted, IsRefusalTold};
+ghost use Rattle.dp_cli.specs.Scripts.{IsScriptTold, IsTaken};
 ghost use Rattle.dp_cli.specs.Scripts.{IsWrong, Plays, Runs, first_from, fresh, is_held, lines_left, script_lines, stage};
 ghost use Rattle.dp_cli.specs.Told.{IsTold, TellsMemory};
 

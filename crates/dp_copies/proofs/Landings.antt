@@ -30,7 +30,8 @@ pub record Lands {R : Type 0} (c : Setting) (w : World) (later : List Bool) (go 
 
 -- nothing happens
 pub stays : {R : Type 0} (c : Setting) (w w' : World) (answers later : List Bool) (x : CopyState) (go : ℕ → Option R) (made : CopyState → R) →
-    IsInside c (between w) → Shows c.env.pools w (answers ++ later) x → answers ≡ [] → w' ≡ w → ((fuel : ℕ) → go fuel ≡ Some (made x)) → Lands c w' later go made
+    IsInside c (between w) → Shows c.env.pools w (answers ++ later) x → answers ≡ [] → w' ≡ w → ((fuel : ℕ) → go fuel ≡ Some (made x))
+    → Lands c w' later go made
 stays c w w' answers later x go made well shows none is e =
     subst (λ v. Lands c v later go made) (sym is) (record {
       state = x;

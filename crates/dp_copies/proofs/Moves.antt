@@ -42,7 +42,8 @@ empty_step pools st answers p move empty =
 
 -- a register set
 pub put_copies : (pools : List PoolSpec) (st : State) (p : ℕ) (o : Option Packet) (answers : List Bool) →
-    copied pools (record st { packets = slice_set st.packets p o }) answers ≡ copy_put p (option_map (copy_of pools st.world.buffers) o) (copied pools st answers)
+    copied pools (record st { packets = slice_set st.packets p o }) answers ≡ copy_put p (option_map (copy_of pools st.world.buffers) o)
+    (copied pools st answers)
 put_copies pools st p o answers =
     let e = map-set (option_map (copy_of pools st.world.buffers)) st.packets p o in
     λ i. record {

@@ -43,7 +43,8 @@ stored_copy pools st s rest off w n some short fits room same =
     (copy_same pools st.world.buffers (stored off w n (s ∷ rest) st.world.buffers) rest same)
 
 -- and no other packet is changed by it
-pub store_copies : (pools : List PoolSpec) (st : State) (p : ℕ) (k : Packet) (off w n : ℕ) (answers : List Bool) → Holds st p k → 0 < w → off + w ≤ first_len k →
+pub store_copies : (pools : List PoolSpec) (st : State) (p : ℕ) (k : Packet) (off w n : ℕ) (answers : List Bool) → Holds st p k → 0 < w
+    → off + w ≤ first_len k →
     IsHeadSole (live st) k → IsWithin pools st.world.buffers (live st) → copied pools (with_buffers (stored off w n k st.world.buffers) st) answers
     ≡ copy_put p (Some (at_front (with_stored off (big_endian w n)) (copy_of pools st.world.buffers k))) (copied pools st answers)
 unfolding Same
@@ -68,7 +69,17 @@ store_copies pools st p (s ∷ rest) off w n answers holds some short sole well 
     (λ b. omega (arith, mine b, live_parts st b, refs_held st.packets p (Some k) b holds))) in
     let outboxes = listed_same pools old new st.world.outboxes (others (segments_listed st.world.outboxes)
     (λ b. omega (arith, mine b, live_parts st b, refs_held st.packets p (Some k) b holds))) in
-    λ i. record { packets = packets i; numbers = st.numbers; jumps = st.jumps; rings = rings i; outboxes = outboxes i; to_answer = answers; cuts = st.world.cuts }
+    λ i.
+    record {
+      packets = packets i;
+      numbers = st.numbers;
+      jumps = st.jumps;
+      rings = rings i;
+      outboxes = outboxes i;
+      to_answer = answers;
+      cuts =
+          st.world.cuts;
+    }
   where
     other_register : (i : ℕ) (u : Option Packet) → i ≢ p → slice_get st.packets i ≡ Some u →
         ((j : Packet) → ((b : Number) → one_if (same_number s.buffer b) ≤ refs (s ∷ rest) b → one_if (same_number s.buffer b) + refs j b ≤ refs (live st) b) →

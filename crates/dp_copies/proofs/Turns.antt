@@ -70,7 +70,8 @@ got_lands c program port spec bytes w w' answers later x room well shows r =
     }
 
 -- a record that comes, whatever its outcome
-arrives_lands : (c : Setting) (program : List Instr) (port : ℕ) (spec : PortSpec) (bytes : List ℕ) (w w' : World) (outcome : Outcome) (answers later : List Bool)
+arrives_lands : (c : Setting) (program : List Instr) (port : ℕ) (spec : PortSpec) (bytes : List ℕ) (w w' : World) (outcome : Outcome)
+    (answers later : List Bool)
     (x : CopyState) → 129 ≤ room_at c.env.pools spec.pool → IsInside c (between w) → Shows c.env.pools w (answers ++ later) x →
     Arrives c program port spec bytes w outcome answers w' → Lands c w' later (λ fuel. copy_arrives c.env c.tables fuel program port spec bytes x)
     (λ t. (outcome, t))

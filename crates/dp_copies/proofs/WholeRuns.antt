@@ -38,7 +38,8 @@ run_lands {T} c nodes [] w w' later shown x rooms well shows (none, is) =
     (ap (λ (s : Shown T). s.answers) none) is (λ fuel. ap (λ (s : Shown T). Some (s.captures, x)) (sym none))
 run_lands {T} c nodes (a ∷ arrivals) w w' later shown x rooms well shows (outcome, answers, runs, mid, rest, turn, run, is) =
     let pools = c.env.pools in
-    let split : shown.answers ++ later ≡ answers ++ (rest.answers ++ later) = ap (λ (s : Shown T). s.answers ++ later) is ∙ append_assoc answers rest.answers later in
+    let split : shown.answers ++ later ≡ answers ++ (rest.answers ++ later) = ap (λ (s : Shown T). s.answers ++ later) is
+    ∙ append_assoc answers rest.answers later in
     let first = turn_lands c nodes a.port a.bytes w mid outcome runs answers (rest.answers
     ++ later) x rooms well (record { rings = shows.rings; outboxes = shows.outboxes; to_answer = shows.to_answer ∙ split; cuts = shows.cuts }) turn in
     let y : CopyState = record first.state { outboxes = map (λ _. []) first.state.outboxes } in

@@ -51,7 +51,17 @@ wrote pools st p k k' n new c answers holds changes sole one is =
     (λ b. omega (arith, live_parts st b, refs_held st.packets p (Some k) b holds))) in
     let outboxes = listed_same pools old new st.world.outboxes (others (segments_listed st.world.outboxes)
     (λ b. omega (arith, live_parts st b, refs_held st.packets p (Some k) b holds))) in
-    λ i. record { packets = packets i; numbers = st.numbers; jumps = st.jumps; rings = rings i; outboxes = outboxes i; to_answer = answers; cuts = st.world.cuts }
+    λ i.
+    record {
+      packets = packets i;
+      numbers = st.numbers;
+      jumps = st.jumps;
+      rings = rings i;
+      outboxes = outboxes i;
+      to_answer = answers;
+      cuts =
+          st.world.cuts;
+    }
   where
     other_register : ((segments : List Segment) → ((b : Number) → refs k b + refs segments b ≤ refs (live st) b) → Same pools st.world.buffers new segments) →
         (i : ℕ) (u : Option Packet) → i ≢ p → slice_get st.packets i ≡ Some u → option_map (copy_of pools new) u

@@ -60,4 +60,5 @@ all_small count few (k ∷ ks) (a ∷ as') h s b =
 
 pub operands_small : (count : ℕ) → count ≤ 1024 → (i : Instr) → is_in_range i ≡ true → leads_below count i ≡ true → list_all is_small (spelled i).arguments
     ≡ true
-operands_small count few i h b = all_small count few (kinds_of (spelled i).form) (spelled i).arguments h (kinds_short (spelled i).form) (operands_below count i ∙ b)
+operands_small count few i h b = all_small count few (kinds_of (spelled i).form) (spelled i).arguments h (kinds_short (spelled i).form)
+    (operands_below count i ∙ b)

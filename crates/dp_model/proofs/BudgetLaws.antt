@@ -126,7 +126,8 @@ serves_took c nodes most (suc n) w w' answers runs short serves = go (first_wait
   where
     go : (o : Option (Waiting Packet)) → first_waiting w.rings ≡ o → MatchOption o ((answers ≡ []) × (runs ≡ 0) × (w' ≡ w)) (λ next. (program : List Instr)
         × (now later : List Bool) × (mid : World) × (more : ℕ) × (slice_get nodes.rings next.ring ≡ Some program)
-        × NodeRun c program next.packet next.ring (record w { rings = next.rings }) now mid × Serves c nodes.rings n mid later more w' × (answers ≡ now ++ later)
+        × NodeRun c program next.packet next.ring (record w { rings = next.rings }) now mid × Serves c nodes.rings n mid later more w'
+        × (answers ≡ now ++ later)
         × (runs ≡ more + 1)) → ((mid : World) (answers : List Bool) (more : ℕ) → Serves c nodes.rings n mid answers more w' →
         (more ≤ n) × TookAtMost mid w' (more * (257 * most)) more) → (runs ≤ suc n) × TookAtMost w w' (runs * (257 * most)) runs
     go None e (_, none, is) on =

@@ -66,7 +66,8 @@ serves_calls c nodes most (suc n) w w' answers runs pipeline short rest serves =
   where
     go : (o : Option (Waiting Packet)) → first_waiting w.rings ≡ o → MatchOption o ((answers ≡ []) × (runs ≡ 0) × (w' ≡ w)) (λ next. (program : List Instr)
         × (now later : List Bool) × (mid : World) × (more : ℕ) × (slice_get nodes.rings next.ring ≡ Some program)
-        × NodeRun c program next.packet next.ring (record w { rings = next.rings }) now mid × Serves c nodes.rings n mid later more w' × (answers ≡ now ++ later)
+        × NodeRun c program next.packet next.ring (record w { rings = next.rings }) now mid × Serves c nodes.rings n mid later more w'
+        × (answers ≡ now ++ later)
         × (runs ≡ more + 1)) → ((mid : World) (answers : List Bool) (more : ℕ) → IsAtRest c mid → Serves c nodes.rings n mid answers more w' →
         AreFewCalls mid w' answers (n * (257 * most))) → AreFewCalls w w' answers (suc n * (257 * most))
     go None e (none, _, is) on =

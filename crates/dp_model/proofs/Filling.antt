@@ -17,7 +17,8 @@ use Rattle.dp_model.specs.Laws.Places.{needed_holds}
 
 -- ---- one write
 
-pub range_written : (old new : List ℕ) (offset : ℕ) → offset + length new ≤ length old → slice_range (overwritten old offset new) offset (offset + length new) ≡ new
+pub range_written : (old new : List ℕ) (offset : ℕ) → offset + length new ≤ length old
+    → slice_range (overwritten old offset new) offset (offset + length new) ≡ new
 range_written old new offset fits = same_lists _ _ (search (rules, places)) (λ k d h. grind (arith, places))
 
 -- a write within a buffer changes that buffer only

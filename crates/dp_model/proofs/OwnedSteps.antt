@@ -11,7 +11,8 @@ use Rattle.dp_model.specs.Laws.References.{refs_held, live_parts}
 use Rattle.dp_model.proofs.Counts.{tally_live, tally_live_set, tally_to_ring, tally_to_outbox, tally_chain, tally_front, tally_end}
 use Rattle.dp_model.specs.Laws.Counts.{tally, has_mbuf, is_indirect_at, AreFewer, fewer_owned, fewer_by}
 use Rattle.dp_model.proofs.Owned.{AreMore, more_owned, allocated_direct, direct_comes, clone_comes}
-use Rattle.dp_model.specs.Laws.Effects.{Effect, Kept, Calculated, Refused, Allocated, Cloned, Freed, Prepended, Appended, Adjusted, Trimmed, Chained, Stored, Sent}
+use Rattle.dp_model.specs.Laws.Effects.{Effect, Kept, Calculated, Refused, Allocated, Cloned, Freed, Prepended, Appended, Adjusted, Trimmed, Chained}
+use Rattle.dp_model.specs.Laws.Effects.{Stored, Sent}
 use Rattle.dp_model.specs.Laws.Effects.{Queued, effect_of}
 use Rattle.dp_model.specs.Laws.Steps.{budget_keeps}
 use Rattle.dp_model.proofs.SoundClone.{refs_cloned}

@@ -11,7 +11,8 @@ use Rattle.dp_model.specs.Machine.{Setting, State, Next, At, Ended, Move, Acts, 
 use Rattle.dp_model.specs.Machine.{with_outbox, with_step, Step}
 use Rattle.dp_model.specs.Runs.{Then, Goes}
 use Rattle.dp_model.specs.Safety.{IsPacket, IsPacketOrNone, ArePackets}
-use Rattle.dp_model.specs.Laws.Effects.{Effect, Kept, Calculated, Refused, Allocated, Cloned, Freed, Prepended, Appended, Adjusted, Trimmed, Chained, Stored, Sent}
+use Rattle.dp_model.specs.Laws.Effects.{Effect, Kept, Calculated, Refused, Allocated, Cloned, Freed, Prepended, Appended, Adjusted, Trimmed, Chained}
+use Rattle.dp_model.specs.Laws.Effects.{Stored, Sent}
 use Rattle.dp_model.specs.Laws.Effects.{Queued, effect_of}
 use Rattle.dp_model.proofs.SoundClone.{length_cloned}
 use Rattle.dp_model.specs.Laws.Lists.{all_join, each_at}

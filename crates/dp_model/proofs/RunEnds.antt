@@ -91,7 +91,8 @@ serves_counts c programs zero w w' answers runs (none, _, is) =
     let no_call : length answers ≡ 0 = ap length none in
     let calls : w'.calls ≡ w.calls = ap (λ (x : World). x.calls) is in
     omega (arith, no_call, calls)
-serves_counts c programs (suc n) w w' answers runs serves = go (first_waiting w.rings) serves (λ mid answers more. serves_counts c programs n mid w' answers more)
+serves_counts c programs (suc n) w w' answers runs serves = go (first_waiting w.rings) serves
+    (λ mid answers more. serves_counts c programs n mid w' answers more)
   where
     go : (o : Option (Waiting Packet)) → MatchOption o ((answers ≡ []) × (runs ≡ 0) × (w' ≡ w)) (λ next. (program : List Instr)
         × (now later : List Bool) × (mid : World) × (more : ℕ) × (slice_get programs next.ring ≡ Some program)

@@ -128,7 +128,8 @@ safe_beginning c entry program k number w node well = record {
   safe = accepted_is_safe c node.question k number w node.accepted well;
 }
 
-pub safe_ends : (c : Setting) (b : Beginning) → IsSafeBeginning c b → (answers : List Bool) × (w' : World) × NodeRun c b.program b.packet b.number b.world answers w'
+pub safe_ends : (c : Setting) (b : Beginning) → IsSafeBeginning c b → (answers : List Bool) × (w' : World)
+    × NodeRun c b.program b.packet b.number b.world answers w'
 safe_ends c b s = subst (λ p. (answers : List Bool) × (w' : World) × NodeRun c p b.packet b.number b.world answers w') s.program_is s.safe.ends
 
 -- ---- the node run of the record
@@ -222,7 +223,8 @@ serves_rest c nodes (suc n) w w' answers runs checked rest serves = go (first_wa
   where
     go : (o : Option (Waiting Packet)) → first_waiting w.rings ≡ o → MatchOption o ((answers ≡ []) × (runs ≡ 0) × (w' ≡ w)) (λ next. (program : List Instr)
         × (now later : List Bool) × (mid : World) × (more : ℕ) × (slice_get nodes.rings next.ring ≡ Some program)
-        × NodeRun c program next.packet next.ring (record w { rings = next.rings }) now mid × Serves c nodes.rings n mid later more w' × (answers ≡ now ++ later)
+        × NodeRun c program next.packet next.ring (record w { rings = next.rings }) now mid × Serves c nodes.rings n mid later more w'
+        × (answers ≡ now ++ later)
         × (runs ≡ more + 1)) → ((mid : World) (answers : List Bool) (more : ℕ) → IsAtRest c mid → Serves c nodes.rings n mid answers more w' → IsAtRest c w') →
         IsAtRest c w'
     go None e (_, _, is) on = subst (IsAtRest c) (sym is) rest
@@ -253,7 +255,8 @@ serves_exist c nodes (suc n) w pipeline rest = go (first_waiting w.rings) refl (
         (answers : List Bool) × (runs : ℕ) × (w' : World) × Serves c nodes.rings n mid answers runs w') →
         (answers : List Bool) × (runs : ℕ) × (w' : World) × MatchOption o ((answers ≡ []) × (runs ≡ 0) × (w' ≡ w)) (λ next. (program : List Instr)
         × (now later : List Bool) × (mid : World) × (more : ℕ) × (slice_get nodes.rings next.ring ≡ Some program)
-        × NodeRun c program next.packet next.ring (record w { rings = next.rings }) now mid × Serves c nodes.rings n mid later more w' × (answers ≡ now ++ later)
+        × NodeRun c program next.packet next.ring (record w { rings = next.rings }) now mid × Serves c nodes.rings n mid later more w'
+        × (answers ≡ now ++ later)
         × (runs ≡ more + 1))
     go None e on = ([], 0, w, (refl, refl, refl))
     go (Some next) e on =
@@ -337,7 +340,8 @@ arrives_exist c nodes program port spec bytes w pipeline is_spec is_program rest
         (ltb-false spec.segs (needed c.env.pools spec.pool (length bytes)) e) f
 
 -- the outcome is the one that the pattern and the free buffers decide
-pub arrives_outcome : (c : Setting) (program : List Instr) (port : ℕ) (spec : PortSpec) (bytes : List ℕ) (w w' : World) (outcome : Outcome) (answers : List Bool)
+pub arrives_outcome : (c : Setting) (program : List Instr) (port : ℕ) (spec : PortSpec) (bytes : List ℕ) (w w' : World) (outcome : Outcome)
+    (answers : List Bool)
     → Arrives c program port spec bytes w outcome answers w' → outcome ≡ outcome_for c spec bytes w
 arrives_outcome c program port spec bytes w w' Oversize answers (large, _, _) =
     let e = lt-ltb spec.segs (needed c.env.pools spec.pool (length bytes)) large in

@@ -100,7 +100,8 @@ all_checked env nodes h k q at = go (cases_lt k (length env.ports))
     go (inr most) = (h.rings (k - length env.ports) q (ap (slice_get nodes) (omega (arith, most)) ∙ at)).checked
 
 -- as its tables are shown
-pub is_ready : (p : Plan) (pattern : List ℕ) (tables : List RouteTable) → tables ≡ p.tables → IsPlan p → ((k : ℕ) (t : RouteTable) → slice_get tables k ≡ Some t → AllByRecursion (λ (route : Route). route.hop ≤ 16777215) t.routes) → AreLaws → IsReady p pattern
+pub is_ready : (p : Plan) (pattern : List ℕ) (tables : List RouteTable) → tables ≡ p.tables → IsPlan p
+    → ((k : ℕ) (t : RouteTable) → slice_get tables k ≡ Some t → AllByRecursion (λ (route : Route). route.hop ≤ 16777215) t.routes) → AreLaws → IsReady p pattern
 is_ready p pattern tables tables_are plan hops laws =
     let engine = plan_of p.env p.tables p.nodes pattern plan.limits (are_nodes p.env p.nodes plan.nodes) plan.tables (all_checked p.env p.nodes plan.nodes)
     (subst (λ (l : List RouteTable). (k : ℕ) (t : RouteTable) → slice_get l k ≡ Some t →

@@ -130,9 +130,11 @@ start_rest c w tables start = record { ready = start_ready c w tables start; own
 
 -- a safe node run is never stuck
 pub safe_never_stuck : (c : Setting) (b : Beginning) → IsSafeBeginning c b → NeverStuck c b.program b.packet b.number b.world
-safe_never_stuck c b s = subst (λ p. NeverStuck c p b.packet b.number b.world) s.program_is (λ n label answers t goes. (s.safe.stays n label answers t goes).has_step)
+safe_never_stuck c b s = subst (λ p. NeverStuck c p b.packet b.number b.world) s.program_is
+    (λ n label answers t goes. (s.safe.stays n label answers t goes).has_step)
 
 -- it leaves the world at rest for the next
-pub safe_rests : (c : Setting) (b : Beginning) (answers : List Bool) (w' : World) → IsSafeBeginning c b → NodeRun c b.program b.packet b.number b.world answers w'
+pub safe_rests : (c : Setting) (b : Beginning) (answers : List Bool) (w' : World) → IsSafeBeginning c b
+    → NodeRun c b.program b.packet b.number b.world answers w'
     → IsAtRest c w'
 safe_rests c b answers w' s run = s.safe.rests answers w' (subst (λ p. NodeRun c p b.packet b.number b.world answers w') (sym s.program_is) run)

@@ -12,7 +12,8 @@ returns-clause-acts c =
       refused = c.alloc.ensures.refused;
       given = c.alloc.ensures.given;
     } in
-    allocates_to S c.args.label c.args.m.now c.alloc.new.self c.args.instr.now c.in-Alloc-by_instr.into c.in-Alloc-by_instr.pool c.in-Alloc-by_instr.refused _ c.alloc.result
+    allocates_to S c.args.label c.args.m.now c.alloc.new.self c.args.instr.now c.in-Alloc-by_instr.into c.in-Alloc-by_instr.pool c.in-Alloc-by_instr.refused _
+    c.alloc.result
     c.in-Alloc-by_instr.is c.requires.has did c.branch-alloc.ensures
 
 pub returns-2-clause-acts : goal.returns-2-clause-acts
@@ -23,20 +24,23 @@ returns-2-clause-acts c =
       refused = c.clone_of.ensures.refused;
       given = c.clone_of.ensures.given;
     } in
-    clones_to S c.args.label c.args.m.now c.clone_of.new.self c.args.instr.now c.in-Clone-by_instr.into c.in-Clone-by_instr.from c.in-Clone-by_instr.pool c.in-Clone-by_instr.refused _
+    clones_to S c.args.label c.args.m.now c.clone_of.new.self c.args.instr.now c.in-Clone-by_instr.into c.in-Clone-by_instr.from c.in-Clone-by_instr.pool
+    c.in-Clone-by_instr.refused _
     c.clone_of.result c.in-Clone-by_instr.is c.requires.has did c.branch-clone_of.ensures
 
 pub overflow_cast-number : goal.overflow_cast-number
 overflow_cast-number c =
     omega (
       arith,
-      (port_there (setting_of c.args.env.now c.args.tables.now c.args.pattern.now) c.args.label c.args.m.now c.args.instr.now c.in-Tx-by_instr.packet c.in-Tx-by_instr.port
+      (port_there (setting_of c.args.env.now c.args.tables.now c.args.pattern.now) c.args.label c.args.m.now c.args.instr.now c.in-Tx-by_instr.packet
+          c.in-Tx-by_instr.port
           c.in-Tx-by_instr.full c.number-3.result c.requires.fits c.in-Tx-by_instr.is c.number-3.ensures c.requires.has).1,
     )
 
 pub send-requires-clause-there : goal.send-requires-clause-there
 send-requires-clause-there c =
-    (port_there (setting_of c.args.env.now c.args.tables.now c.args.pattern.now) c.args.label c.args.m.now c.args.instr.now c.in-Tx-by_instr.packet c.in-Tx-by_instr.port
+    (port_there (setting_of c.args.env.now c.args.tables.now c.args.pattern.now) c.args.label c.args.m.now c.args.instr.now c.in-Tx-by_instr.packet
+    c.in-Tx-by_instr.port
     c.in-Tx-by_instr.full c.number-3.result c.requires.fits c.in-Tx-by_instr.is c.number-3.ensures c.requires.has).0
 
 pub returns-7-clause-acts : goal.returns-7-clause-acts
@@ -52,7 +56,8 @@ returns-7-clause-acts c =
 
 pub enqueue-requires-clause-there : goal.enqueue-requires-clause-there
 enqueue-requires-clause-there c =
-    ring_there (setting_of c.args.env.now c.args.tables.now c.args.pattern.now) c.args.label c.args.m.now c.args.instr.now c.in-Enq-by_instr.packet c.in-Enq-by_instr.ring
+    ring_there (setting_of c.args.env.now c.args.tables.now c.args.pattern.now) c.args.label c.args.m.now c.args.instr.now c.in-Enq-by_instr.packet
+    c.in-Enq-by_instr.ring
     c.in-Enq-by_instr.full c.requires.fits c.in-Enq-by_instr.is c.requires.has
 
 pub returns-8-clause-acts : goal.returns-8-clause-acts
@@ -62,7 +67,8 @@ returns-8-clause-acts c =
       queued = c.enqueue.ensures.queued;
       full = c.enqueue.ensures.full;
     } in
-    queues_to (setting_of c.args.env.now c.args.tables.now c.args.pattern.now) c.args.label c.args.m.now c.enqueue.new.self c.args.instr.now c.in-Enq-by_instr.packet
+    queues_to (setting_of c.args.env.now c.args.tables.now c.args.pattern.now) c.args.label c.args.m.now c.enqueue.new.self c.args.instr.now
+    c.in-Enq-by_instr.packet
     c.in-Enq-by_instr.ring c.in-Enq-by_instr.full _ c.enqueue.result c.requires.fits c.in-Enq-by_instr.is c.requires.has did c.branch-enqueue.ensures
 
 pub hop_in-requires : goal.hop_in-requires

@@ -26,7 +26,11 @@ returns-clause-arguments c =
     ∙ c.in_ok-label.was in
     let label : label_in (target_in (view.source c.args.source.now)) c.args.statement.now.arguments.items ≡ Some c.in_ok-label.label =
     rw c.as_slice-arguments.ensures.value at sliced in
-    let made : spelled c.built.result ≡ record { form = c.args.statement.now.form; arguments = map (numbered c.in_ok-label.label) c.args.statement.now.arguments.items } =
+    let made : spelled c.built.result ≡ record {
+      form = c.args.statement.now.form;
+      arguments = map (numbered c.in_ok-label.label)
+          c.args.statement.now.arguments.items;
+    } =
     rw (c.built.ensures, c.as_slice-arguments.ensures.value) (spells c.args.statement.now.form c.in_ok-label.label c.args.statement.now.arguments.items
     c.args.statement.now.fits) in
     rw (

@@ -12,14 +12,16 @@ pub load_nodes-requires-clause-few_ports : goal.load_nodes-requires-clause-few_p
 load_nodes-requires-clause-few_ports g c =
     let same : length c.in_ok-config.config.ports.items ≡ length c.in_ok-config.config.env.ports =
     ports_of c.in_ok-config.ensures.ok.setup c.in_ok-config.config c.in_ok-config.ensures.ok.config in
-    let most : length c.in_ok-config.config.env.ports ≤ 8 = (few c.in_ok-config.config.env (limits_of c.in_ok-config.ensures.ok.setup c.in_ok-config.config c.in_ok-config.ensures.ok.config)).0 in
+    let most : length c.in_ok-config.config.env.ports ≤ 8 = (few c.in_ok-config.config.env
+    (limits_of c.in_ok-config.ensures.ok.setup c.in_ok-config.config c.in_ok-config.ensures.ok.config)).0 in
     rw c.deref.ensures.value (omega (arith, same, most))
 
 pub load_nodes-requires-clause-few_rings : goal.load_nodes-requires-clause-few_rings
 load_nodes-requires-clause-few_rings g c =
     let same : length c.in_ok-config.config.rings.items ≡ length c.in_ok-config.config.env.rings =
     rings_of c.in_ok-config.ensures.ok.setup c.in_ok-config.config c.in_ok-config.ensures.ok.config in
-    let most : length c.in_ok-config.config.env.rings ≤ 8 = (few c.in_ok-config.config.env (limits_of c.in_ok-config.ensures.ok.setup c.in_ok-config.config c.in_ok-config.ensures.ok.config)).1 in
+    let most : length c.in_ok-config.config.env.rings ≤ 8 = (few c.in_ok-config.config.env
+    (limits_of c.in_ok-config.ensures.ok.setup c.in_ok-config.config c.in_ok-config.ensures.ok.config)).1 in
     rw c.deref-2.ensures.value (omega (arith, same, most))
 
 pub returns-in_err-nodes-clause-fails : goal.returns-in_err-nodes-clause-fails
