@@ -99,76 +99,77 @@ grouped_opened t t' old new first table is opened small here others = record {
         let more = groups_more 16777216 first old new small others (is.plain first none) (omega (arith, here)) in
         omega (arith, used, no, more, is.needed)
 
--- one deep route fewer, whose first bits have been closed
-pub grouped_closed : (t t' : Table) (old new : List Route) (first : ℕ) → IsTable t → Grouped t old → Closed first t t' → first < 16777216 →
-    deep_count old first ≡ deep_count new first + 1 → ((i : ℕ) → i ≢ first → deep_count new i ≡ deep_count old i) → Grouped t' new
-grouped_closed t t' old new first table is closed small here others = record {
-  grouped = λ i g named. ⊎_elim (λ (e : i ≡ first). mine i g e named) (λ (e : i ≢ first). other i g e named) (cases_eq i first);
-  plain = λ i none. ⊎_elim
-      (λ (e : i ≡ first). last i e none)
-      (λ (e : i ≢ first). others i e ∙ is.plain i (sym (closed.others i e) ∙ none))
-      (cases_eq i first);
-  needed = needed;
-}
-  where
-    count : slice_index t.counts.items closed.group ≡ deep_count old first
-    count = is.grouped first closed.group closed.before
+module _ (t t' : Table) (old new : List Route) (first : ℕ) (table : IsTable t) (is : Grouped t old) (closed : Closed first t t') (small : first < 16777216)
+    (here : deep_count old first ≡ deep_count new first + 1) (others : (i : ℕ) → i ≢ first → deep_count new i ≡ deep_count old i) where
+  count : slice_index t.counts.items closed.group ≡ deep_count old first
+  count = is.grouped first closed.group closed.before
 
-    there : closed.group < length t.counts.items
-    there = table.named first closed.group closed.before
+  there : closed.group < length t.counts.items
+  there = table.named first closed.group closed.before
 
-    one_or_more : (slice_index t.counts.items closed.group ≡ 1) ⊎ (slice_index t.counts.items closed.group ≢ 1)
-    one_or_more = cases_eq (slice_index t.counts.items closed.group) 1
+  one_or_more : (slice_index t.counts.items closed.group ≡ 1) ⊎ (slice_index t.counts.items closed.group ≢ 1)
+  one_or_more = cases_eq (slice_index t.counts.items closed.group) 1
 
-    mine : (i g : ℕ) → i ≡ first → group_at t' i ≡ Some g → slice_index t'.counts.items g ≡ deep_count new i
-    mine i g e named = ⊎_elim
-        (λ one. let h = sym (ap (group_at t') e ∙ closed.last one) ∙ named in cc)
-        (λ more.
-        let same : g ≡ closed.group = same_Some g closed.group (sym named ∙ (ap (group_at t') e ∙ closed.more (omega (arith, more, count, here)))) in
-        let less : slice_index t.counts.items closed.group - 1 ≡ deep_count new first = omega (arith, count, here) in
-        ap (slice_index t'.counts.items) same
-        ∙ (ap (λ xs. slice_index xs closed.group) closed.counts
-        ∙ (index_set_same t.counts.items closed.group (slice_index t.counts.items closed.group - 1) there
-        ∙ (less ∙ ap (deep_count new) (sym e)))))
-        one_or_more
+  mine : (i g : ℕ) → i ≡ first → group_at t' i ≡ Some g → slice_index t'.counts.items g ≡ deep_count new i
+  mine i g e named = ⊎_elim
+      (λ one. let h = sym (ap (group_at t') e ∙ closed.last one) ∙ named in cc)
+      (λ more.
+      let same : g ≡ closed.group = same_Some g closed.group (sym named ∙ (ap (group_at t') e ∙ closed.more (omega (arith, more, count, here)))) in
+      let less : slice_index t.counts.items closed.group - 1 ≡ deep_count new first = omega (arith, count, here) in
+      ap (slice_index t'.counts.items) same
+      ∙ (ap (λ xs. slice_index xs closed.group) closed.counts
+      ∙ (index_set_same t.counts.items closed.group (slice_index t.counts.items closed.group - 1) there
+      ∙ (less ∙ ap (deep_count new) (sym e)))))
+      one_or_more
 
-    other : (i g : ℕ) → i ≢ first → group_at t' i ≡ Some g → slice_index t'.counts.items g ≡ deep_count new i
-    other i g e named =
-        let before = sym (closed.others i e) ∙ named in
-        let apart : g ≢ closed.group = λ same. e (table.apart i first closed.group (before ∙ ap Some same) closed.before) in
-        ap (λ xs. slice_index xs g) closed.counts
-        ∙ (index_set_other t.counts.items closed.group g (slice_index t.counts.items closed.group - 1) apart
-        ∙ (is.grouped i g before ∙ sym (others i e)))
+  other : (i g : ℕ) → i ≢ first → group_at t' i ≡ Some g → slice_index t'.counts.items g ≡ deep_count new i
+  other i g e named =
+      let before = sym (closed.others i e) ∙ named in
+      let apart : g ≢ closed.group = λ same. e (table.apart i first closed.group (before ∙ ap Some same) closed.before) in
+      ap (λ xs. slice_index xs g) closed.counts
+      ∙ (index_set_other t.counts.items closed.group g (slice_index t.counts.items closed.group - 1) apart
+      ∙ (is.grouped i g before ∙ sym (others i e)))
 
-    last : (i : ℕ) → i ≡ first → group_at t' i ≡ None → deep_count new i ≡ 0
-    last i e none = ⊎_elim
-        (λ one. ap (deep_count new) e ∙ omega (arith, one, count, here))
-        (λ more. let h = sym none ∙ (ap (group_at t') e ∙ closed.more (omega (arith, more, count, here))) in cc)
-        one_or_more
+  last : (i : ℕ) → i ≡ first → group_at t' i ≡ None → deep_count new i ≡ 0
+  last i e none = ⊎_elim
+      (λ one. ap (deep_count new) e ∙ omega (arith, one, count, here))
+      (λ more. let h = sym none ∙ (ap (group_at t') e ∙ closed.more (omega (arith, more, count, here))) in cc)
+      one_or_more
 
-    used : used_count t'.counts.items + 1 ≡ used_count t.counts.items + one_if (nat_lt 0 (slice_index t.counts.items closed.group - 1))
-    used =
-        let one : one_if (nat_lt 0 (slice_index t.counts.items closed.group)) ≡ 1 =
-        ap one_if (lt-ltb 0 (slice_index t.counts.items closed.group) (omega (arith, count, here))) in
-        let set = used_set t.counts.items closed.group (slice_index t.counts.items closed.group - 1) there in
-        let now : used_count t'.counts.items ≡ used_count (slice_set t.counts.items closed.group (slice_index t.counts.items closed.group - 1)) =
-        ap used_count closed.counts in
-        omega (arith, one, set, now)
+  used : used_count t'.counts.items + 1 ≡ used_count t.counts.items + one_if (nat_lt 0 (slice_index t.counts.items closed.group - 1))
+  used =
+      let one : one_if (nat_lt 0 (slice_index t.counts.items closed.group)) ≡ 1 =
+      ap one_if (lt-ltb 0 (slice_index t.counts.items closed.group) (omega (arith, count, here))) in
+      let set = used_set t.counts.items closed.group (slice_index t.counts.items closed.group - 1) there in
+      let now : used_count t'.counts.items ≡ used_count (slice_set t.counts.items closed.group (slice_index t.counts.items closed.group - 1)) =
+      ap used_count closed.counts in
+      omega (arith, one, set, now)
 
-    needed : used_count t'.counts.items ≡ groups_needed new
-    needed = ⊎_elim
-        (λ (one : slice_index t.counts.items closed.group ≡ 1).
-        let no : one_if (nat_lt 0 (slice_index t.counts.items closed.group - 1)) ≡ 0 =
-        ap one_if (le-ltb 0 (slice_index t.counts.items closed.group - 1) (omega (arith, one))) in
-        let more = groups_more 16777216 first new old small (λ i e. sym (others i e)) (omega (arith, one, count, here)) (omega (arith, here)) in
-        omega (arith, used, no, more, is.needed))
-        (λ (more : slice_index t.counts.items closed.group ≢ 1).
-        let one : one_if (nat_lt 0 (slice_index t.counts.items closed.group - 1)) ≡ 1 =
-        ap one_if (lt-ltb 0 (slice_index t.counts.items closed.group - 1) (omega (arith, more, count, here))) in
-        let same = groups_same 16777216 old new (λ i. ⊎_elim
-        (λ (e : i ≡ first). both_some (deep_count new i) (deep_count old i) (omega (arith, more, count, here, ap (deep_count new) e))
-        (omega (arith, here, ap (deep_count old) e)))
-        (λ (e : i ≢ first). ap (nat_lt 0) (others i e))
-        (cases_eq i first)) in
-        omega (arith, used, one, same, is.needed))
-        one_or_more
+  needed : used_count t'.counts.items ≡ groups_needed new
+  needed = ⊎_elim
+      (λ (one : slice_index t.counts.items closed.group ≡ 1).
+      let no : one_if (nat_lt 0 (slice_index t.counts.items closed.group - 1)) ≡ 0 =
+      ap one_if (le-ltb 0 (slice_index t.counts.items closed.group - 1) (omega (arith, one))) in
+      let more = groups_more 16777216 first new old small (λ i e. sym (others i e)) (omega (arith, one, count, here)) (omega (arith, here)) in
+      omega (arith, used, no, more, is.needed))
+      (λ (more : slice_index t.counts.items closed.group ≢ 1).
+      let one : one_if (nat_lt 0 (slice_index t.counts.items closed.group - 1)) ≡ 1 =
+      ap one_if (lt-ltb 0 (slice_index t.counts.items closed.group - 1) (omega (arith, more, count, here))) in
+      let same = groups_same 16777216 old new (λ i. ⊎_elim
+      (λ (e : i ≡ first). both_some (deep_count new i) (deep_count old i) (omega (arith, more, count, here, ap (deep_count new) e))
+      (omega (arith, here, ap (deep_count old) e)))
+      (λ (e : i ≢ first). ap (nat_lt 0) (others i e))
+      (cases_eq i first)) in
+      omega (arith, used, one, same, is.needed))
+      one_or_more
+
+  -- one deep route fewer, whose first bits have been closed
+  pub grouped_closed : Grouped t' new
+  grouped_closed = record {
+    grouped = λ i g named. ⊎_elim (λ (e : i ≡ first). mine i g e named) (λ (e : i ≢ first). other i g e named) (cases_eq i first);
+    plain = λ i none. ⊎_elim
+        (λ (e : i ≡ first). last i e none)
+        (λ (e : i ≢ first). others i e ∙ is.plain i (sym (closed.others i e) ∙ none))
+        (cases_eq i first);
+    needed = needed;
+  }

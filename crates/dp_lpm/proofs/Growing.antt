@@ -61,87 +61,87 @@ put_count rules index i r missing =
     let e = spliced_count rules (take index rules ++ r ∷ drop index rules) r.prefix r.depth i (put_splice rules index r missing) in
     omega (arith, e)
 
-pub grown : (old new : RuledTable) (index : ℕ) (r : Rule) → IsKept old → IsRoute (route_of r) → IsMissing old.rules.items r.depth r.prefix index →
-    length old.rules.items < old.max_rules → new.rules.items ≡ take index old.rules.items ++ r ∷ drop index old.rules.items →
-    vec_capacity old.rules ≤ vec_capacity new.rules → new.max_rules ≡ old.max_rules → Makes r old.table new.table → TakesIn old new (route_of r)
-    × (new_fault (shown old) (route_of r) ≡ None)
-grown old new index r kept is missing few rules room max makes = (
-  record {
-    kept = record {
-      order = subst IsOrdered (sym rules) (ordered_put old.rules.items index r kept.order missing.parts);
-      each = subst (λ rs. AllByRecursion IsRoute (routes_of rs)) (sym rules)
-          (all_routes IsRoute (take index old.rules.items ++ r ∷ drop index old.rules.items)
-          (all_put (λ q. IsRoute (route_of q)) old.rules.items index r (all_rules IsRoute old.rules.items kept.each) is));
-      table = table makes;
-      answers = λ ip. same makes ip ∙ kept.answers ip;
-      grouped = (groups makes).grouped;
-      plain = (groups makes).plain;
-      needed = (groups makes).needed;
-      few = omega (arith, ap length rules, length_put old.rules.items index r, max, few);
-      most = omega (arith, max, kept.most);
-      room = omega (arith, max, kept.room, room);
-    };
-    puts = record {
-      changes = subst (λ rs. ChangesAt (routes_in old) (routes_of rs) r.prefix r.depth (Some (route_of r))) (sym rules) changes;
-      count = length-map new.rules.items route_of ∙ (ap length rules ∙ (length_put old.rules.items index r
-          ∙ (ap (λ n. n + 1) (sym (length-map old.rules.items route_of)) ∙ ap (λ o. length (routes_in old) + (if is_some o then 0 else 1)) (sym absent))));
-      max_rules = max;
-      groups = lengths makes;
-    };
-    group = λ deep. group makes deep;
-  },
-  fault,
-)
-  where
-    absent : route_at (routes_in old) r.prefix r.depth ≡ None
-    absent = missing_at old.rules.items r.depth r.prefix index missing
+module _ (old new : RuledTable) (index : ℕ) (r : Rule) (kept : IsKept old) (is : IsRoute (route_of r)) (missing : IsMissing old.rules.items r.depth r.prefix index)
+    (few : length old.rules.items < old.max_rules) (rules : new.rules.items ≡ take index old.rules.items ++ r ∷ drop index old.rules.items)
+    (room : vec_capacity old.rules ≤ vec_capacity new.rules) (max : new.max_rules ≡ old.max_rules) (makes : Makes r old.table new.table) where
+  absent : route_at (routes_in old) r.prefix r.depth ≡ None
+  absent = missing_at old.rules.items r.depth r.prefix index missing
 
-    changes : ChangesAt (routes_in old) (routes_of (take index old.rules.items ++ r ∷ drop index old.rules.items)) r.prefix r.depth (Some (route_of r))
-    changes = subst (ChangesAt (routes_in old) (routes_of (take index old.rules.items ++ r ∷ drop index old.rules.items)) r.prefix r.depth) (found_route r)
-        (splice_changes old.rules.items (take index old.rules.items ++ r ∷ drop index old.rules.items) r.prefix r.depth
-        (put_splice old.rules.items index r missing))
+  changes : ChangesAt (routes_in old) (routes_of (take index old.rules.items ++ r ∷ drop index old.rules.items)) r.prefix r.depth (Some (route_of r))
+  changes = subst (ChangesAt (routes_in old) (routes_of (take index old.rules.items ++ r ∷ drop index old.rules.items)) r.prefix r.depth) (found_route r)
+      (splice_changes old.rules.items (take index old.rules.items ++ r ∷ drop index old.rules.items) r.prefix r.depth
+      (put_splice old.rules.items index r missing))
 
-    counted : (i : ℕ) → deep_count (routes_in new) i ≡ deep_count (routes_in old) i + one_if (is_deep_in i (route_of r))
-    counted i = ap (λ rs. deep_count (routes_of rs) i) rules ∙ put_count old.rules.items index i r missing
+  counted : (i : ℕ) → deep_count (routes_in new) i ≡ deep_count (routes_in old) i + one_if (is_deep_in i (route_of r))
+  counted i = ap (λ rs. deep_count (routes_of rs) i) rules ∙ put_count old.rules.items index i r missing
 
-    table : Makes r old.table new.table → IsTable new.table
-    table (inl (shallow, e)) = subst IsTable (sym e) kept.table
-    table (inr (deep, opened)) = opened.table
+  table : Makes r old.table new.table → IsTable new.table
+  table (inl (shallow, e)) = subst IsTable (sym e) kept.table
+  table (inr (deep, opened)) = opened.table
 
-    same : Makes r old.table new.table → (ip : ℕ) → entry_for new.table ip ≡ entry_for old.table ip
-    same (inl (shallow, e)) ip = ap (λ t. entry_for t ip) e
-    same (inr (deep, opened)) ip = opened.same ip
+  same : Makes r old.table new.table → (ip : ℕ) → entry_for new.table ip ≡ entry_for old.table ip
+  same (inl (shallow, e)) ip = ap (λ t. entry_for t ip) e
+  same (inr (deep, opened)) ip = opened.same ip
 
-    groups : Makes r old.table new.table → Grouped new.table (routes_in new)
-    groups (inl (shallow, e)) = subst (λ t. Grouped t (routes_in new)) (sym e)
-        (grouped_same old.table (routes_in old) (routes_in new) (groups_of old kept) (λ i. counted i ∙ omega (arith, deep_no (route_of r) i shallow)))
-    groups (inr (deep, opened)) = grouped_opened old.table new.table (routes_in old) (routes_in new) (first_of (route_of r)) kept.table
-        (groups_of old kept) opened (first_small (route_of r) is deep)
-        (counted (first_of (route_of r)) ∙ omega (arith, deep_yes (route_of r) deep))
-        (λ i other. counted i ∙ omega (arith, deep_other (route_of r) i deep other))
+  groups : Makes r old.table new.table → Grouped new.table (routes_in new)
+  groups (inl (shallow, e)) = subst (λ t. Grouped t (routes_in new)) (sym e)
+      (grouped_same old.table (routes_in old) (routes_in new) (groups_of old kept) (λ i. counted i ∙ omega (arith, deep_no (route_of r) i shallow)))
+  groups (inr (deep, opened)) = grouped_opened old.table new.table (routes_in old) (routes_in new) (first_of (route_of r)) kept.table
+      (groups_of old kept) opened (first_small (route_of r) is deep)
+      (counted (first_of (route_of r)) ∙ omega (arith, deep_yes (route_of r) deep))
+      (λ i other. counted i ∙ omega (arith, deep_other (route_of r) i deep other))
 
-    lengths : Makes r old.table new.table → length new.table.counts.items ≡ length old.table.counts.items
-    lengths (inl (shallow, e)) = ap (λ t. length t.counts.items) e
-    lengths (inr (deep, opened)) = ap length opened.counts ∙ length-set old.table.counts.items opened.group
-        (slice_index old.table.counts.items opened.group + 1)
+  lengths : Makes r old.table new.table → length new.table.counts.items ≡ length old.table.counts.items
+  lengths (inl (shallow, e)) = ap (λ t. length t.counts.items) e
+  lengths (inr (deep, opened)) = ap length opened.counts ∙ length-set old.table.counts.items opened.group
+      (slice_index old.table.counts.items opened.group + 1)
 
-    group : Makes r old.table new.table → 24 < r.depth → (g : ℕ) × (group_at new.table (first_of (route_of r)) ≡ Some g)
-    group (inl (shallow, e)) deep = absurd (omega (arith, shallow, deep))
-    group (inr (deep, opened)) _ = (opened.group, opened.named)
+  group : Makes r old.table new.table → 24 < r.depth → (g : ℕ) × (group_at new.table (first_of (route_of r)) ≡ Some g)
+  group (inl (shallow, e)) deep = absurd (omega (arith, shallow, deep))
+  group (inr (deep, opened)) _ = (opened.group, opened.named)
 
-    fits : Makes r old.table new.table → (nat_lt 24 r.depth && nat_lt (length old.table.counts.items) (groups_needed (route_of r ∷ routes_in old))) ≡ false
-    fits (inl (shallow, e)) = ap (λ b. b && nat_lt (length old.table.counts.items) (groups_needed (route_of r ∷ routes_in old))) (le-ltb 24 r.depth shallow)
-    fits (inr (deep, opened)) =
-        let needs = groups_same 16777216 (routes_in new) (route_of r ∷ routes_in old) (λ i. ap (nat_lt 0) (omega (arith, counted i))) in
-        ap (λ b. b && nat_lt (length old.table.counts.items) (groups_needed (route_of r ∷ routes_in old))) (lt-ltb 24 r.depth deep)
-        ∙ le-ltb (length old.table.counts.items) (groups_needed (route_of r ∷ routes_in old))
-        (omega (arith, needs, (groups (inr (deep, opened))).needed, used_few new.table.counts.items, lengths (inr (deep, opened))))
+  fits : Makes r old.table new.table → (nat_lt 24 r.depth && nat_lt (length old.table.counts.items) (groups_needed (route_of r ∷ routes_in old))) ≡ false
+  fits (inl (shallow, e)) = ap (λ b. b && nat_lt (length old.table.counts.items) (groups_needed (route_of r ∷ routes_in old))) (le-ltb 24 r.depth shallow)
+  fits (inr (deep, opened)) =
+      let needs = groups_same 16777216 (routes_in new) (route_of r ∷ routes_in old) (λ i. ap (nat_lt 0) (omega (arith, counted i))) in
+      ap (λ b. b && nat_lt (length old.table.counts.items) (groups_needed (route_of r ∷ routes_in old))) (lt-ltb 24 r.depth deep)
+      ∙ le-ltb (length old.table.counts.items) (groups_needed (route_of r ∷ routes_in old))
+      (omega (arith, needs, (groups (inr (deep, opened))).needed, used_few new.table.counts.items, lengths (inr (deep, opened))))
 
-    fault : new_fault (shown old) (route_of r) ≡ None
-    fault =
-        ap (λ b. if b then Some RulesFull else if nat_lt 24 r.depth && nat_lt (length old.table.counts.items) (groups_needed (route_of r ∷ routes_in old))
-        then Some GroupsFull else None) (lt-leb old.max_rules (length (routes_in old)) (omega (arith, few, length-map old.rules.items route_of)))
-        ∙ ap (λ b. if b then Some GroupsFull else None) (fits makes)
+  fault : new_fault (shown old) (route_of r) ≡ None
+  fault =
+      ap (λ b. if b then Some RulesFull else if nat_lt 24 r.depth && nat_lt (length old.table.counts.items) (groups_needed (route_of r ∷ routes_in old))
+      then Some GroupsFull else None) (lt-leb old.max_rules (length (routes_in old)) (omega (arith, few, length-map old.rules.items route_of)))
+      ∙ ap (λ b. if b then Some GroupsFull else None) (fits makes)
+
+  pub grown : TakesIn old new (route_of r) × (new_fault (shown old) (route_of r) ≡ None)
+  grown = (
+    record {
+      kept = record {
+        order = subst IsOrdered (sym rules) (ordered_put old.rules.items index r kept.order missing.parts);
+        each = subst (λ rs. AllByRecursion IsRoute (routes_of rs)) (sym rules)
+            (all_routes IsRoute (take index old.rules.items ++ r ∷ drop index old.rules.items)
+            (all_put (λ q. IsRoute (route_of q)) old.rules.items index r (all_rules IsRoute old.rules.items kept.each) is));
+        table = table makes;
+        answers = λ ip. same makes ip ∙ kept.answers ip;
+        grouped = (groups makes).grouped;
+        plain = (groups makes).plain;
+        needed = (groups makes).needed;
+        few = omega (arith, ap length rules, length_put old.rules.items index r, max, few);
+        most = omega (arith, max, kept.most);
+        room = omega (arith, max, kept.room, room);
+      };
+      puts = record {
+        changes = subst (λ rs. ChangesAt (routes_in old) (routes_of rs) r.prefix r.depth (Some (route_of r))) (sym rules) changes;
+        count = length-map new.rules.items route_of ∙ (ap length rules ∙ (length_put old.rules.items index r
+            ∙ (ap (λ n. n + 1) (sym (length-map old.rules.items route_of)) ∙ ap (λ o. length (routes_in old) + (if is_some o then 0 else 1)) (sym absent))));
+        max_rules = max;
+        groups = lengths makes;
+      };
+      group = λ deep. group makes deep;
+    },
+    fault,
+  )
 
 -- no group is left for a deep rule
 pub full : (s : RuledTable) (t : Table) (r : Rule) → IsKept s → IsRoute (route_of r) → length s.rules.items < s.max_rules → 24 < r.depth →
