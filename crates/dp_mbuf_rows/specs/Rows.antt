@@ -1,9 +1,10 @@
 -- What the helpers of the tests keep.
-use Rattle.std.specs.Prelude.{◌≡◌, ℕ, ◌+◌, ◌<◌, ◌≤◌, false, length, List, Option, Some, None, replicate}
+use Rattle.std.specs.Prelude.{◌≡◌, ℕ, ◌+◌, ◌<◌, false, length, List, Option, Some, None, replicate}
 use Rattle.std.specs.List.{AllByRecursion}
 use Rattle.dp_model.specs.Environments.{room_at}
 use Rattle.dp_model.specs.Stores.{Store}
 use Rattle.dp_mbuf.specs.declared.limits.TheConstants.{HEADER_SIZE, HEADROOM}
+use Rattle.dp_mbuf.specs.Mbufs.{MbufsView}
 use Rattle.dp_region.specs.Ownership.{Home}
 use Rattle.dp_pool.specs.Pools.{PoolZones, PoolView}
 
@@ -11,6 +12,11 @@ use Rattle.dp_pool.specs.Pools.{PoolZones, PoolView}
 pub record IsOver (s : Store) : Type 0 where
   pub three : length s.pools ≡ 3
   pub rooms : (k : ℕ) → k < 2 → HEADROOM < room_at s.pools k
+
+-- they still are, in the zones in which they stood
+pub record StaysOver (old new : MbufsView) : Type 0 where
+  pub over : IsOver new.store
+  pub zones : new.zones ≡ old.zones
 
 -- all zones are of one region
 abbrev pub AreIn : Home → List PoolZones → Type 0

@@ -1,8 +1,9 @@
 //! The calls on packets. Each asserts what the call asks for, so that a test reads as the example that it is.
 
-ghost use Rattle.std.specs.Prelude.{◌≡◌, ◌+◌, ◌*◌, ◌<◌, ◌≤◌, length};
-ghost use Rattle.dp_model.specs.Stores.{IsLive};
-ghost use Rattle.dp_mbuf_rows.specs.Rows.{IsOver};
+ghost use Rattle.std.specs.Prelude.{◌≡◌, ◌+◌, ◌*◌, ◌<◌, ◌≤◌, length, slice_get};
+ghost use Rattle.dp_model.specs.Packets.{Segment, refs};
+ghost use Rattle.dp_model.specs.Stores.{IsLive, Of, segments_of};
+ghost use Rattle.dp_mbuf_rows.specs.Rows.{IsOver, StaysOver};
 
 use dp_mbuf::Mbufs;
 use dp_model::{Packet, Width};
@@ -19,8 +20,7 @@ pub(crate) fn alive(rt: &impl Abort, m: &Mbufs, p: &Packet)
 pub(crate) fn receive(rt: &impl Abort, m: &mut Mbufs, pool: u32, bytes: &[u8]) -> Option<Packet>
     requires over { IsOver m.old.store }
     requires pool { pool < 2 }
-    ensures over { IsOver m.new.store }
-    ensures zones { m.new.zones ≡ m.old.zones }
+    ensures { StaysOver m.old m.new }
 {
     assert!(rt; bytes.len() < 262_145);
     let need = m.needed(pool, bytes.len());
@@ -31,8 +31,7 @@ pub(crate) fn receive(rt: &impl Abort, m: &mut Mbufs, pool: u32, bytes: &[u8]) -
 pub(crate) fn alloc(m: &mut Mbufs, pool: u32) -> Option<Packet>
     requires over { IsOver m.old.store }
     requires pool { pool < 3 }
-    ensures over { IsOver m.new.store }
-    ensures zones { m.new.zones ≡ m.old.zones }
+    ensures { StaysOver m.old m.new }
 {
     m.alloc(pool)
 }
@@ -40,8 +39,7 @@ pub(crate) fn alloc(m: &mut Mbufs, pool: u32) -> Option<Packet>
 pub(crate) fn copy(rt: &impl Abort, m: &mut Mbufs, p: &Packet, pool: u32) -> Option<Packet>
     requires over { IsOver m.old.store }
     requires pool { pool < 3 }
-    ensures over { IsOver m.new.store }
-    ensures zones { m.new.zones ≡ m.old.zones }
+    ensures { StaysOver m.old m.new }
 {
     alive(rt, m, p);
     m.clone_of(p, pool)
@@ -49,8 +47,7 @@ pub(crate) fn copy(rt: &impl Abort, m: &mut Mbufs, p: &Packet, pool: u32) -> Opt
 
 pub(crate) fn free(rt: &impl Abort, m: &mut Mbufs, p: Packet)
     requires { IsOver m.old.store }
-    ensures over { IsOver m.new.store }
-    ensures zones { m.new.zones ≡ m.old.zones }
+    ensures { StaysOver m.old m.new }
 {
     alive(rt, m, &p);
     m.free(p);
@@ -65,13 +62,9 @@ pub(crate) fn free_count(m: &Mbufs, pool: u32) -> u32
 
 pub(crate) fn prepend(rt: &impl Abort, m: &mut Mbufs, p: &Packet, n: u16)
     requires { IsOver m.old.store }
-    ensures over { IsOver m.new.store }
-    ensures zones { m.new.zones ≡ m.old.zones }
+    ensures { StaysOver m.old m.new }
 {
-    alive(rt, m, p);
-    let count = m.segments(p);
-    assert!(rt; 1 <= count);
-    let sharers = m.refs(p, 0);
+    let sharers = refs(rt, m, p, 0);
     assert!(rt; sharers == 1);
     let room = m.headroom(p);
     assert!(rt; n <= room);
@@ -80,13 +73,11 @@ pub(crate) fn prepend(rt: &impl Abort, m: &mut Mbufs, p: &Packet, n: u16)
 
 pub(crate) fn append(rt: &impl Abort, m: &mut Mbufs, p: &Packet, n: u16)
     requires { IsOver m.old.store }
-    ensures over { IsOver m.new.store }
-    ensures zones { m.new.zones ≡ m.old.zones }
+    ensures { StaysOver m.old m.new }
 {
-    alive(rt, m, p);
-    let count = m.segments(p);
+    let count = segments(rt, m, p);
     assert!(rt; 1 <= count);
-    let sharers = m.refs(p, count - 1);
+    let sharers = refs(rt, m, p, count - 1);
     assert!(rt; sharers == 1);
     let room = m.tailroom(p);
     assert!(rt; n <= room);
@@ -95,8 +86,7 @@ pub(crate) fn append(rt: &impl Abort, m: &mut Mbufs, p: &Packet, n: u16)
 
 pub(crate) fn adj(rt: &impl Abort, m: &mut Mbufs, p: &Packet, n: u16)
     requires { IsOver m.old.store }
-    ensures over { IsOver m.new.store }
-    ensures zones { m.new.zones ≡ m.old.zones }
+    ensures { StaysOver m.old m.new }
 {
     alive(rt, m, p);
     let len = m.first_len(p);
@@ -106,8 +96,7 @@ pub(crate) fn adj(rt: &impl Abort, m: &mut Mbufs, p: &Packet, n: u16)
 
 pub(crate) fn trim(rt: &impl Abort, m: &mut Mbufs, p: &Packet, n: u16)
     requires { IsOver m.old.store }
-    ensures over { IsOver m.new.store }
-    ensures zones { m.new.zones ≡ m.old.zones }
+    ensures { StaysOver m.old m.new }
 {
     alive(rt, m, p);
     let len = m.last_len(p);
@@ -118,13 +107,9 @@ pub(crate) fn trim(rt: &impl Abort, m: &mut Mbufs, p: &Packet, n: u16)
 /// Writes one byte of the first segment.
 pub(crate) fn store(rt: &impl Abort, m: &mut Mbufs, p: &Packet, offset: u64, byte: u8)
     requires { IsOver m.old.store }
-    ensures over { IsOver m.new.store }
-    ensures zones { m.new.zones ≡ m.old.zones }
+    ensures { StaysOver m.old m.new }
 {
-    alive(rt, m, p);
-    let count = m.segments(p);
-    assert!(rt; 1 <= count);
-    let sharers = m.refs(p, 0);
+    let sharers = refs(rt, m, p, 0);
     assert!(rt; sharers == 1);
     let len = m.first_len(p);
     assert!(rt; offset < len as u64);
@@ -145,7 +130,10 @@ pub(crate) fn load_four(rt: &impl Abort, m: &Mbufs, p: &Packet) -> u64 {
     m.load(p, 0, Width::Four)
 }
 
-pub(crate) fn refs(rt: &impl Abort, m: &Mbufs, p: &Packet, k: u32) -> u32 {
+pub(crate) fn refs(rt: &impl Abort, m: &Mbufs, p: &Packet, k: u32) -> u32
+    ensures live { IsLive m.now.store p.now }
+    ensures refs { Of m.now.store p.now (λ packet. (s : Segment) → slice_get packet k ≡ Some s → result ≡ refs (segments_of m.now.store) s.buffer) }
+{
     alive(rt, m, p);
     let segments = m.segments(p);
     assert!(rt; k < segments);
@@ -154,8 +142,7 @@ pub(crate) fn refs(rt: &impl Abort, m: &Mbufs, p: &Packet, k: u32) -> u32 {
 
 pub(crate) fn chain(rt: &impl Abort, m: &mut Mbufs, head: &Packet, tail: Packet)
     requires { IsOver m.old.store }
-    ensures over { IsOver m.new.store }
-    ensures zones { m.new.zones ≡ m.old.zones }
+    ensures { StaysOver m.old m.new }
 {
     alive(rt, m, head);
     alive(rt, m, &tail);
@@ -168,7 +155,9 @@ pub(crate) fn chain(rt: &impl Abort, m: &mut Mbufs, head: &Packet, tail: Packet)
     m.chain(head, tail);
 }
 
-pub(crate) fn segments(rt: &impl Abort, m: &Mbufs, p: &Packet) -> u32 {
+pub(crate) fn segments(rt: &impl Abort, m: &Mbufs, p: &Packet) -> u32
+    ensures { Of m.now.store p.now (λ packet. result ≡ length packet) }
+{
     alive(rt, m, p);
     m.segments(p)
 }

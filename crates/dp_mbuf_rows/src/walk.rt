@@ -1,7 +1,7 @@
 //! A long random walk over two pools, beside a list of packets and their bytes.
 
 ghost use Rattle.std.specs.Prelude.{◌≡◌, ◌<◌, ◌≤◌, length};
-ghost use Rattle.dp_mbuf_rows.specs.Rows.{IsOver};
+ghost use Rattle.dp_mbuf_rows.specs.Rows.{IsOver, StaysOver};
 
 use crate::calls::{
     adj, alloc, append, chain, copy, free, free_count, load_one, prepend, receive, refs, rooms,
@@ -20,12 +20,18 @@ struct Shadow {
     bytes: Vec<u8>,
 }
 
-// How often a clone went to the other pool, and how often a chain joined packets of both.
+// The packets that there are, where numbers come from, and how often a clone went to the other pool and a chain joined packets of
+// both.
 #[derive(Drop)]
-struct Across {
+struct Walk {
+    shadows: Vec<Shadow>,
+    seed: u64,
     clones: u32,
     chains: u32,
 }
+
+// What a step answers: whether there was memory for it.
+type Grown = Result<(), AllocError>;
 
 // The pool of a packet's first mbuf.
 fn pool_of(packet: &Packet) -> u32 {
@@ -59,81 +65,60 @@ fn pick_up_to(seed: &mut u64, most: u16) -> u16
     (next(seed) % (most.min(9) as u64 + 1)) as u16
 }
 
-fn walk_receive(
-    rt: &impl Abort,
-    alloc: Global,
-    m: &mut Mbufs,
-    shadows: &mut Vec<Shadow>,
-    seed: &mut u64,
-) -> Result<(), AllocError>
+fn walk_receive(rt: &impl Abort, alloc: Global, m: &mut Mbufs, walk: &mut Walk) -> Grown
     requires { IsOver m.old.store }
-    ensures over { IsOver m.new.store }
-    ensures zones { m.new.zones ≡ m.old.zones }
+    ensures { StaysOver m.old m.new }
 {
     let mut bytes = Vec::new(alloc);
-    for _ in 0..next(seed) % 150 {
-        bytes.push((next(seed) % 256) as u8)?;
+    for _ in 0..next(&mut walk.seed) % 150 {
+        bytes.push((next(&mut walk.seed) % 256) as u8)?;
     }
-    let pool = pick_pool(seed);
+    let pool = pick_pool(&mut walk.seed);
     if let Some(packet) = receive(rt, m, pool, &bytes) {
-        shadows.push(Shadow { packet, bytes })?;
+        walk.shadows.push(Shadow { packet, bytes })?;
     }
     Ok(())
 }
 
-fn walk_alloc(
-    alloc_in: Global,
-    m: &mut Mbufs,
-    shadows: &mut Vec<Shadow>,
-    seed: &mut u64,
-) -> Result<(), AllocError>
+fn walk_alloc(alloc_in: Global, m: &mut Mbufs, walk: &mut Walk) -> Grown
     requires { IsOver m.old.store }
-    ensures over { IsOver m.new.store }
-    ensures zones { m.new.zones ≡ m.old.zones }
+    ensures { StaysOver m.old m.new }
 {
-    let pool = pick_pool(seed);
+    let pool = pick_pool(&mut walk.seed);
     if let Some(packet) = alloc(m, pool) {
         let bytes = Vec::new(alloc_in);
-        shadows.push(Shadow { packet, bytes })?;
+        walk.shadows.push(Shadow { packet, bytes })?;
     }
     Ok(())
 }
 
-fn walk_copy(
-    rt: &impl Abort,
-    m: &mut Mbufs,
-    shadows: &mut Vec<Shadow>,
-    seed: &mut u64,
-    across: &mut Across,
-) -> Result<(), AllocError>
+fn walk_copy(rt: &impl Abort, m: &mut Mbufs, walk: &mut Walk) -> Grown
     requires { IsOver m.old.store }
-    ensures over { IsOver m.new.store }
-    ensures zones { m.new.zones ≡ m.old.zones }
+    ensures { StaysOver m.old m.new }
 {
-    if shadows.is_empty() {
+    if walk.shadows.is_empty() {
         return Ok(());
     }
-    let i = pick(seed, shadows.len());
-    let bytes = shadows[i].bytes.clone()?;
-    let source = shadows[i].packet;
-    let pool = pick_pool(seed);
+    let i = pick(&mut walk.seed, walk.shadows.len());
+    let bytes = walk.shadows[i].bytes.clone()?;
+    let source = walk.shadows[i].packet;
+    let pool = pick_pool(&mut walk.seed);
     if let Some(packet) = copy(rt, m, &source, pool) {
         if pool_of(&source) != pool {
-            across.clones = across.clones.saturating_add(1);
+            walk.clones = walk.clones.saturating_add(1);
         }
-        shadows.push(Shadow { packet, bytes })?;
+        walk.shadows.push(Shadow { packet, bytes })?;
     }
     Ok(())
 }
 
-fn walk_free(rt: &impl Abort, m: &mut Mbufs, shadows: &mut Vec<Shadow>, seed: &mut u64)
+fn walk_free(rt: &impl Abort, m: &mut Mbufs, walk: &mut Walk)
     requires { IsOver m.old.store }
-    ensures over { IsOver m.new.store }
-    ensures zones { m.new.zones ≡ m.old.zones }
+    ensures { StaysOver m.old m.new }
 {
-    if !shadows.is_empty() {
-        let i = pick(seed, shadows.len());
-        let shadow = shadows.swap_remove(i);
+    if !walk.shadows.is_empty() {
+        let i = pick(&mut walk.seed, walk.shadows.len());
+        let shadow = walk.shadows.swap_remove(i);
         let same = spells(rt, m, &shadow.packet, &shadow.bytes);
         assert!(rt; same, "the bytes of a freed packet");
         free(rt, m, shadow.packet);
@@ -141,15 +126,9 @@ fn walk_free(rt: &impl Abort, m: &mut Mbufs, shadows: &mut Vec<Shadow>, seed: &m
 }
 
 // Zeros behind, where the last buffer has one reference.
-fn walk_append(
-    rt: &impl Abort,
-    m: &mut Mbufs,
-    shadow: &mut Shadow,
-    seed: &mut u64,
-) -> Result<(), AllocError>
+fn walk_append(rt: &impl Abort, m: &mut Mbufs, shadow: &mut Shadow, seed: &mut u64) -> Grown
     requires { IsOver m.old.store }
-    ensures over { IsOver m.new.store }
-    ensures zones { m.new.zones ≡ m.old.zones }
+    ensures { StaysOver m.old m.new }
 {
     let packet = shadow.packet;
     let count = segments(rt, m, &packet);
@@ -164,15 +143,9 @@ fn walk_append(
 }
 
 // Zeros in front, where the first buffer has one reference.
-fn walk_prepend(
-    rt: &impl Abort,
-    m: &mut Mbufs,
-    shadow: &mut Shadow,
-    seed: &mut u64,
-) -> Result<(), AllocError>
+fn walk_prepend(rt: &impl Abort, m: &mut Mbufs, shadow: &mut Shadow, seed: &mut u64) -> Grown
     requires { IsOver m.old.store }
-    ensures over { IsOver m.new.store }
-    ensures zones { m.new.zones ≡ m.old.zones }
+    ensures { StaysOver m.old m.new }
 {
     let packet = shadow.packet;
     if refs(rt, m, &packet, 0) == 1 {
@@ -187,8 +160,7 @@ fn walk_prepend(
 
 fn walk_adj(rt: &impl Abort, m: &mut Mbufs, shadow: &mut Shadow, seed: &mut u64)
     requires { IsOver m.old.store }
-    ensures over { IsOver m.new.store }
-    ensures zones { m.new.zones ≡ m.old.zones }
+    ensures { StaysOver m.old m.new }
 {
     let packet = shadow.packet;
     let n = pick_up_to(seed, rooms(rt, m, &packet).2);
@@ -201,8 +173,7 @@ fn walk_adj(rt: &impl Abort, m: &mut Mbufs, shadow: &mut Shadow, seed: &mut u64)
 
 fn walk_trim(rt: &impl Abort, m: &mut Mbufs, shadow: &mut Shadow, seed: &mut u64)
     requires { IsOver m.old.store }
-    ensures over { IsOver m.new.store }
-    ensures zones { m.new.zones ≡ m.old.zones }
+    ensures { StaysOver m.old m.new }
 {
     let packet = shadow.packet;
     let n = pick_up_to(seed, rooms(rt, m, &packet).3);
@@ -215,8 +186,7 @@ fn walk_trim(rt: &impl Abort, m: &mut Mbufs, shadow: &mut Shadow, seed: &mut u64
 // A byte of the first segment is read, and another written where its buffer has one reference.
 fn walk_store(rt: &impl Abort, m: &mut Mbufs, shadow: &mut Shadow, seed: &mut u64)
     requires { IsOver m.old.store }
-    ensures over { IsOver m.new.store }
-    ensures zones { m.new.zones ≡ m.old.zones }
+    ensures { StaysOver m.old m.new }
 {
     let packet = shadow.packet;
     let len = rooms(rt, m, &packet).2;
@@ -234,33 +204,26 @@ fn walk_store(rt: &impl Abort, m: &mut Mbufs, shadow: &mut Shadow, seed: &mut u6
     }
 }
 
-fn walk_chain(
-    rt: &impl Abort,
-    m: &mut Mbufs,
-    shadows: &mut Vec<Shadow>,
-    seed: &mut u64,
-    across: &mut Across,
-) -> Result<(), AllocError>
+fn walk_chain(rt: &impl Abort, m: &mut Mbufs, walk: &mut Walk) -> Grown
     requires { IsOver m.old.store }
-    ensures over { IsOver m.new.store }
-    ensures zones { m.new.zones ≡ m.old.zones }
+    ensures { StaysOver m.old m.new }
 {
-    if shadows.len() < 2 {
+    if walk.shadows.len() < 2 {
         return Ok(());
     }
-    let i = pick(seed, shadows.len());
-    let tail = shadows.swap_remove(i);
-    let j = pick(seed, shadows.len());
-    let head = shadows[j].packet;
+    let i = pick(&mut walk.seed, walk.shadows.len());
+    let tail = walk.shadows.swap_remove(i);
+    let j = pick(&mut walk.seed, walk.shadows.len());
+    let head = walk.shadows[j].packet;
     if segments(rt, m, &head) > 30 || segments(rt, m, &tail.packet) > 30 {
-        shadows.push(tail)?;
+        walk.shadows.push(tail)?;
         return Ok(());
     }
     if pool_of(&head) != pool_of(&tail.packet) {
-        across.chains = across.chains.saturating_add(1);
+        walk.chains = walk.chains.saturating_add(1);
     }
     chain(rt, m, &head, tail.packet);
-    let shadow = &mut shadows[j];
+    let shadow = &mut walk.shadows[j];
     for byte in &tail.bytes {
         shadow.bytes.push(*byte)?;
     }
@@ -268,15 +231,9 @@ fn walk_chain(
 }
 
 // A change of one packet.
-fn walk_change(
-    rt: &impl Abort,
-    m: &mut Mbufs,
-    shadow: &mut Shadow,
-    seed: &mut u64,
-) -> Result<(), AllocError>
+fn walk_change(rt: &impl Abort, m: &mut Mbufs, shadow: &mut Shadow, seed: &mut u64) -> Grown
     requires { IsOver m.old.store }
-    ensures over { IsOver m.new.store }
-    ensures zones { m.new.zones ≡ m.old.zones }
+    ensures { StaysOver m.old m.new }
 {
     match next(seed) % 5 {
         0 => walk_append(rt, m, shadow, seed),
@@ -296,46 +253,31 @@ fn walk_change(
     }
 }
 
-fn walk_one(
-    rt: &impl Abort,
-    m: &mut Mbufs,
-    shadows: &mut Vec<Shadow>,
-    seed: &mut u64,
-) -> Result<(), AllocError>
+fn walk_one(rt: &impl Abort, m: &mut Mbufs, walk: &mut Walk) -> Grown
     requires { IsOver m.old.store }
-    ensures over { IsOver m.new.store }
-    ensures zones { m.new.zones ≡ m.old.zones }
+    ensures { StaysOver m.old m.new }
 {
-    if shadows.is_empty() {
+    if walk.shadows.is_empty() {
         return Ok(());
     }
-    let i = pick(seed, shadows.len());
-    let shadow = &mut shadows[i];
-    walk_change(rt, m, shadow, seed)
+    let i = pick(&mut walk.seed, walk.shadows.len());
+    walk_change(rt, m, &mut walk.shadows[i], &mut walk.seed)
 }
 
-fn step(
-    rt: &impl Abort,
-    alloc: Global,
-    m: &mut Mbufs,
-    shadows: &mut Vec<Shadow>,
-    seed: &mut u64,
-    across: &mut Across,
-) -> Result<(), AllocError>
+fn step(rt: &impl Abort, alloc: Global, m: &mut Mbufs, walk: &mut Walk) -> Grown
     requires { IsOver m.old.store }
-    ensures over { IsOver m.new.store }
-    ensures zones { m.new.zones ≡ m.old.zones }
+    ensures { StaysOver m.old m.new }
 {
-    match next(seed) % 12 {
-        0 | 1 => walk_receive(rt, alloc, m, shadows, seed),
-        2 => walk_alloc(alloc, m, shadows, seed),
-        3 | 4 => walk_copy(rt, m, shadows, seed, across),
-        5 => walk_chain(rt, m, shadows, seed, across),
+    match next(&mut walk.seed) % 12 {
+        0 | 1 => walk_receive(rt, alloc, m, walk),
+        2 => walk_alloc(alloc, m, walk),
+        3 | 4 => walk_copy(rt, m, walk),
+        5 => walk_chain(rt, m, walk),
         6 | 7 => {
-            walk_free(rt, m, shadows, seed);
+            walk_free(rt, m, walk);
             Ok(())
         }
-        _ => walk_one(rt, m, shadows, seed),
+        _ => walk_one(rt, m, walk),
     }
 }
 
@@ -361,19 +303,19 @@ fn a_random_walk_ends_with_whole_pools(rt: HostRuntime) {
     };
     let mut s = open(&rt, rt.alloc(), first, second);
     let m = &mut s.mbufs;
-    let mut shadows = Vec::new(rt.alloc());
-    let mut seed = 20261122u64;
-    let mut across = Across {
+    let mut walk = Walk {
+        shadows: Vec::new(rt.alloc()),
+        seed: 20261122,
         clones: 0,
         chains: 0,
     };
     for _ in 0..10000 {
-        step(&rt, rt.alloc(), m, &mut shadows, &mut seed, &mut across).expect(&rt, "memory");
-        compare(&rt, m, &shadows);
+        step(&rt, rt.alloc(), m, &mut walk).expect(&rt, "memory");
+        compare(&rt, m, &walk.shadows);
     }
-    assert!(rt; across.clones > 100 && across.chains > 100);
-    for _ in 0..shadows.len() {
-        walk_free(&rt, m, &mut shadows, &mut seed);
+    assert!(rt; walk.clones > 100 && walk.chains > 100);
+    for _ in 0..walk.shadows.len() {
+        walk_free(&rt, m, &mut walk);
     }
     assert_eq!(rt; (free_count(m, 0), free_count(m, 1)), (40, 23));
     close(&rt, s);

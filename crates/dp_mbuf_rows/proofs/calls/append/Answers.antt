@@ -5,8 +5,8 @@ use Rattle.dp_mbuf_rows.proofs.calls.append.Goals as goal
 
 pub append-requires : goal.append-requires
 append-requires g c =
-    let k = c.alive.ensures.0 in
-    let has = c.alive.ensures.1 in
+    let k = c.refs-sharers.ensures.live.0 in
+    let has = c.refs-sharers.ensures.live.1 in
     let count = c.segments-count.ensures k has in
     let room = c.tailroom-room.ensures k has in
     let one : c.refs-sharers.result ≡ 1 = search rules in
@@ -16,10 +16,13 @@ append-requires g c =
       (
         omega (arith, room),
         tail_sole (segments_of c.args.m.now.store) k (c.segments-count.result - 1) c.refs-sharers.result last
-            (c.refs-sharers.ensures k has) one,
+            (c.refs-sharers.ensures.refs k has) one,
       ),
     )
 
-pub returns-clause-over : goal.returns-clause-over
-returns-clause-over g c =
-    over_kept c.args.m.now.store c.append.new.self.store (ap (λ s. s.pools) (c.append.ensures.packets c.alive.ensures.0 c.alive.ensures.1)) c.requires
+pub returns : goal.returns
+returns g c = record {
+  over = over_kept c.args.m.now.store c.append.new.self.store
+      (ap (λ s. s.pools) (c.append.ensures.packets c.refs-sharers.ensures.live.0 c.refs-sharers.ensures.live.1)) c.requires;
+  zones = search rules;
+}

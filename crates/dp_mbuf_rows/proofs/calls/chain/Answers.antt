@@ -1,6 +1,10 @@
+use Rattle.std.proofs.Common.{rules}
 use Rattle.dp_mbuf_rows.proofs.RowLemmas.{over_kept, chain_kept}
 use Rattle.dp_mbuf_rows.proofs.calls.chain.Goals as goal
 
-pub returns-clause-over : goal.returns-clause-over
-returns-clause-over g c = over_kept c.args.m.now.store c.chain.new.self.store
-    (chain_kept c.args.m.now.store c.chain.new.self.store c.args.head.now c.args.tail c.alive.ensures c.alive-2.ensures c.chain.ensures.packets) c.requires
+pub returns : goal.returns
+returns g c = record {
+  over = over_kept c.args.m.now.store c.chain.new.self.store
+      (chain_kept c.args.m.now.store c.chain.new.self.store c.args.head.now c.args.tail c.alive.ensures c.alive-2.ensures c.chain.ensures.packets) c.requires;
+  zones = search rules;
+}

@@ -1,6 +1,10 @@
+use Rattle.std.proofs.Common.{rules}
 use Rattle.dp_mbuf_rows.proofs.RowLemmas.{over_kept, receive_kept}
 use Rattle.dp_mbuf_rows.proofs.calls.receive.Goals as goal
 
-pub returns-clause-over : goal.returns-clause-over
-returns-clause-over g c = over_kept c.args.m.now.store c.receive.new.self.store
-    (receive_kept c.args.m.now.store c.receive.new.self.store c.args.pool c.args.bytes.now _ c.receive.ensures.packets) c.requires.over
+pub returns : goal.returns
+returns g c = record {
+  over = over_kept c.args.m.now.store c.receive.new.self.store
+      (receive_kept c.args.m.now.store c.receive.new.self.store c.args.pool c.args.bytes.now _ c.receive.ensures.packets) c.requires.over;
+  zones = search rules;
+}

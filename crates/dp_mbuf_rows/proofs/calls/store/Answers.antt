@@ -5,12 +5,15 @@ use Rattle.dp_mbuf_rows.proofs.calls.store.Goals as goal
 
 pub store-requires : goal.store-requires
 store-requires g c =
-    let k = c.alive.ensures.0 in
-    let has = c.alive.ensures.1 in
+    let k = c.refs-sharers.ensures.live.0 in
+    let has = c.refs-sharers.ensures.live.1 in
     let room = c.first_len-len.ensures k has in
     let one : c.refs-sharers.result ≡ 1 = search rules in
-    (k, has, (omega (arith, room), head_sole (segments_of c.args.m.now.store) k c.refs-sharers.result (c.refs-sharers.ensures k has) one))
+    (k, has, (omega (arith, room), head_sole (segments_of c.args.m.now.store) k c.refs-sharers.result (c.refs-sharers.ensures.refs k has) one))
 
-pub returns-clause-over : goal.returns-clause-over
-returns-clause-over g c =
-    over_kept c.args.m.now.store c.store.new.self.store (ap (λ s. s.pools) (c.store.ensures.packets c.alive.ensures.0 c.alive.ensures.1)) c.requires
+pub returns : goal.returns
+returns g c = record {
+  over = over_kept c.args.m.now.store c.store.new.self.store
+      (ap (λ s. s.pools) (c.store.ensures.packets c.refs-sharers.ensures.live.0 c.refs-sharers.ensures.live.1)) c.requires;
+  zones = search rules;
+}

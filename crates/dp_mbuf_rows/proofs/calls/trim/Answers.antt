@@ -1,7 +1,9 @@
-use Rattle.std.proofs.Common.{ap}
+use Rattle.std.proofs.Common.{rules, ap}
 use Rattle.dp_mbuf_rows.proofs.RowLemmas.{over_kept}
 use Rattle.dp_mbuf_rows.proofs.calls.trim.Goals as goal
 
-pub returns-clause-over : goal.returns-clause-over
-returns-clause-over g c =
-    over_kept c.args.m.now.store c.trim.new.self.store (ap (λ s. s.pools) (c.trim.ensures.packets c.alive.ensures.0 c.alive.ensures.1)) c.requires
+pub returns : goal.returns
+returns g c = record {
+  over = over_kept c.args.m.now.store c.trim.new.self.store (ap (λ s. s.pools) (c.trim.ensures.packets c.alive.ensures.0 c.alive.ensures.1)) c.requires;
+  zones = search rules;
+}
