@@ -61,7 +61,8 @@ put_count rules index i r missing =
     let e = spliced_count rules (take index rules ++ r ∷ drop index rules) r.prefix r.depth i (put_splice rules index r missing) in
     omega (arith, e)
 
-module _ (old new : RuledTable) (index : ℕ) (r : Rule) (kept : IsKept old) (is : IsRoute (route_of r)) (missing : IsMissing old.rules.items r.depth r.prefix index)
+module _ (old new : RuledTable) (index : ℕ) (r : Rule) (kept : IsKept old) (is : IsRoute (route_of r))
+    (missing : IsMissing old.rules.items r.depth r.prefix index)
     (few : length old.rules.items < old.max_rules) (rules : new.rules.items ≡ take index old.rules.items ++ r ∷ drop index old.rules.items)
     (room : vec_capacity old.rules ≤ vec_capacity new.rules) (max : new.max_rules ≡ old.max_rules) (makes : Makes r old.table new.table) where
   absent : route_at (routes_in old) r.prefix r.depth ≡ None

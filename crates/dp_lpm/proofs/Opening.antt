@@ -42,7 +42,8 @@ free_index xs k e =
 module _ (old new : Table) (first g : ℕ) (cell : Cell) (table : IsTable old) (there : first < 16777216) (none : group_at old first ≡ None)
     (free : g < length old.counts.items) (zero_there : slice_index old.counts.items g ≡ 0) (is : entry_in cell ≡ Group g)
     (firsts : new.first.items ≡ slice_set old.first.items first cell) (lengths : length new.cells.items ≡ length old.cells.items)
-    (so : FilledUpTo (g * 256) (g * 256 + 256) (first_at old first) old.cells.items new.cells.items) (counts : new.counts.items ≡ slice_set old.counts.items g 1) where
+    (so : FilledUpTo (g * 256) (g * 256 + 256) (first_at old first) old.cells.items new.cells.items)
+    (counts : new.counts.items ≡ slice_set old.counts.items g 1) where
   len : length new.counts.items ≡ length old.counts.items
   len = ap length counts ∙ length-set old.counts.items g 1
 
