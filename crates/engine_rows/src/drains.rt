@@ -1,9 +1,9 @@
 //! Drains whose writer fails at each of its bytes.
 ghost use Rattle.std.specs.Prelude.{◌<◌};
 
-use crate::given::{Act, FORWARD, opened, play_to, says, written};
+use crate::given::{Act, FORWARD, opened, play_to, pool, port, says, written};
 use dp_engine::WriteFault;
-use dp_model::{Env, PoolSpec, PortSpec};
+use dp_model::Env;
 use dp_pcap::{FailingSink, OfWrite};
 use std::test::Fail;
 
@@ -25,17 +25,7 @@ fn whole_in(bytes: usize) -> u32 {
 fn are_answered(rt: &HostRuntime, most: usize, left: usize) -> Result<bool, Fail>
     requires { 0 < most }
 {
-    let pool = PoolSpec {
-        count: 8,
-        cache: 0,
-        room: 192,
-    };
-    let port = PortSpec {
-        pool: 0,
-        segs: 4,
-        queue: 4,
-    };
-    let env = Env::new(&[pool], 0, &[], &[port])?;
+    let env = Env::new(&[pool(8, 192)], 0, &[], &[port(4, 4)])?;
     let [first, second, third] = RECORDS;
     let acts = [
         Act::Turn(0, first),

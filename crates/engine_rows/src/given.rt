@@ -28,24 +28,29 @@ pub const ANY: Fact = Fact::Held {
     segs: 64,
 };
 
+/// So many buffers with so much room, without a cache.
+pub fn pool(count: u32, room: u32) -> PoolSpec {
+    PoolSpec {
+        count,
+        cache: 0,
+        room,
+    }
+}
+
+/// Receives into the first pool, in so many segments, and has a transmit list of so many places.
+pub fn port(segs: u32, queue: u32) -> PortSpec {
+    PortSpec {
+        pool: 0,
+        segs,
+        queue,
+    }
+}
+
 /// One pool of so many buffers, and one port with a transmit list of so many places.
 pub fn one_port(count: u32, queue: u32) -> Result<Env, Fail>
     ensures { IfOk result (λ env. (length env.ports ≡ 1) × (length env.rings ≡ 0) × (env.tables ≡ 0)) }
 {
-    Ok(Env::new(
-        &[PoolSpec {
-            count,
-            cache: 0,
-            room: 2176,
-        }],
-        0,
-        &[],
-        &[PortSpec {
-            pool: 0,
-            segs: 1,
-            queue,
-        }],
-    )?)
+    Ok(Env::new(&[pool(count, 2176)], 0, &[], &[port(1, queue)])?)
 }
 
 /// The program, checked for the entry with the certificate that is inferred.
@@ -261,4 +266,12 @@ pub fn says(report: &Report, received: u64, sent: u64, buffers: u64, calls: u64)
         && report.pools.as_slice() == [pool].as_slice()
         && report.calls == calls
         && report.refused == 0
+}
+
+/// Whether each port received and sent so many records.
+pub fn each_port(report: &Report, received: u64, sent: u64) -> bool {
+    report
+        .ports
+        .iter()
+        .all(|port| port.received == received && port.sent == sent)
 }

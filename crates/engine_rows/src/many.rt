@@ -1,26 +1,16 @@
 //! Engines of many pools, ports, rings and tables.
 ghost use Rattle.std.specs.Prelude.{◌≡◌, ◌≤◌, length, IfOk};
 
-use crate::given::{ANY, Act, FORWARD, opened, play, run, written};
+use crate::given::{ANY, Act, FORWARD, each_port, opened, play, pool, port, run, written};
 use dp_engine::PoolReport;
 use dp_lpm::Lpm;
-use dp_model::{Env, PoolSpec, PortSpec, RingSpec};
+use dp_model::{Env, PoolSpec, RingSpec};
 use std::test::Fail;
 
 // Each of two ports sends to the other.
 #[test]
 fn two_ports_send_to_each_other(rt: HostRuntime) -> Result<(), Fail> {
-    let pool = PoolSpec {
-        count: 4,
-        cache: 0,
-        room: 2176,
-    };
-    let port = PortSpec {
-        pool: 0,
-        segs: 1,
-        queue: 4,
-    };
-    let env = Env::new(&[pool], 0, &[], &[port; 2])?;
+    let env = Env::new(&[pool(4, 2176)], 0, &[], &[port(1, 4); 2])?;
     let to_second = "set r1,1\ntx p0,r1,d\nexit\nd: free p0\nexit\n";
     let to_first = "set r1,0\ntx p0,r1,d\nexit\nd: free p0\nexit\n";
     let acts = [
@@ -33,12 +23,7 @@ fn two_ports_send_to_each_other(rt: HostRuntime) -> Result<(), Fail> {
     let (played, output) = play(&rt, engine, &env, &acts);
     assert!(rt; output == written(&rt, &[&[8; 61], &[7; 60]])?);
     let report = played.report;
-    assert!(rt;
-        report
-            .ports
-            .iter()
-            .all(|port| port.received == 1 && port.sent == 1)
-    );
+    assert!(rt; each_port(&report, 1, 1));
     assert!(rt; report.pools.as_slice() == [PoolReport { free: 4, count: 4 }].as_slice());
     Ok(())
 }
@@ -51,16 +36,8 @@ const BUSY: &str =
 // A cache of a pool changes nothing of what is written.
 #[test]
 fn a_cache_changes_no_capture(rt: HostRuntime) -> Result<(), Fail> {
-    let port = PortSpec {
-        pool: 0,
-        segs: 4,
-        queue: 4,
-    };
-    let plain = PoolSpec {
-        count: 6,
-        cache: 0,
-        room: 192,
-    };
+    let port = port(4, 4);
+    let plain = pool(6, 192);
     let cached = PoolSpec { cache: 4, ..plain };
     let records: [&[u8]; 4] = [&[7; 60], &[8; 200], &[], &[9; 250]];
     let first = run(
@@ -93,11 +70,7 @@ fn eight(count: u32, room: u32, places: u32) -> Result<Env, Fail>
         count: places,
         fact: ANY,
     };
-    let mut ports = [PortSpec {
-        pool: 0,
-        segs: 1,
-        queue: places,
-    }; 8];
+    let mut ports = [port(1, places); 8];
     for (port, pool) in ports.iter_mut().zip(0..8) {
         port.pool = pool;
     }
@@ -156,12 +129,7 @@ fn ports_have_rings_and_tables_of_their_own(rt: HostRuntime) -> Result<(), Fail>
     assert!(rt; output == wanted);
     assert!(rt; played.turn.is_some_and(|turn| turn.runs == 2));
     let report = played.report;
-    assert!(rt;
-        report
-            .ports
-            .iter()
-            .all(|port| port.received == 1 && port.sent == 1)
-    );
+    assert!(rt; each_port(&report, 1, 1));
     assert!(rt; report.pools.as_slice() == [PoolReport { free: 8, count: 8 }; 8].as_slice());
     assert!(rt; report.rings.as_slice() == [0; 8].as_slice());
     assert_eq!(rt; report.calls, 8);

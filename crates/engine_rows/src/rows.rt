@@ -1,10 +1,12 @@
 //! Regions of the size that is needed, rings and transmit lists that are full, writers that fail, and tables.
 ghost use Rattle.std.specs.Prelude.{◌≡◌, [], length, IfOk, IfErr};
 
-use crate::given::{ANY, Act, FORWARD, nodes, one_port, opened, play, play_to, says, written};
+use crate::given::{
+    ANY, Act, FORWARD, each_port, nodes, one_port, opened, play, play_to, pool, port, says, written,
+};
 use dp_engine::{Engine, OpenFault, Outcome, PoolReport, Turn, WriteFault, need};
 use dp_lpm::Lpm;
-use dp_model::{Env, PoolSpec, PortSpec, RingSpec};
+use dp_model::{Env, RingSpec};
 use dp_pcap::{FailingSink, OfWrite};
 use dp_region::Region;
 use std::test::Fail;
@@ -19,21 +21,11 @@ const FOUR: PoolReport = PoolReport { free: 4, count: 4 };
 fn with_ring(places: u32, tables: u8) -> Result<Env, Fail>
     ensures { IfOk result (λ env. (length env.ports ≡ 1) × (length env.rings ≡ 1) × (env.tables ≡ tables)) }
 {
-    let pool = PoolSpec {
-        count: 4,
-        cache: 0,
-        room: 2176,
-    };
     let ring = RingSpec {
         count: places,
         fact: ANY,
     };
-    let port = PortSpec {
-        pool: 0,
-        segs: 1,
-        queue: 2,
-    };
-    Ok(Env::new(&[pool], tables, &[ring], &[port])?)
+    Ok(Env::new(&[pool(4, 2176)], tables, &[ring], &[port(1, 2)])?)
 }
 
 // Whether it was opened; and how many bytes the region has that comes back.
@@ -92,12 +84,7 @@ fn a_ring_is_served_a_number_of_times(rt: HostRuntime) -> Result<(), Fail> {
     let report = played.report;
     assert!(rt; report.rings.as_slice() == [1].as_slice());
     assert!(rt; report.pools.as_slice() == [FOUR].as_slice());
-    assert!(rt;
-        report
-            .ports
-            .iter()
-            .all(|port| port.sent == 0 && port.received == 1)
-    );
+    assert!(rt; each_port(&report, 1, 0));
     Ok(())
 }
 
