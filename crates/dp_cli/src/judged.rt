@@ -1,15 +1,14 @@
 //! A node's program from its files, with the certificate by which it is judged.
 
 ghost use Rattle.std.specs.Prelude.{◌≡◌, ◌⊎◌, option_map, IfOk, IfErr};
-ghost use Rattle.dp_pipe.specs.Files.{IsFile};
-ghost use Rattle.dp_pipe.specs.Nodes.{IsMissing, HasNoProgram};
+ghost use Rattle.dp_pipe.specs.Nodes.{HasNoProgram};
 ghost use Rattle.dp_cli.specs.Judging.{asked_node, node_in, IsRead, IsCertFor, HasNoRows, IsJudged, IsUnjudged};
 
-use dp_cert::{Cert, CertError, decode};
+use dp_cert::Cert;
 use dp_infer::attempt;
 use dp_lang::{AsmError, Program, assemble};
 use dp_model::{Entry, Env};
-use dp_pipe::{FetchFault, Files, LONGEST_FILE, PipeError, Survey};
+use dp_pipe::{Files, PipeError, Survey, bytes_of, cert_of};
 use std::alloc::Global;
 
 /// A node of which something is asked.
@@ -47,30 +46,6 @@ pub struct Judged {
     pub cert: Cert,
 }
 
-/// The bytes of a file of a node.
-fn bytes_of<F: Files>(
-    alloc: Global,
-    files: &mut F,
-    node: Entry,
-    name: &str,
-) -> Result<Vec<u8>, PipeError>
-    ensures found { IfOk result (λ bytes. IsFile (F.known files.old) name.now bytes.items) }
-    ensures missing { IfErr result (λ e. (e ≡ PipeError.Memory) ⊎ IsMissing (F.known files.old) node name.now e) }
-    ensures stays { F.known files.new ≡ F.known files.old }
-{
-    match files.fetch(alloc, name) {
-        Ok(bytes) => {
-            if bytes.len() <= LONGEST_FILE {
-                Ok(bytes)
-            } else {
-                Err(PipeError::File(node))
-            }
-        }
-        Err(FetchFault::Missing) => Err(PipeError::File(node)),
-        Err(FetchFault::Memory) => Err(PipeError::Memory),
-    }
-}
-
 /// A program's text, and the program that it reads as.
 pub fn program_of<F: Files>(
     alloc: Global,
@@ -91,7 +66,7 @@ pub fn program_of<F: Files>(
 }
 
 /// The certificate by which a program is judged.
-fn cert_of<F: Files>(
+fn judging_cert<F: Files>(
     alloc: Global,
     files: &mut F,
     env: &Env,
@@ -102,14 +77,9 @@ fn cert_of<F: Files>(
     ensures fails { IfErr result (λ e. (e ≡ PipeError.Memory) ⊎ HasNoRows (F.known files.old) asked.entry.node (asked_node asked.entry).cert program.now e) }
     ensures stays { F.known files.new ≡ F.known files.old }
 {
-    let Some(name) = asked.cert else {
-        return Ok(attempt(alloc, program, env, asked.node)?);
-    };
-    let text = bytes_of(alloc, files, asked.node, name)?;
-    match decode(alloc, text.as_slice(), program.instrs().len()) {
-        Ok(cert) => Ok(cert),
-        Err(CertError::Memory) => Err(PipeError::Memory),
-        Err(CertError::Fault(fault)) => Err(PipeError::BadCert(asked.node, fault)),
+    match asked.cert {
+        Some(name) => cert_of(alloc, files, asked.node, name, program.instrs().len()),
+        None => Ok(attempt(alloc, program, env, asked.node)?),
     }
 }
 
@@ -130,7 +100,7 @@ pub fn judge<F: Files>(
     ensures stays { F.known files.new ≡ F.known files.old }
 {
     let (text, program) = program_of(alloc, files, asked.node, asked.program)?;
-    let cert = cert_of(alloc, files, env, asked, &program)?;
+    let cert = judging_cert(alloc, files, env, asked, &program)?;
     Ok(Judged {
         text,
         program,

@@ -27,7 +27,7 @@ pub use files::{Files, LONGEST_FILE};
 pub use forwarding::{MOST_TURNS, RunCause};
 pub use listed::{Listed, NamedBytes};
 pub use loading::load;
-pub use nodes::How;
+pub use nodes::{How, bytes_of, cert_of};
 pub use pipeline::Pipeline;
 pub use running::{RunFault, run};
 pub use surveying::{Survey, survey_of};

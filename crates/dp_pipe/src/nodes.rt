@@ -30,8 +30,12 @@ pub enum How {
     Inferred,
 }
 
-// The bytes of a file of a node.
-fn bytes_of<F: Files>(
+/// The bytes of a file of a node.
+///
+/// # Errors
+///
+/// [`PipeError::File`] where it cannot be fetched or is longer than 1,048,576 bytes. [`PipeError::Memory`] may come at any time.
+pub fn bytes_of<F: Files>(
     alloc: Global,
     files: &mut F,
     node: Entry,
@@ -73,8 +77,12 @@ fn program_of<F: Files>(
     }
 }
 
-// The certificate that a file spells, with so many rows.
-fn cert_of<F: Files>(
+/// The certificate that a file of a node spells, with so many rows.
+///
+/// # Errors
+///
+/// [`PipeError::File`] as [`bytes_of`], and [`PipeError::BadCert`]. [`PipeError::Memory`] may come at any time.
+pub fn cert_of<F: Files>(
     alloc: Global,
     files: &mut F,
     node: Entry,
