@@ -76,24 +76,15 @@ impl fmt::Display for Part {
 
 /// The parts of what is known of a packet register, where it holds a packet.
 fn parts_of(fact: Fact) -> Option<[Part; 6]> {
-    match fact {
-        Fact::Empty => None,
-        Fact::Held {
-            share,
-            head,
-            tail,
-            first,
-            last,
-            segs,
-        } => Some([
-            Part::Share(share),
-            Part::Bytes(Measure::Headroom, head),
-            Part::Bytes(Measure::Tailroom, tail),
-            Part::Bytes(Measure::First, first),
-            Part::Bytes(Measure::Last, last),
-            Part::Segments(segs),
-        ]),
-    }
+    let held = fact.holding()?;
+    Some([
+        Part::Share(held.share),
+        Part::Bytes(Measure::Headroom, held.head),
+        Part::Bytes(Measure::Tailroom, held.tail),
+        Part::Bytes(Measure::First, held.first),
+        Part::Bytes(Measure::Last, held.last),
+        Part::Segments(held.segs),
+    ])
 }
 
 /// Adds the parts that are not as they were, as ` headroom 142, first 0`.
