@@ -14,22 +14,11 @@ fn certified(alloc: Global, name: &str, program: &str) -> Ended {
     let mut files = Listed {
         files: held.as_slice(),
     };
-    let mut printed = Vec::new(alloc);
-    let mut told = Vec::new(alloc);
-    let status = infer_node(
-        alloc,
-        &mut files,
-        &one_env(),
-        Entry::Port(0),
-        "node.dpv",
-        &mut printed,
-        &mut told,
-    );
-    Ended {
-        status,
-        printed,
-        told,
-    }
+    let mut ended = Ended::new(alloc);
+    let (env, node) = (one_env(), Entry::Port(0));
+    let (out, err) = (&mut ended.printed, &mut ended.told);
+    ended.status = infer_node(alloc, &mut files, &env, node, "node.dpv", out, err);
+    ended
 }
 
 /// The certificate of the program that takes 14 bytes off, as its rows begin.

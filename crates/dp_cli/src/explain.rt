@@ -1,21 +1,18 @@
-//! `dpv explain`: the verdict on programs, and why one is refused.
+//! The verdict on a program, and why it is refused.
 
-ghost use Rattle.std.specs.Prelude.{◌≡◌, ◌≢◌, ◌⊎◌};
+ghost use Rattle.std.specs.Prelude.{◌≡◌, ◌⊎◌};
 ghost use Rattle.std.specs.Io.KnownBytes.{Appends};
 ghost use Rattle.dp_check.specs.Faults.{question};
-ghost use Rattle.dp_cli.specs.Judging.{asked_node, accepted_text, entry_at, IsVerdict, IsNodeTold, EndedAt, AreAllTold, IsToldAt, IsPipelineTold};
-ghost use Rattle.dp_cli.specs.Told.{IsTold, TellsMemory};
+ghost use Rattle.dp_cli.specs.Judging.{accepted_text, IsVerdict};
+ghost use Rattle.dp_cli.specs.Told.{TellsMemory};
 
-use crate::fault::{
-    DONE, Fault, MEMORY, REFUSED, USAGE, tell, tell_fault, tell_if_memory, tell_unloaded,
-    tell_usage,
-};
-use crate::judged::{Asked, Judged, asked_of, judge};
+use crate::fault::{DONE, Fault, MEMORY, REFUSED, tell, tell_fault, tell_if_memory};
+use crate::judged::{Asked, Judged};
 use crate::reasons::{HintText, KnownText, RuleText, WantedText};
 use dp_check::{Diagnosis, Reason, diagnose};
 use dp_lang::source_lines;
-use dp_model::{Entry, Env};
-use dp_pipe::{Files, NodeName, Survey, survey_of};
+use dp_model::Env;
+use dp_pipe::NodeName;
 use std::alloc::Global;
 use std::fmt;
 use std::io::Write;
@@ -88,8 +85,8 @@ fn line_at(alloc: Global, text: &[u8], label: u16) -> Option<usize> {
     }
 }
 
-/// Tells the verdict on a program, and why it is refused, and answers the status.
-fn tell_verdict<O: Write, E: Write>(
+/// Tells whether a program is accepted, and where it is not why, and answers the status: 1 where it is refused.
+pub fn explain<O: Write, E: Write>(
     alloc: Global,
     env: &Env,
     asked: Asked<'_>,
@@ -118,137 +115,4 @@ fn tell_verdict<O: Write, E: Write>(
     };
     let status = tell(out, explanation, REFUSED);
     tell_if_memory(err, status)
-}
-
-/// Tells whether a node's program is accepted, and where it is not why, and answers the status: 1 where it is refused.
-pub fn explain_node<F: Files, O: Write, E: Write>(
-    alloc: Global,
-    files: &mut F,
-    env: &Env,
-    asked: Asked<'_>,
-    out: &mut O,
-    err: &mut E,
-) -> u8
-    ensures status { IsNodeTold (F.known files.old) env.now (asked_node asked.entry) result }
-    ensures printed { result ≡ DONE → Appends (O.contents out.old) (O.contents out.new) (accepted_text asked.entry.node) }
-    ensures silent { (result ≡ DONE) ⊎ (result ≡ REFUSED) → err.new ≡ err.old }
-    ensures memory { result ≡ MEMORY → TellsMemory (E.contents err.old) (E.contents err.new) }
-    ensures stays { F.known files.new ≡ F.known files.old }
-{
-    match judge(alloc, files, env, asked) {
-        Ok(judged) => tell_verdict(alloc, env, asked, &judged, out, err),
-        Err(error) => tell_unloaded(error, out, err),
-    }
-}
-
-/// The nodes that a pipeline can have, by an index: eight ports, and then eight rings.
-fn entry_at(index: u8) -> Entry
-    ensures { result ≡ entry_at index }
-{
-    if index < 8 {
-        Entry::Port(index)
-    } else {
-        Entry::Ring(index - 8)
-    }
-}
-
-/// Explains the node of an index, and answers the status: 0 also where the pipeline has no such node.
-#[tactic(auto, using(crate::proofs::Endings::node_ends))]
-fn explain_nth<F: Files, O: Write, E: Write>(
-    alloc: Global,
-    files: &mut F,
-    survey: &Survey,
-    index: u8,
-    out: &mut O,
-    err: &mut E,
-) -> u8
-    ensures verdict { EndedAt (F.known files.old) survey.now.config result index }
-    ensures ends { IsTold DONE result ⊎ (result ≡ REFUSED) }
-    ensures silent { (result ≡ DONE) ⊎ (result ≡ REFUSED) → err.new ≡ err.old }
-    ensures memory { result ≡ MEMORY → TellsMemory (E.contents err.old) (E.contents err.new) }
-    ensures stays { F.known files.new ≡ F.known files.old }
-{
-    match asked_of(survey, entry_at(index)) {
-        Some(asked) => explain_node(alloc, files, survey.env(), asked, out, err),
-        None => DONE,
-    }
-}
-
-/// Explains each node of a pipeline: 1 where one is refused, unless a fault ends it before.
-fn explain_all<F: Files, O: Write, E: Write>(
-    alloc: Global,
-    files: &mut F,
-    survey: &Survey,
-    out: &mut O,
-    err: &mut E,
-) -> u8
-    ensures verdicts { AreAllTold (F.known files.old) survey.now.config result }
-    ensures silent { (result ≡ DONE) ⊎ (result ≡ REFUSED) → err.new ≡ err.old }
-    ensures memory { result ≡ MEMORY → TellsMemory (E.contents err.old) (E.contents err.new) }
-    ensures stays { F.known files.new ≡ F.known files.old }
-{
-    let mut worst = DONE;
-    for index in 0..16 {
-        let status = explain_nth(alloc, files, survey, index, out, err);
-        if status == REFUSED {
-            worst = REFUSED;
-        } else if status != DONE {
-            return status;
-        }
-    }
-    worst
-}
-
-/// Tells that a pipeline has no such node.
-pub fn tell_no_node<E: Write>(node: Entry, err: &mut E) -> u8
-    ensures status { IsTold USAGE result }
-    ensures memory { result ≢ MEMORY }
-{
-    let name = NodeName(node);
-    tell_usage(err, format_args!("error: the pipeline has no {name}"))
-}
-
-/// Explains the node of a pipeline with this entry.
-fn explain_at<F: Files, O: Write, E: Write>(
-    alloc: Global,
-    files: &mut F,
-    survey: &Survey,
-    node: Entry,
-    out: &mut O,
-    err: &mut E,
-) -> u8
-    ensures verdict { IsToldAt (F.known files.old) survey.now.config node result }
-    ensures silent { (result ≡ DONE) ⊎ (result ≡ REFUSED) → err.new ≡ err.old }
-    ensures memory { result ≡ MEMORY → TellsMemory (E.contents err.old) (E.contents err.new) }
-    ensures stays { F.known files.new ≡ F.known files.old }
-{
-    match asked_of(survey, node) {
-        Some(asked) => explain_node(alloc, files, survey.env(), asked, out, err),
-        None => tell_no_node(node, err),
-    }
-}
-
-/// Tells of the nodes of a pipeline, or of the one that is named, whether they are accepted, and where not why, and answers the
-/// status: 1 where one is refused, 2 where the pipeline has no such node.
-pub fn explain_line<F: Files, O: Write, E: Write>(
-    alloc: Global,
-    text: &[u8],
-    files: &mut F,
-    which: Option<Entry>,
-    out: &mut O,
-    err: &mut E,
-) -> u8
-    ensures verdicts { IsPipelineTold (F.known files.old) text.now which result }
-    ensures silent { (result ≡ DONE) ⊎ (result ≡ REFUSED) → err.new ≡ err.old }
-    ensures memory { result ≡ MEMORY → TellsMemory (E.contents err.old) (E.contents err.new) }
-    ensures stays { F.known files.new ≡ F.known files.old }
-{
-    let survey = match survey_of(alloc, text) {
-        Ok(survey) => survey,
-        Err(error) => return tell_unloaded(error, out, err),
-    };
-    match which {
-        None => explain_all(alloc, files, &survey, out, err),
-        Some(node) => explain_at(alloc, files, &survey, node, out, err),
-    }
 }

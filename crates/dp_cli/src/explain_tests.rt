@@ -1,11 +1,8 @@
 //! Printed texts and statuses of `dpv explain`.
 
-use crate::explain::{explain_line, explain_node};
-use crate::judged::Asked;
-use crate::single_port::one_env;
-use crate::testing::cert_text;
+use crate::testing::{Ended, cert_text, file, told_alone, told_of};
+use crate::verdicts::Wanted;
 use dp_model::Entry;
-use dp_pipe::{Listed, NamedBytes};
 use std::alloc::{AllocError, Global};
 use std::test::Fail;
 
@@ -119,50 +116,14 @@ const CASES: [Case; 10] = [
     },
 ];
 
-/// A file in memory.
-fn file<'a>(name: &'a str, text: &'a str) -> NamedBytes<'a> {
-    NamedBytes {
-        name,
-        bytes: text.as_bytes(),
-    }
-}
-
-/// Whether a program by itself is explained so.
-fn is_told_so(alloc: Global, case: &Case) -> Result<bool, AllocError> {
-    let rows = cert_text(alloc, case.rows)?;
-    let held = [
-        file("node.dpv", case.program),
-        NamedBytes {
-            name: "node.cert",
-            bytes: rows.as_slice(),
-        },
-    ];
-    let mut files = Listed {
-        files: held.as_slice(),
-    };
-    let asked = Asked {
-        node: Entry::Port(0),
-        program: "node.dpv",
-        cert: if case.rows.is_empty() {
-            None
-        } else {
-            Some("node.cert")
-        },
-    };
-    let mut out = Vec::new(alloc);
-    let mut err = Vec::new(alloc);
-    let status = explain_node(alloc, &mut files, &one_env(), asked, &mut out, &mut err);
-    Ok(
-        status == case.status
-            && out.as_slice() == case.printed.as_bytes()
-            && err.as_slice() == case.told.as_bytes(),
-    )
-}
-
 #[test]
 fn programs_are_explained(rt: HostRuntime) -> Result<(), Fail> {
     for (k, case) in CASES.iter().enumerate() {
-        assert!(rt; is_told_so(rt.alloc(), case)?, "case {k}");
+        let ended = told_alone(rt.alloc(), case.program, case.rows, Wanted::Reason)?;
+        assert!(rt;
+            ended.is_just(case.status, case.printed, case.told),
+            "case {k}"
+        );
     }
     Ok(())
 }
@@ -201,62 +162,35 @@ const NODES: [&str; 4] = [
     "ring 0 accepted\n",
 ];
 
-/// What `dpv explain` makes of the pipeline: its status, and what it prints on both writers, one after the other.
-fn explained(alloc: Global, text: &str, which: Option<Entry>) -> Result<(u8, Vec<u8>), AllocError> {
+/// What `dpv explain` makes of a pipeline over the three programs and a certificate of the first.
+fn explained(alloc: Global, text: &str, which: Option<Entry>) -> Result<Ended, AllocError> {
     let cert = cert_text(alloc, &[SOLE, "01", "010102008000000001000001", "01"])?;
-    let held = [
-        file("pass.dpv", PASS),
-        file("queue.dpv", QUEUE),
-        file("long.dpv", LONG),
-        NamedBytes {
-            name: "pass.cert",
-            bytes: cert.as_slice(),
-        },
+    let files = [
+        file("pass.dpv", PASS.as_bytes()),
+        file("queue.dpv", QUEUE.as_bytes()),
+        file("long.dpv", LONG.as_bytes()),
+        file("pass.cert", cert.as_slice()),
     ];
-    let mut files = Listed {
-        files: held.as_slice(),
-    };
-    let mut out = Vec::new(alloc);
-    let mut err = Vec::new(alloc);
-    let status = explain_line(
-        alloc,
-        text.as_bytes(),
-        &mut files,
-        which,
-        &mut out,
-        &mut err,
-    );
-    out.extend_from_slice(err.as_slice())?;
-    Ok((status, out))
+    Ok(told_of(alloc, text, &files, which, Wanted::Reason))
 }
 
 #[test]
 fn pipelines_are_explained(rt: HostRuntime) -> Result<(), Fail> {
     let alloc = rt.alloc();
-    let (status, told) = explained(alloc, PIPELINE, None)?;
     let all = NODES.concat(alloc)?;
-    assert_eq!(rt; status, 1);
-    assert!(rt; told.as_slice() == all.as_bytes());
+    let ended = explained(alloc, PIPELINE, None)?;
+    assert!(rt; ended.is_just(1, all.as_str(), ""));
+    let none = "error: the pipeline has no port 3\n";
+    let bad = "fault: pipeline 1 NotToml\n  because: the text is no TOML\n";
     let cases = [
-        (PIPELINE, Entry::Port(0), 1, NODES[0]),
-        (PIPELINE, Entry::Ring(0), 0, NODES[3]),
-        (
-            PIPELINE,
-            Entry::Port(3),
-            2,
-            "error: the pipeline has no port 3\n",
-        ),
-        (
-            "region",
-            Entry::Port(0),
-            3,
-            "fault: pipeline 1 NotToml\n  because: the text is no TOML\n",
-        ),
+        (PIPELINE, Entry::Port(0), 1, NODES[0], ""),
+        (PIPELINE, Entry::Ring(0), 0, NODES[3], ""),
+        (PIPELINE, Entry::Port(3), 2, "", none),
+        ("region", Entry::Port(0), 3, "", bad),
     ];
-    for (text, which, status, printed) in cases {
-        let (ended, told) = explained(alloc, text, Some(which))?;
-        assert_eq!(rt; ended, status);
-        assert!(rt; told.as_slice() == printed.as_bytes());
+    for (text, which, status, printed, told) in cases {
+        let ended = explained(alloc, text, Some(which))?;
+        assert!(rt; ended.is_just(status, printed, told));
     }
     Ok(())
 }

@@ -6,8 +6,9 @@ ghost use Rattle.std.specs.Io.KnownBytes.{Appends};
 ghost use Rattle.dp_cli.specs.Told.{IsTold, TellsMemory, finding_of, lines_behind, lines_of_fault, status_of, status_of_fault, text_of_fault};
 
 use crate::fault_reasons::{Finding, Reason, reason_of, write_finding};
+use dp_model::Entry;
 use dp_pcap::PcapError;
-use dp_pipe::PipeError;
+use dp_pipe::{NodeName, PipeError};
 use std::fmt::Display;
 use std::io::Write;
 use std::{fmt, io};
@@ -189,6 +190,15 @@ pub fn tell_usage<W: Write, T: Display + Drop>(to: &mut W, text: T) -> u8
         Ok(()) => USAGE,
         Err(_) => FAULT,
     }
+}
+
+/// Tells that a pipeline has no such node.
+pub fn tell_no_node<E: Write>(node: Entry, err: &mut E) -> u8
+    ensures status { IsTold USAGE result }
+    ensures memory { result ≢ MEMORY }
+{
+    let name = NodeName(node);
+    tell_usage(err, format_args!("error: the pipeline has no {name}"))
 }
 
 /// The status of what was printed. Where memory ran out, that is told.

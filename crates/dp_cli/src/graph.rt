@@ -1,8 +1,7 @@
 //! A program as a graph, as `dot` draws it: a box for each instruction, and where control goes.
 
-use crate::listing::{Verdict, instructions};
+use crate::listing::Verdict;
 use crate::rows::row_text;
-use dp_lang::{Program, print};
 use dp_model::{Instr, Row};
 use std::alloc::{AllocError, Global};
 
@@ -56,7 +55,7 @@ fn push_box(
     )
 }
 
-/// The text from which `dot` draws a program.
+/// The text from which `dot` draws a program of these instructions.
 ///
 /// # Errors
 ///
@@ -64,16 +63,15 @@ fn push_box(
 pub fn graph(
     alloc: Global,
     verdict: Verdict,
-    program: &Program,
+    instrs: &[Instr],
+    texts: &[&str],
     rows: &[Row],
 ) -> Result<String, AllocError> {
-    let printed = print(alloc, program)?;
-    let instructions = instructions(alloc, printed.as_str())?;
     let mut out = format!(in alloc;
         "digraph program {{\n  label=\"{verdict}\";\n  labelloc=t;\n  node [shape=box, fontname=monospace];\n"
     )?;
-    for (label, instr) in program.instrs().iter().enumerate() {
-        let text = instructions.get(label).copied().unwrap_or("");
+    for (label, instr) in instrs.iter().enumerate() {
+        let text = texts.get(label).copied().unwrap_or("");
         if let Some(row) = rows.get(label) {
             push_box(
                 alloc,

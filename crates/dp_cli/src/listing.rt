@@ -1,7 +1,6 @@
 //! A program in lines: each instruction, and what is known before it.
 
 use crate::rows::row_after;
-use dp_lang::{Program, print};
 use dp_model::{Entry, Row};
 use dp_pipe::NodeName;
 use std::alloc::{AllocError, Global};
@@ -116,11 +115,9 @@ fn rows_at(rows: &[Row], label: usize) -> (Option<&Row>, Option<&Row>) {
 pub fn listing(
     alloc: Global,
     verdict: Verdict,
-    program: &Program,
+    instructions: &[&str],
     rows: &[Row],
 ) -> Result<String, AllocError> {
-    let printed = print(alloc, program)?;
-    let instructions = instructions(alloc, printed.as_str())?;
     let widths = Widths {
         label: digits(instructions.len().saturating_sub(1)),
         instruction: instructions

@@ -32,12 +32,13 @@ mod run_files;
 mod same_file;
 mod script;
 mod show;
-mod show_files;
 mod single_port;
 mod snapshot;
 mod trace;
 mod trace_files;
 mod tracer;
+mod verdict_files;
+mod verdicts;
 mod watched;
 
 use check_files::{bytes_of, check_file, infer_file, infer_program};
@@ -48,12 +49,13 @@ use fault::{DONE, FAULT, Fault, Status, USAGE, Unwritten, tell_fault, tell_usage
 use mem::mem_line;
 use progress::ToStderr;
 use run_files::{run_file, run_one_port};
-use show_files::{explain_file, explain_one, show_file, show_one};
 use std::alloc::{AllocError, Global};
 use std::io::{self, Write};
 use std::process::ExitCode;
 use std::rt::{Env, Files};
 use trace_files::trace_file;
+use verdict_files::{shown_in, tell_file, tell_one};
+use verdicts::Wanted;
 
 /// Tells of an error of the command line, or shows the help that was asked for, and answers the status.
 fn wrong_words<R: Print + Eprint, E: Write>(rt: &R, error: &clap::Error, err: &mut E) -> u8 {
@@ -87,10 +89,10 @@ fn judge_programs<R: Files + Print, E: Write>(
         "check" => check_file(call, err),
         "infer" => infer_file(call, err),
         "infer-one" => infer_program(call, err),
-        "explain" => explain_file(call, err),
-        "explain-one" => explain_one(call, err),
-        "show" => show_file(call, err),
-        "show-one" => show_one(call, err),
+        "explain" => tell_file(call, Wanted::Reason, err),
+        "explain-one" => tell_one(call, Wanted::Reason, err),
+        "show" => tell_file(call, shown_in(call.words), err),
+        "show-one" => tell_one(call, shown_in(call.words), err),
         _ => Err(USAGE),
     }
 }

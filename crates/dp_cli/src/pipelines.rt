@@ -9,7 +9,7 @@ ghost use Rattle.dp_cli.specs.Pipelines as spec;
 ghost use Rattle.dp_cli.specs.Told.{IsTold, TellsMemory};
 
 use crate::certifying::print_cert;
-use crate::fault::{DONE, MEMORY, USAGE, tell, tell_if_memory, tell_unloaded, tell_usage};
+use crate::fault::{DONE, MEMORY, USAGE, tell, tell_if_memory, tell_no_node, tell_unloaded};
 use dp_check::Checked;
 use dp_model::Entry;
 use dp_pipe::{Files, How, NodeName, Pipeline, load};
@@ -84,9 +84,8 @@ pub fn infer_line<O: Write, E: Write>(
     ensures nothing { IfNone (spec.node_at pipeline.now which) (out.new ≡ out.old) }
     ensures memory { result ≡ MEMORY → TellsMemory (E.contents err.old) (E.contents err.new) }
 {
-    let Some(node) = node_at(pipeline, which) else {
-        let name = NodeName(which);
-        return tell_usage(err, format_args!("error: the pipeline has no {name}"));
-    };
-    print_cert(alloc, node.cert(), out, err)
+    match node_at(pipeline, which) {
+        Some(node) => print_cert(alloc, node.cert(), out, err),
+        None => tell_no_node(which, err),
+    }
 }

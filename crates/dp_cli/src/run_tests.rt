@@ -112,139 +112,57 @@ enum Failing {
     Writer(usize),
 }
 
-/// The bytes of a run of multicast behind which the reader of port 0 or a writer fails, the first and the last: what port 0 received, what
-/// both ports sent, how far the input of port 1 was read, and how many calls there were; what is told; and how many bytes each
-/// writer holds, where `J` is as many as it took.
-struct Failure {
-    device: Failing,
-    bytes: [usize; 2],
-    received: u64,
-    sent: [u64; 2],
-    state: &'static str,
-    calls: u64,
-    told: &'static str,
-    held: [usize; 2],
+impl Failing {
+    /// What is told of it.
+    fn told(self) -> &'static str {
+        match self {
+            Failing::Reader => "fault: input 0 cause 8\n",
+            Failing::Writer(0) => "fault: output 0\n",
+            Failing::Writer(_) => "fault: output 1\n",
+        }
+    }
+
+    /// Behind how many bytes this device fails, if it is the one that fails.
+    fn limit(self, device: Failing, behind: usize) -> usize {
+        if self == device { behind } else { WHOLE }
+    }
 }
 
 const J: usize = WHOLE;
 
-static FAILURES: [Failure; 7] = [
-    Failure {
-        device: Failing::Writer(0),
-        bytes: [0, 23],
-        received: 0,
-        sent: [0, 0],
-        state: "open",
-        calls: 0,
-        told: "fault: output 0\n",
-        held: [J, 0],
-    },
-    Failure {
-        device: Failing::Writer(0),
-        bytes: [24, 99],
-        received: 1,
-        sent: [0, 0],
-        state: "open",
-        calls: 4,
-        told: "fault: output 0\n",
-        held: [J, 24],
-    },
-    Failure {
-        device: Failing::Writer(1),
-        bytes: [0, 23],
-        received: 0,
-        sent: [0, 0],
-        state: "open",
-        calls: 0,
-        told: "fault: output 1\n",
-        held: [24, J],
-    },
-    Failure {
-        device: Failing::Writer(1),
-        bytes: [24, 103],
-        received: 1,
-        sent: [1, 0],
-        state: "open",
-        calls: 4,
-        told: "fault: output 1\n",
-        held: [100, J],
-    },
-    Failure {
-        device: Failing::Reader,
-        bytes: [0, 23],
-        received: 0,
-        sent: [0, 0],
-        state: "open",
-        calls: 0,
-        told: "fault: input 0 cause 8\n",
-        held: [0, 0],
-    },
-    Failure {
-        device: Failing::Reader,
-        bytes: [24, 99],
-        received: 0,
-        sent: [0, 0],
-        state: "open",
-        calls: 0,
-        told: "fault: input 0 cause 8\n",
-        held: [24, 24],
-    },
-    Failure {
-        device: Failing::Reader,
-        bytes: [100, 100],
-        received: 1,
-        sent: [1, 1],
-        state: "whole",
-        calls: 4,
-        told: "fault: input 0 cause 8\n",
-        held: [100, 104],
-    },
+/// The bytes of a run of multicast behind which the reader of port 0 or a writer fails, the first and the last; what port 0 received, with
+/// four calls for each, and what both ports sent; how far the input of port 1 was read; and how many bytes each writer holds, where
+/// `J` is as many as it took.
+static FAILURES: [(Failing, [usize; 2], [u64; 3], &str, [usize; 2]); 7] = [
+    (Failing::Writer(0), [0, 23], [0, 0, 0], "open", [J, 0]),
+    (Failing::Writer(0), [24, 99], [1, 0, 0], "open", [J, 24]),
+    (Failing::Writer(1), [0, 23], [0, 0, 0], "open", [24, J]),
+    (Failing::Writer(1), [24, 103], [1, 1, 0], "open", [100, J]),
+    (Failing::Reader, [0, 23], [0, 0, 0], "open", [0, 0]),
+    (Failing::Reader, [24, 99], [0, 0, 0], "open", [24, 24]),
+    (Failing::Reader, [100, 100], [1, 1, 1], "whole", [100, 104]),
 ];
 
-/// How many bytes a writer took, where `J` stands for those behind which a device fails.
-fn taken(held: usize, behind: usize) -> usize {
-    if held == J { behind } else { held }
-}
-
-/// Where a device fails, if it is the one that does.
-fn limit(case: &Failure, device: Failing, behind: usize) -> usize {
-    if case.device == device { behind } else { WHOLE }
-}
-
-/// Whether a run of multicast whose device fails behind so many bytes ends as the case says, and the writers hold a front of these.
-fn fails_so(
-    alloc: Global,
-    case: &Failure,
-    behind: usize,
-    whole: [&[u8]; 2],
-) -> Result<bool, AllocError> {
-    let [first, second] = whole;
+/// A run of multicast whose device fails behind so many bytes.
+fn failed(alloc: Global, failing: Failing, behind: usize, input: &[u8]) -> Result<Ran, AllocError> {
     let devices = Devices {
         inputs: &[
-            (first, limit(case, Failing::Reader, behind)),
+            (input, failing.limit(Failing::Reader, behind)),
             (HEADER, WHOLE),
         ],
         most: 1,
         outputs: &[
-            limit(case, Failing::Writer(0), behind),
-            limit(case, Failing::Writer(1), behind),
+            failing.limit(Failing::Writer(0), behind),
+            failing.limit(Failing::Writer(1), behind),
         ],
     };
-    let ran = run_on(alloc, TWO_PORTS, &programs(), NONE, devices)?;
-    let states = ["open", case.state];
-    let printed = report(
-        alloc,
-        [case.received, 0],
-        case.sent,
-        states,
-        [case.calls, 0],
-    )?;
-    let [held, other] = case.held;
-    Ok(
-        ran.ended.is(3, printed.as_str(), case.told)
-            && ran.holds(0, front(first, taken(held, behind)))
-            && ran.holds(1, front(second, taken(other, behind))),
-    )
+    run_on(alloc, TWO_PORTS, &programs(), NONE, devices)
+}
+
+/// Whether the writer of a port holds a front of these bytes, so many, where `J` stands for those behind which a device fails.
+fn holds_front(ran: &Ran, port: usize, bytes: &[u8], held: usize, behind: usize) -> bool {
+    let taken = if held == J { behind } else { held };
+    ran.holds(port, front(bytes, taken))
 }
 
 #[test]
@@ -252,12 +170,20 @@ fn a_device_may_fail_behind_each_byte(rt: HostRuntime) -> Result<(), Fail> {
     let alloc = rt.alloc();
     let first = joined(alloc, &[HEADER, HEAD_60, FIRST])?;
     let second = joined(alloc, &[HEADER, HEAD_64, LABEL, FIRST])?;
-    for case in FAILURES.iter() {
-        let [least, most] = case.bytes;
+    for (failing, bytes, counts, state, held) in FAILURES.iter() {
+        let [received, sent, other] = *counts;
+        let (states, calls) = (["open", *state], received.saturating_mul(4));
+        let printed = report(alloc, [received, 0], [sent, other], states, [calls, 0])?;
+        let [least, most] = *bytes;
         for behind in least..=most {
-            let whole = [first.as_slice(), second.as_slice()];
-            let is_so = fails_so(alloc, case, behind, whole)?;
-            assert!(&rt; is_so, "{} behind {behind}", case.told);
+            let ran = failed(alloc, *failing, behind, first.as_slice())?;
+            let told = failing.told();
+            assert!(&rt;
+                ran.ended.is(3, printed.as_str(), told),
+                "{told} behind {behind}"
+            );
+            assert!(&rt; holds_front(&ran, 0, first.as_slice(), held[0], behind));
+            assert!(&rt; holds_front(&ran, 1, second.as_slice(), held[1], behind));
         }
     }
     Ok(())

@@ -1,21 +1,17 @@
-//! `dpv show`: programs with what is known before each instruction.
+//! A program with what is known before each instruction, and the verdict on it.
 
-ghost use Rattle.std.specs.Prelude.{◌≡◌, ◌⊎◌, Some};
+ghost use Rattle.std.specs.Prelude.{◌≡◌, ◌⊎◌};
 ghost use Rattle.dp_check.specs.Faults.{question};
-ghost use Rattle.dp_cli.specs.Judging.{asked_node, IsVerdict, IsNodeTold, IsToldAt, IsPipelineTold};
+ghost use Rattle.dp_cli.specs.Judging.{IsVerdict};
 ghost use Rattle.dp_cli.specs.Told.{IsTold, TellsMemory};
 
-use crate::explain::tell_no_node;
-use crate::fault::{
-    DONE, Fault, MEMORY, REFUSED, status_of_write, tell_fault, tell_if_memory, tell_unloaded,
-};
+use crate::fault::{DONE, Fault, MEMORY, REFUSED, status_of_write, tell_fault, tell_if_memory};
 use crate::graph::graph;
-use crate::judged::{Asked, Judged, asked_of, judge};
-use crate::listing::{RefusedAt, Verdict, listing};
+use crate::judged::{Asked, Judged};
+use crate::listing::{RefusedAt, Verdict, instructions, listing};
 use dp_check::diagnose;
-use dp_lang::Program;
-use dp_model::{Entry, Env, Row};
-use dp_pipe::{Files, Survey, survey_of};
+use dp_lang::print;
+use dp_model::Env;
 use std::alloc::{AllocError, Global};
 use std::io::Write;
 
@@ -33,12 +29,14 @@ fn text_of(
     alloc: Global,
     form: Form,
     verdict: Verdict,
-    program: &Program,
-    rows: &[Row],
+    judged: &Judged,
 ) -> Result<String, AllocError> {
+    let (program, rows) = (&judged.program, judged.cert.rows());
+    let printed = print(alloc, program)?;
+    let texts = instructions(alloc, printed.as_str())?;
     match form {
-        Form::Listing => listing(alloc, verdict, program, rows),
-        Form::Graph => graph(alloc, verdict, program, rows),
+        Form::Listing => listing(alloc, verdict, texts.as_slice(), rows),
+        Form::Graph => graph(alloc, verdict, program.instrs(), texts.as_slice(), rows),
     }
 }
 
@@ -56,7 +54,7 @@ fn print_shown<O: Write, E: Write>(
     ensures silent { (result ≡ DONE) ⊎ (result ≡ REFUSED) → err.new ≡ err.old }
     ensures memory { result ≡ MEMORY → TellsMemory (E.contents err.old) (E.contents err.new) }
 {
-    let Ok(text) = text_of(alloc, form, verdict, &judged.program, judged.cert.rows()) else {
+    let Ok(text) = text_of(alloc, form, verdict, judged) else {
         return tell_fault(err, Fault::Memory);
     };
     let status = status_of_write(out.write_all(text.as_str().as_bytes()), status);
@@ -73,7 +71,7 @@ fn verdict_of(asked: Asked<'_>, refused: Option<RefusedAt>) -> Verdict {
 }
 
 /// Prints a program with its rows and the verdict on both, and answers the status.
-fn show_judged<O: Write, E: Write>(
+pub fn show<O: Write, E: Write>(
     alloc: Global,
     env: &Env,
     asked: Asked<'_>,
@@ -96,67 +94,4 @@ fn show_judged<O: Write, E: Write>(
     };
     let verdict = verdict_of(asked, Some(refused));
     print_shown(alloc, form, verdict, judged, REFUSED, out, err)
-}
-
-/// Shows a node's program, and answers the status: 1 where it is refused.
-pub fn show_node<F: Files, O: Write, E: Write>(
-    alloc: Global,
-    files: &mut F,
-    env: &Env,
-    asked: Asked<'_>,
-    form: Form,
-    out: &mut O,
-    err: &mut E,
-) -> u8
-    ensures status { IsNodeTold (F.known files.old) env.now (asked_node asked.entry) result }
-    ensures silent { (result ≡ DONE) ⊎ (result ≡ REFUSED) → err.new ≡ err.old }
-    ensures memory { result ≡ MEMORY → TellsMemory (E.contents err.old) (E.contents err.new) }
-    ensures stays { F.known files.new ≡ F.known files.old }
-{
-    match judge(alloc, files, env, asked) {
-        Ok(judged) => show_judged(alloc, env, asked, &judged, form, out, err),
-        Err(error) => tell_unloaded(error, out, err),
-    }
-}
-
-/// Shows the node of a pipeline with this entry.
-fn show_at<F: Files, O: Write, E: Write>(
-    alloc: Global,
-    files: &mut F,
-    survey: &Survey,
-    node: Entry,
-    form: Form,
-    out: &mut O,
-    err: &mut E,
-) -> u8
-    ensures verdict { IsToldAt (F.known files.old) survey.now.config node result }
-    ensures silent { (result ≡ DONE) ⊎ (result ≡ REFUSED) → err.new ≡ err.old }
-    ensures memory { result ≡ MEMORY → TellsMemory (E.contents err.old) (E.contents err.new) }
-    ensures stays { F.known files.new ≡ F.known files.old }
-{
-    match asked_of(survey, node) {
-        Some(asked) => show_node(alloc, files, survey.env(), asked, form, out, err),
-        None => tell_no_node(node, err),
-    }
-}
-
-/// Shows the program of a node of a pipeline, and answers the status: 1 where it is refused, 2 where the pipeline has no such node.
-pub fn show_line<F: Files, O: Write, E: Write>(
-    alloc: Global,
-    text: &[u8],
-    files: &mut F,
-    which: Entry,
-    form: Form,
-    out: &mut O,
-    err: &mut E,
-) -> u8
-    ensures verdict { IsPipelineTold (F.known files.old) text.now (Some which) result }
-    ensures silent { (result ≡ DONE) ⊎ (result ≡ REFUSED) → err.new ≡ err.old }
-    ensures memory { result ≡ MEMORY → TellsMemory (E.contents err.old) (E.contents err.new) }
-    ensures stays { F.known files.new ≡ F.known files.old }
-{
-    match survey_of(alloc, text) {
-        Ok(survey) => show_at(alloc, files, &survey, which, form, out, err),
-        Err(error) => tell_unloaded(error, out, err),
-    }
 }

@@ -1,12 +1,10 @@
 //! Printed texts and statuses of `dpv show`.
 
-use crate::judged::Asked;
-use crate::show::{Form, show_line, show_node};
-use crate::single_port::one_env;
-use crate::testing::{Ended, cert_text, file};
+use crate::show::Form;
+use crate::testing::{Ended, file, told_alone, told_of};
+use crate::verdicts::Wanted;
 use dp_model::Entry;
-use dp_pipe::Listed;
-use std::alloc::{AllocError, Global};
+use std::alloc::Global;
 use std::test::Fail;
 
 /// A program for one port, the rows of its certificate, if one is given, and how it is shown.
@@ -101,47 +99,11 @@ const CASES: [Case; 6] = [
     },
 ];
 
-/// What `dpv show-one` makes of a case.
-fn shown(alloc: Global, case: &Case) -> Result<Ended, AllocError> {
-    let rows = cert_text(alloc, case.rows)?;
-    let held = [
-        file("node.dpv", case.program.as_bytes()),
-        file("node.cert", rows.as_slice()),
-    ];
-    let mut files = Listed {
-        files: held.as_slice(),
-    };
-    let asked = Asked {
-        node: Entry::Port(0),
-        program: "node.dpv",
-        cert: if case.rows.is_empty() {
-            None
-        } else {
-            Some("node.cert")
-        },
-    };
-    let mut printed = Vec::new(alloc);
-    let mut told = Vec::new(alloc);
-    let status = show_node(
-        alloc,
-        &mut files,
-        &one_env(),
-        asked,
-        case.form,
-        &mut printed,
-        &mut told,
-    );
-    Ok(Ended {
-        status,
-        printed,
-        told,
-    })
-}
-
 #[test]
 fn programs_are_shown(rt: HostRuntime) -> Result<(), Fail> {
     for (k, case) in CASES.iter().enumerate() {
-        let ended = shown(rt.alloc(), case)?;
+        let wanted = Wanted::Program(case.form);
+        let ended = told_alone(rt.alloc(), case.program, case.rows, wanted)?;
         assert!(rt; ended.is(case.status, case.printed, ""), "case {k}");
     }
     Ok(())
@@ -152,47 +114,30 @@ const PIPELINE: &str = "region = 1048576\n[[pool]]\ncount = 64\ncache = 0\nroom 
     [[ring]]\ncount = 2\nshare = 0\nhead = 0\ntail = 5\nfirst = 20\nlast = 0\nsegs = 64\nnode = \"drop.dpv\"\n\
     [[port]]\npool = 0\nsegs = 1\nqueue = 32\nnode = \"lost.dpv\"\nin = \"a\"\nout = \"b\"\n";
 
-/// What `dpv show` makes of a node of a pipeline.
-fn shown_of(alloc: Global, text: &str, which: Entry) -> Ended {
-    let held = [
+/// What `dpv show` makes of a node of a pipeline over the two programs.
+fn shown(alloc: Global, text: &str, which: Entry) -> Ended {
+    let files = [
         file("drop.dpv", b"free p0\nexit\n"),
         file("lost.dpv", b"exit\n"),
     ];
-    let mut files = Listed {
-        files: held.as_slice(),
-    };
-    let mut printed = Vec::new(alloc);
-    let mut told = Vec::new(alloc);
-    let status = show_line(
-        alloc,
-        text.as_bytes(),
-        &mut files,
-        which,
-        Form::Listing,
-        &mut printed,
-        &mut told,
-    );
-    Ended {
-        status,
-        printed,
-        told,
-    }
+    let wanted = Wanted::Program(Form::Listing);
+    told_of(alloc, text, &files, Some(which), wanted)
 }
 
 #[test]
 fn nodes_of_a_pipeline_are_shown(rt: HostRuntime) -> Result<(), Fail> {
     let alloc = rt.alloc();
-    let port = shown_of(alloc, PIPELINE, Entry::Port(0));
+    let port = shown(alloc, PIPELINE, Entry::Port(0));
     let text =
         "port 0 not inferred at 0 by J10\n> 0  exit  p0 sole, headroom 128, at most 1 segment; r0-r7 <= 0\n";
     assert!(rt; port.is(1, text, ""));
-    let ring = shown_of(alloc, PIPELINE, Entry::Ring(0));
+    let ring = shown(alloc, PIPELINE, Entry::Ring(0));
     let text =
         "ring 0 accepted\n  0  free p0  p0 loose, tailroom 5, first 20, at most 64 segments; r0-r7 <= 0\n  1  exit     + p0 empty\n";
     assert!(rt; ring.is(0, text, ""));
-    let none = shown_of(alloc, PIPELINE, Entry::Port(1));
+    let none = shown(alloc, PIPELINE, Entry::Port(1));
     assert!(rt; none.is(2, "", "error: the pipeline has no port 1\n"));
-    let bad = shown_of(alloc, "region", Entry::Port(0));
+    let bad = shown(alloc, "region", Entry::Port(0));
     assert!(rt; bad.is(3, "", "fault: pipeline 1 NotToml\n"));
     Ok(())
 }

@@ -1,8 +1,12 @@
 //! Runs over readers and writers in memory, for tests.
 
+use crate::judged::Asked;
 use crate::operands::numbers_in;
 use crate::pipelines::load_line;
 use crate::run::run_line;
+use crate::single_port::one_env;
+use crate::verdicts::{Wanted, tell_node, tell_pipeline};
+use dp_model::Entry;
 use dp_pcap::{FailingFeed, FailingSink, Feed, OfRead, OfWrite, Sink};
 use dp_pipe::{How, Listed, NamedBytes, Pipeline};
 use std::alloc::{AllocError, Global};
@@ -25,6 +29,15 @@ pub struct Ended {
 }
 
 impl Ended {
+    /// Before it ran.
+    pub fn new(alloc: Global) -> Ended {
+        Ended {
+            status: 255,
+            printed: Vec::new(alloc),
+            told: Vec::new(alloc),
+        }
+    }
+
     /// Whether it ended so. Behind a line of a fault the reason may stand.
     pub fn is(&self, status: u8, printed: &str, told: &str) -> bool {
         let (line, behind) = split_at(self.told.as_slice(), told.len());
@@ -32,6 +45,11 @@ impl Ended {
             && self.printed.as_slice() == printed.as_bytes()
             && line == told.as_bytes()
             && (behind.is_empty() || !told.is_empty() && behind.starts_with(b"  because: "))
+    }
+
+    /// Whether it ended so, and behind what was told stands nothing.
+    pub fn is_just(&self, status: u8, printed: &str, told: &str) -> bool {
+        self.is(status, printed, told) && self.told.len() == told.len()
     }
 }
 
@@ -136,11 +154,7 @@ pub fn run_on(
     list: &str,
     devices: Devices<'_>,
 ) -> Result<Ran, AllocError> {
-    let mut ended = Ended {
-        status: 255,
-        printed: Vec::new(alloc),
-        told: Vec::new(alloc),
-    };
+    let mut ended = Ended::new(alloc);
     let mut readers = Vec::new(alloc);
     for (bytes, given) in devices.inputs {
         readers.push(FailingFeed::new(OfRead::new(*bytes), *given))?;
@@ -168,4 +182,49 @@ pub fn run_on(
         written.push(writer.into_inner().into_inner())?;
     }
     Ok(Ran { ended, written })
+}
+
+/// What is told of a program by itself, with a certificate of these rows, if there are any.
+pub fn told_alone(
+    alloc: Global,
+    program: &str,
+    rows: &[&str],
+    wanted: Wanted,
+) -> Result<Ended, AllocError> {
+    let cert = cert_text(alloc, rows)?;
+    let held = [
+        file("node.dpv", program.as_bytes()),
+        file("node.cert", cert.as_slice()),
+    ];
+    let mut files = Listed {
+        files: held.as_slice(),
+    };
+    let asked = Asked {
+        node: Entry::Port(0),
+        program: "node.dpv",
+        cert: if rows.is_empty() {
+            None
+        } else {
+            Some("node.cert")
+        },
+    };
+    let mut ended = Ended::new(alloc);
+    let (env, out, err) = (one_env(), &mut ended.printed, &mut ended.told);
+    ended.status = tell_node(alloc, &mut files, &env, asked, wanted, out, err);
+    Ok(ended)
+}
+
+/// What is told of the nodes of a pipeline over these files, or of the one that is named.
+pub fn told_of(
+    alloc: Global,
+    text: &str,
+    files: &[NamedBytes<'_>],
+    which: Option<Entry>,
+    wanted: Wanted,
+) -> Ended {
+    let mut files = Listed { files };
+    let mut ended = Ended::new(alloc);
+    let (text, out, err) = (text.as_bytes(), &mut ended.printed, &mut ended.told);
+    ended.status = tell_pipeline(alloc, text, &mut files, which, wanted, out, err);
+    ended
 }

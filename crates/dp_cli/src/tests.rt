@@ -78,17 +78,13 @@ fn run(alloc: Global, node: &str, cert: &[u8], input: &[u8]) -> Result<Ran, Allo
 
 /// What a heap script ends with.
 fn played(alloc: Global, script: &str) -> Ended {
-    let mut printed = Vec::new(alloc);
-    let mut told = Vec::new(alloc);
-    let status = match mem_line(alloc, script.as_bytes(), &mut printed, &mut told) {
+    let mut ended = Ended::new(alloc);
+    let (out, err) = (&mut ended.printed, &mut ended.told);
+    ended.status = match mem_line(alloc, script.as_bytes(), out, err) {
         Ok(status) => status,
         Err(Unwritten) => FAULT,
     };
-    Ended {
-        status,
-        printed,
-        told,
-    }
+    ended
 }
 
 /// Scripts, and what they print.
@@ -153,51 +149,31 @@ static SCRIPTS: [(&str, &str); 16] = [
     ),
 ];
 
-/// Scripts with a bad command: what is printed before it, and what is told of it.
-static BAD_SCRIPTS: [(&str, &str, &str); 16] = [
-    ("malloc 1 1\n", "", "fault: line 1 bad command\n"),
-    ("region 4097\n", "", "fault: line 1 bad command\n"),
-    ("region 4032\n", "", "fault: line 1 bad command\n"),
-    ("region 1073741888\n", "", "fault: line 1 bad command\n"),
-    ("region +4096\n", "", "fault: line 1 bad command\n"),
-    ("\nregion\n", "", "fault: line 2 bad command\n"),
-    (
-        "region 4096\nregion 4096\n",
-        "",
-        "fault: line 2 bad command\n",
-    ),
-    ("region 4096\n\nfree 1\n", "", "fault: line 3 bad command\n"),
+/// Scripts with a bad command: what is printed before it, and its line.
+static BAD_SCRIPTS: [(&str, &str, u64); 16] = [
+    ("malloc 1 1\n", "", 1),
+    ("region 4097\n", "", 1),
+    ("region 4032\n", "", 1),
+    ("region 1073741888\n", "", 1),
+    ("region +4096\n", "", 1),
+    ("\nregion\n", "", 2),
+    ("region 4096\nregion 4096\n", "", 2),
+    ("region 4096\n\nfree 1\n", "", 3),
     (
         "region 4096\nmalloc 1 0\nfree 1\nfree 1\n",
         "1 data 4032 element 3968 + 128\nfreed 1\n",
-        "fault: line 4 bad command\n",
+        4,
     ),
-    (
-        "region 4096\nmalloc  1 0\n",
-        "",
-        "fault: line 2 bad command\n",
-    ),
-    (
-        "region 4096\nmalloc 1 0 \n",
-        "",
-        "fault: line 2 bad command\n",
-    ),
-    (
-        "region 4096\nmalloc 1 0\r\n",
-        "",
-        "fault: line 2 bad command\n",
-    ),
-    ("region 4096\nmalloc 1\n", "", "fault: line 2 bad command\n"),
-    (
-        "region 4096\nmalloc 4294967296 0\n",
-        "",
-        "fault: line 2 bad command\n",
-    ),
-    ("region 4096\nlist 1\n", "", "fault: line 2 bad command\n"),
+    ("region 4096\nmalloc  1 0\n", "", 2),
+    ("region 4096\nmalloc 1 0 \n", "", 2),
+    ("region 4096\nmalloc 1 0\r\n", "", 2),
+    ("region 4096\nmalloc 1\n", "", 2),
+    ("region 4096\nmalloc 4294967296 0\n", "", 2),
+    ("region 4096\nlist 1\n", "", 2),
     (
         "region 4096\nstats\nshow\n",
         "free 1 bytes 4096 busy 0 bytes 0\n",
-        "fault: line 3 bad command\n",
+        3,
     ),
 ];
 
@@ -210,11 +186,16 @@ fn heap_scripts_print_as_the_rules_say(rt: HostRuntime) {
 }
 
 #[test]
-fn bad_commands_are_located_behind_what_was_printed(rt: HostRuntime) {
+fn bad_commands_are_located_behind_what_was_printed(rt: HostRuntime) -> Result<(), Fail> {
     let alloc = rt.alloc();
-    for (script, printed, told) in BAD_SCRIPTS.iter() {
-        assert!(&rt; played(alloc, script).is(3, printed, told), "{script}");
+    for (script, printed, line) in BAD_SCRIPTS.iter() {
+        let told = format!(in alloc; "fault: line {line} bad command\n")?;
+        assert!(&rt;
+            played(alloc, script).is(3, printed, told.as_str()),
+            "{script}"
+        );
     }
+    Ok(())
 }
 
 /// The report of a run that received and sent so many records.
@@ -267,31 +248,21 @@ fn a_packet_is_sole_again_behind_its_clone(rt: HostRuntime) -> Result<(), Fail> 
     Ok(())
 }
 
-/// The version of its certificate and the last digits of the shares of p0 and p1 in the row of label 1, and what is told
-/// and printed.
+/// What is printed where what is known of the two packets is not enough, and what is told where it is no row.
+const NOT_ENOUGH: &str = "port 0 refused at 1 by J11\n";
+
+const NO_ROW: &str = "fault: pipeline 7 BadCert port 0 line 3 cause 3\n";
+
+/// The version of its certificate and the last digits of the shares of p0 and p1 in the row of label 1, and what is printed
+/// and told.
 static OTHER_SHARES: [([u8; 3], u8, &str, &str); 5] = [
     // without a group, in either version
-    (*b"100", 1, "port 0 refused at 1 by J11\n", ""),
-    (*b"200", 1, "port 0 refused at 1 by J11\n", ""),
+    (*b"100", 1, NOT_ENOUGH, ""),
+    (*b"200", 1, NOT_ENOUGH, ""),
     // a group of one, one that is not named by its least register, and a group in version 1
-    (
-        *b"280",
-        3,
-        "",
-        "fault: pipeline 7 BadCert port 0 line 3 cause 3\n",
-    ),
-    (
-        *b"299",
-        3,
-        "",
-        "fault: pipeline 7 BadCert port 0 line 3 cause 3\n",
-    ),
-    (
-        *b"188",
-        3,
-        "",
-        "fault: pipeline 7 BadCert port 0 line 3 cause 3\n",
-    ),
+    (*b"280", 3, "", NO_ROW),
+    (*b"299", 3, "", NO_ROW),
+    (*b"188", 3, "", NO_ROW),
 ];
 
 /// Sets a byte, if there is one at the offset.

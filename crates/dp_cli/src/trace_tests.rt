@@ -17,6 +17,11 @@ const HEAD: &[u8] = b"\x01\0\0\0\x02\0\0\0\x3c\0\0\0\x3c\0\0\0";
 /// A record's bytes.
 const BYTES: &[u8] = b"the first of two records, whose bytes are any, sixty of them";
 
+/// Captures with that record once and twice, in parts.
+const ONE: [&[u8]; 3] = [HEADER, HEAD, BYTES];
+
+const TWO: [&[u8]; 5] = [HEADER, HEAD, BYTES, HEAD, BYTES];
+
 /// A record of three bytes in one nanosecond less than two seconds, in a capture of nanoseconds.
 const SHORT: &[u8] = b"\x4d\x3c\xb2\xa1\x02\0\x04\0\0\0\0\0\0\0\0\0\0\0\x04\0\x01\0\0\0\
     \x01\0\0\0\xff\xc9\x9a\x3b\x03\0\0\0\x03\0\0\0\x01\xab\xff";
@@ -79,22 +84,22 @@ fn trace_to<O: Write>(
     }
 }
 
-/// What a trace ends with.
+/// What a trace ends with: of a capture in parts, with the bytes behind which its reader fails, and of one that is read whole.
 fn traced(
     alloc: Global,
     text: &str,
-    inputs: [(&[u8], usize); 2],
+    first: (&[&[u8]], usize),
+    second: &[u8],
     list: &str,
     which: Traced,
-) -> Ended {
-    let mut printed = Vec::new(alloc);
-    let mut told = Vec::new(alloc);
-    let status = trace_to(alloc, text, inputs, list, which, &mut printed, &mut told);
-    Ended {
-        status,
-        printed,
-        told,
-    }
+) -> Result<Ended, AllocError> {
+    let (parts, behind) = first;
+    let first = joined(alloc, parts)?;
+    let inputs = [(first.as_slice(), behind), (second, WHOLE)];
+    let mut ended = Ended::new(alloc);
+    let (out, err) = (&mut ended.printed, &mut ended.told);
+    ended.status = trace_to(alloc, text, inputs, list, which, out, err);
+    Ok(ended)
 }
 
 /// The trace of a record that multicast sends to both ports.
@@ -172,11 +177,10 @@ port 1 sends 1
 #[test]
 fn the_records_of_all_ports_are_traced_in_the_order_of_a_run(rt: HostRuntime) -> Result<(), Fail> {
     let alloc = rt.alloc();
-    let first = joined(alloc, &[HEADER, HEAD, BYTES])?;
-    let inputs = [(first.as_slice(), WHOLE), (SHORT, WHOLE)];
-    let ended = traced(alloc, TWO_PORTS, inputs, NONE, all(1));
+    let one = (ONE.as_slice(), WHOLE);
+    let ended = traced(alloc, TWO_PORTS, one, SHORT, NONE, all(1))?;
     assert!(&rt; ended.is(0, COPIED, ""));
-    let both = traced(alloc, TWO_PORTS, inputs, NONE, all(10));
+    let both = traced(alloc, TWO_PORTS, one, SHORT, NONE, all(10))?;
     match FORWARDED.split_once("call 1") {
         Some((before, behind)) => {
             let text = format!(in alloc; "{COPIED}record 2 {before}call 5{behind}")?;
@@ -190,13 +194,12 @@ fn the_records_of_all_ports_are_traced_in_the_order_of_a_run(rt: HostRuntime) ->
 #[test]
 fn the_records_of_one_port_are_traced(rt: HostRuntime) -> Result<(), Fail> {
     let alloc = rt.alloc();
-    let first = joined(alloc, &[HEADER, HEAD, BYTES])?;
-    let inputs = [(first.as_slice(), WHOLE), (SHORT, WHOLE)];
     let which = Traced {
         records: 10,
         port: Some(1),
     };
-    let ended = traced(alloc, TWO_PORTS, inputs, NONE, which);
+    let one = (ONE.as_slice(), WHOLE);
+    let ended = traced(alloc, TWO_PORTS, one, SHORT, NONE, which)?;
     let text = format!(in alloc; "record 1 {FORWARDED}")?;
     assert!(&rt; ended.is(0, text.as_str(), ""));
     Ok(())
@@ -222,9 +225,8 @@ turn received runs 1 cuts 0 steps 3
 #[test]
 fn refused_calls_are_traced(rt: HostRuntime) -> Result<(), Fail> {
     let alloc = rt.alloc();
-    let first = joined(alloc, &[HEADER, HEAD, BYTES, HEAD, BYTES])?;
-    let inputs = [(first.as_slice(), WHOLE), (HEADER, WHOLE)];
-    let ended = traced(alloc, TWO_PORTS, inputs, "1,3", all(10));
+    let two = (TWO.as_slice(), WHOLE);
+    let ended = traced(alloc, TWO_PORTS, two, HEADER, "1,3", all(10))?;
     assert!(&rt; ended.is(0, REFUSED, ""));
     Ok(())
 }
@@ -258,9 +260,8 @@ turn received runs 2 cuts 0 steps 4
 #[test]
 fn rings_are_traced(rt: HostRuntime) -> Result<(), Fail> {
     let alloc = rt.alloc();
-    let first = joined(alloc, &[HEADER, HEAD, BYTES])?;
-    let inputs = [(first.as_slice(), WHOLE), (HEADER, WHOLE)];
-    let ended = traced(alloc, DROPPING, inputs, NONE, all(10));
+    let one = (ONE.as_slice(), WHOLE);
+    let ended = traced(alloc, DROPPING, one, HEADER, NONE, all(10))?;
     assert!(&rt; ended.is(0, WAITING, ""));
     Ok(())
 }
@@ -268,17 +269,16 @@ fn rings_are_traced(rt: HostRuntime) -> Result<(), Fail> {
 #[test]
 fn faults_of_a_traced_run_are_told(rt: HostRuntime) -> Result<(), Fail> {
     let alloc = rt.alloc();
-    let first = joined(alloc, &[HEADER, HEAD, BYTES])?;
-    let inputs = [(first.as_slice(), 100), (HEADER, WHOLE)];
-    let failing = traced(alloc, TWO_PORTS, inputs, NONE, all(10));
+    let short = (ONE.as_slice(), 100);
+    let failing = traced(alloc, TWO_PORTS, short, HEADER, NONE, all(10))?;
     assert!(&rt; failing.is(3, COPIED, "fault: input 0 cause 8\n"));
-    let enough = traced(alloc, TWO_PORTS, inputs, NONE, all(1));
+    let enough = traced(alloc, TWO_PORTS, short, HEADER, NONE, all(1))?;
     assert!(&rt; enough.is(0, COPIED, ""));
-    let inputs = [(first.as_slice(), WHOLE), (HEAD, WHOLE)];
-    let strange = traced(alloc, TWO_PORTS, inputs, NONE, all(10));
+    let whole = (ONE.as_slice(), WHOLE);
+    let strange = traced(alloc, TWO_PORTS, whole, HEAD, NONE, all(10))?;
     assert!(&rt; strange.is(3, "", "fault: input 1 cause 6\n"));
     let text = changed(alloc, "10368", "4096")?;
-    let small = traced(alloc, text.as_str(), inputs, NONE, all(10));
+    let small = traced(alloc, text.as_str(), whole, HEAD, NONE, all(10))?;
     assert!(&rt; small.is(3, "", "fault: region\n"));
     Ok(())
 }
@@ -308,7 +308,7 @@ impl Write for FailsAt {
 #[test]
 fn a_writer_that_failed_is_not_called_again(rt: HostRuntime) -> Result<(), Fail> {
     let alloc = rt.alloc();
-    let first = joined(alloc, &[HEADER, HEAD, BYTES])?;
+    let first = joined(alloc, ONE.as_slice())?;
     let inputs = [(first.as_slice(), WHOLE), (HEADER, WHOLE)];
     for call in 1..60u32 {
         let mut out = FailsAt { call, calls: 0 };

@@ -1,5 +1,6 @@
 // Facts, rows and registers, on known values.
 
+use crate::known::{at_port, dead, single, with_shares};
 use dp_model::{
     Fact, Holding, NumberRegister, Operand, Packet, PacketRegister, Row, Rule, Width,
     accepted_programs_are_safe, accepted_programs_are_sound, budgets_are_as_they_read,
@@ -7,44 +8,6 @@ use dp_model::{
     runs_are_as_they_read, runs_keep_safe, turns_stay_ready, whole_runs_end_with_whole_pools,
     worlds_stay_well_formed,
 };
-
-/// What is known of a packet in one segment.
-fn single(share: u8, head: u16, tail: u16, first: u16, last: u16) -> Fact {
-    Fact::Held {
-        share,
-        head,
-        tail,
-        first,
-        last,
-        segs: 1,
-    }
-}
-
-/// The first row of strip, on a port whose packets have one segment.
-fn at_port() -> Row {
-    Row::of_entry(single(2, 128, 0, 0, 0), 0)
-}
-
-/// That row, where the first packet registers have these shares, and the others nothing.
-fn with_shares(shares: &[Option<u8>]) -> Row {
-    let mut row = at_port();
-    for (fact, share) in row.facts.iter_mut().zip(shares) {
-        *fact = match share {
-            Some(share) => single(*share, 128, 0, 0, 0),
-            None => Fact::Empty,
-        };
-    }
-    row
-}
-
-/// A row that says nothing.
-fn dead() -> Row {
-    Row {
-        live: false,
-        facts: [Fact::Empty; 8],
-        bounds: [0; 8],
-    }
-}
 
 #[test]
 fn facts_have_ranges(rt: HostRuntime) {

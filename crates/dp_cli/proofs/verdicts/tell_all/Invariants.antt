@@ -1,7 +1,7 @@
--- The nodes so far were explained, and no fault was told.
+-- The nodes so far were told of, and no fault was told.
 use Rattle.std.proofs.Common.{◌≡◌, ◌⊎◌, ◌<◌, ℕ}
 use Rattle.dp_cli.specs.Judging.{EndedAt}
-use Rattle.dp_cli.proofs.explain.explain_all.Given as goal
+use Rattle.dp_cli.proofs.verdicts.tell_all.Given as goal
 
 abbrev pub invariant-loop-index : goal.invariant-loop-index
 invariant-loop-index g l = record {
