@@ -59,7 +59,7 @@ module _ (r : RegionView) (laid : IsLaid r) (before : List Element) (e : Element
   differs d q in_it is = let no : times q (w.0 d) ≡ 0 = ap (λ (k : ℕ). times k (w.0 d)) is ∙ absent d in absurd (omega arith)
 
   h_differs : h ≡ p → ⊥
-  h_differs is = let o = own.room in ⊎_elim (λ z. let most = laid.0 in absurd (omega arith)) (λ in_it. differs c h in_it is) head
+  h_differs is = let o = own.room in ⊎_elim (λ z. let most = laid.0.1 in absurd (omega arith)) (λ in_it. differs c h in_it is) head
 
   pub long1 : length y1 ≡ length xs
   long1 = let o = own.room in length-with_link xs 16 p h (λ _. o) (omega arith)
@@ -103,7 +103,7 @@ module _ (r : RegionView) (laid : IsLaid r) (before : List Element) (e : Element
 
   first_back : h < length xs → number_at ys (h + 20) 4 ≡ p
   first_back lt =
-      let o = own.room in let most = laid.0 in let n2 = long2 in let f = (first lt).room in
+      let o = own.room in let most = laid.0.1 in let n2 = long2 in let f = (first lt).room in
       link-same y2 20 h p (λ _. omega arith) (omega arith) (omega arith) (omega arith)
 
   pub entered_laid : IsLaid (record r { bytes = ys }) × (elements_in ys ≡ elements_in xs)

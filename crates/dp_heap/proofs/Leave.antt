@@ -87,7 +87,7 @@ module _ (r : RegionView) (laid : IsLaid r) (before : List Element) (e : Element
 
   u_past : times u cut.1 ≡ 0
   u_past = ⊎_elim (λ z. by_zero (times u cut.1) (λ some. let s = parts u in let k = (listed_header r laid heads off w c u (omega arith)).room in
-      let most = laid.0 in omega arith)) (λ k. let s = parts u in let o = once u in omega arith) u_is
+      let most = laid.0.1 in omega arith)) (λ k. let s = parts u in let o = once u in omega arith) u_is
     where
       by_zero : (n : ℕ) → (1 ≤ n → ⊥) → n ≡ 0
       by_zero n never = by_test (eqb n 0) (λ t. eqb-true n 0 t) (λ t. absurd (never (let differ : n ≡ 0 → ⊥ = (λ is. true≢false (sym (eq-eqb n 0 is) ∙ t)) in
@@ -95,7 +95,7 @@ module _ (r : RegionView) (laid : IsLaid r) (before : List Element) (e : Element
 
   v_before : times v cut.0 ≡ 0
   v_before = ⊎_elim (λ z. by_zero (times v cut.0) (λ some. let s = parts v in let k = (listed_header r laid heads off w c v (omega arith)).room in
-      let most = laid.0 in omega arith)) (λ k. let s = parts v in let o = once v in omega arith) v_is
+      let most = laid.0.1 in omega arith)) (λ k. let s = parts v in let o = once v in omega arith) v_is
     where
       by_zero : (n : ℕ) → (1 ≤ n → ⊥) → n ≡ 0
       by_zero n never = by_test (eqb n 0) (λ t. eqb-true n 0 t) (λ t. absurd (never (let differ : n ≡ 0 → ⊥ = (λ is. true≢false (sym (eq-eqb n 0 is) ∙ t)) in
@@ -156,7 +156,7 @@ module _ (r : RegionView) (laid : IsLaid r) (before : List Element) (e : Element
 
   heads_are : (u ≡ none → first_or v (slice_index heads c) cut.0 ≡ v) × ((u ≡ none → ⊥) → first_or v (slice_index heads c) cut.0 ≡ slice_index heads c)
   heads_are = first_is cut.0 around.0 (λ q in_it. let s = parts q in let k = (listed_header r laid heads off w c q (omega arith)).room in
-      let most = laid.0 in omega arith)
+      let most = laid.0.1 in omega arith)
 
   abbrev lists : ℕ → List ℕ
   lists d = cond (eqb d c) (cut.0 ++ cut.1) (w.0 d)

@@ -5,7 +5,7 @@ use mathlib.Core.Logic.{⊎_elim}
 use Rattle.std.proofs.lemmas.Bool.{ltb-true, ltb-false}
 use Rattle.dp_heap.proofs.ByTest.{by_test}
 use Rattle.dp_region.specs.Spans.{IsUnlent}
-use Rattle.dp_region.specs.Region.{RegionView, number_at}
+use Rattle.dp_region.specs.Region.{RegionView, IsRegionSize, number_at}
 use Rattle.dp_heap.specs.declared.elements.Element.{Element}
 use Rattle.dp_heap.specs.Elements.{end_of}
 use Rattle.dp_heap.specs.Laid.{elements_in, Laid, Lends, Kept, IsLaid}
@@ -38,10 +38,15 @@ pub relinked : (r : RegionView) → IsLaid r → (ys : List ℕ) → length ys �
     ((k : ℕ) → k + 4 ≤ length r.bytes → k % 64 ≤ 12 → number_at ys k 4 ≡ number_at r.bytes k 4)
     → IsLaid (record r { bytes = ys }) × (elements_in ys ≡ elements_in r.bytes)
 relinked r laid ys long same =
-    let most = laid.0 in let w = words r.bytes ys same (elements_in r.bytes) 0 (length r.bytes) 0 laid.1 laid.3 (omega arith) in
+    let most = laid.0.1 in let w = words r.bytes ys same (elements_in r.bytes) 0 (length r.bytes) 0 laid.1 laid.3 (omega arith) in
     let l : Laid ys 0 (length ys) (elements_in r.bytes) = subst (λ (n : ℕ). Laid ys 0 n (elements_in r.bytes)) (sym long) w.0 in
     let is = all_decoded ys (elements_in r.bytes) l in (
-      (omega arith, subst (Laid ys 0 (length ys)) (sym is) l, subst (λ (es : List Element). Lends es r.lent) (sym is) laid.2, subst (Kept ys 0) (sym is) w.1),
+      (
+        subst IsRegionSize (sym long) laid.0,
+        subst (Laid ys 0 (length ys)) (sym is) l,
+        subst (λ (es : List Element). Lends es r.lent) (sym is) laid.2,
+        subst (Kept ys 0) (sym is) w.1,
+      ),
       is,
     )
 
@@ -82,11 +87,11 @@ module _ (r : RegionView) (laid : IsLaid r) (heads : List ℕ) (off : List Eleme
 
   -- an offset of a list, or its end
   pub link_header : (c p : ℕ) → (p ≡ none) ⊎ (1 ≤ times p (w.0 c)) → p < length r.bytes → Header r p
-  link_header c p is in_it = ⊎_elim (λ z. let most = laid.0 in absurd (omega arith)) (λ h. listed_header c p h) is
+  link_header c p is in_it = ⊎_elim (λ z. let most = laid.0.1 in absurd (omega arith)) (λ h. listed_header c p h) is
 
   pub link_listed : (c p : ℕ) → (p ≡ none) ⊎ (1 ≤ times p (w.0 c)) → p < length r.bytes → 1 ≤ times p (w.0 c)
-  link_listed c p is in_it = ⊎_elim (λ z. let most = laid.0 in absurd (omega arith)) (λ h. h) is
+  link_listed c p is in_it = ⊎_elim (λ z. let most = laid.0.1 in absurd (omega arith)) (λ h. h) is
 
   pub link_small : (c p : ℕ) → (p ≡ none) ⊎ (1 ≤ times p (w.0 c)) → p < 2 ^ 32
   link_small c p is = ⊎_elim (λ z. let few : none < 2 ^ 32 = lit< tt in omega arith) (λ h. let k = (listed_header c p h).room in
-      let most = laid.0 in omega arith) is
+      let most = laid.0.1 in omega arith) is

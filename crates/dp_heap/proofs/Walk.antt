@@ -95,7 +95,7 @@ pub free_at : (r : RegionView) → IsLaid r → (c p : ℕ) → 1 ≤ belong c p
 free_at r laid c p h =
     let m = member c p (elements_in r.bytes) h in
     let is : m.it ≡ element_at r.bytes p = (here r laid m.before m.it m.after m.split).0 ∙ ap (element_at r.bytes) m.at in
-    let b = (e_bound r laid m.before m.it m.after m.split).0 in let most = laid.0 in let fits : end_of m.it ≤ 1073741824 = omega arith in
+    let b = (e_bound r laid m.before m.it m.after m.split).0 in let most = laid.0.1 in let fits : end_of m.it ≤ 1073741824 = omega arith in
     record {
       before = m.before;
       after = m.after;
@@ -107,7 +107,7 @@ free_at r laid c p h =
 
 module _ (r : RegionView) (laid : IsLaid r) (c n a p : ℕ) (w : Walked r.bytes c n a p) where
   left_far : (q : ℕ) → 1 ≤ times q w.1 → q < none
-  left_far q h = let count = w.4 q in let room = (free_at r laid c q (omega arith)).header.room in let most = laid.0 in omega arith
+  left_far q h = let count = w.4 q in let room = (free_at r laid c q (omega arith)).header.room in let most = laid.0.1 in omega arith
 
   left_few : length w.1 ≤ length r.bytes
   left_few =

@@ -8,11 +8,11 @@ pub write_link-requires : goal.write_link-requires
 write_link-requires c =
     let l = c.requires.laid in let o = own c.args.region.now l.0 l.1.0 c.args.e.now l.1.1 l.1.2 (free_is c.args.e.now c.requires.free) c.args.self.now.heads
     c.requires.off.0 c.requires.off.1 in
-    (λ _. (o.room, o.unlent), omega arith, l.0.0)
+    (λ _. (o.room, o.unlent), omega arith, l.0.0.1)
 
 pub write_link-requires-2 : goal.write_link-requires-2
 write_link-requires-2 c =
-    let l = c.requires.laid in let most = l.0.0 in
+    let l = c.requires.laid in let most = l.0.0.1 in
     let o = own c.args.region.now l.0 l.1.0 c.args.e.now l.1.1 l.1.2 (free_is c.args.e.now c.requires.free) c.args.self.now.heads c.requires.off.0
     c.requires.off.1 in
     let n = long1 c.args.region.now l.0 l.1.0 c.args.e.now l.1.1 l.1.2 (free_is c.args.e.now c.requires.free) c.args.self.now.heads c.requires.off.0
@@ -21,7 +21,7 @@ write_link-requires-2 c =
 
 pub write_link-requires-3 : goal.write_link-requires-3
 write_link-requires-3 c =
-    let l = c.requires.laid in let most = l.0.0 in
+    let l = c.requires.laid in let most = l.0.0.1 in
     let n = long2 c.args.region.now l.0 l.1.0 c.args.e.now l.1.1 l.1.2 (free_is c.args.e.now c.requires.free) c.args.self.now.heads c.requires.off.0
     c.requires.off.1 in
     let f = first c.args.region.now l.0 l.1.0 c.args.e.now l.1.1 l.1.2 (free_is c.args.e.now c.requires.free) c.args.self.now.heads c.requires.off.0

@@ -11,10 +11,10 @@ own : (c : Start) → Header c.args.region.now c.args.e.now.offset
 own c = let l = c.requires.laid in header_of c.args.region.now l.0 l.1.0 c.args.e.now l.1.1 l.1.2
 
 pub overflow_add-e : goal.overflow_add-e
-overflow_add-e c = record { fits = omega (arith, (own (goal.at.overflow_add-e c).Start).room, c.requires.laid.0.0) }
+overflow_add-e c = record { fits = omega (arith, (own (goal.at.overflow_add-e c).Start).room, c.requires.laid.0.0.1) }
 
 pub overflow_add-e-2 : goal.overflow_add-e-2
-overflow_add-e-2 c = record { fits = omega (arith, (own (goal.at.overflow_add-e-2 c).Start).room, c.requires.laid.0.0) }
+overflow_add-e-2 c = record { fits = omega (arith, (own (goal.at.overflow_add-e-2 c).Start).room, c.requires.laid.0.0.1) }
 
 pub load_u32-next-requires : goal.load_u32-next-requires
 load_u32-next-requires c =
@@ -26,13 +26,13 @@ load_u32-before-requires c =
 
 pub write_link-requires : goal.write_link-requires
 write_link-requires c =
-    let l = c.requires.laid in let most = l.0.0 in let w = c.requires.listed in
+    let l = c.requires.laid in let most = l.0.0.1 in let w = c.requires.listed in
     let u = u_header c.args.region.now l.0 l.1.0 c.args.e.now l.1.1 l.1.2 (free_is c.args.e.now c.requires.free) c.args.self.now.heads w.0 w.1 w.2 in
     rw c.load_u32-before.ensures (λ lt. let h = u lt in (h.room, h.unlent), omega arith, most)
 
 pub write_link-requires-2 : goal.write_link-requires-2
 write_link-requires-2 c =
-    let l = c.requires.laid in let most = l.0.0 in let w = c.requires.listed in
+    let l = c.requires.laid in let most = l.0.0.1 in let w = c.requires.listed in
     let v = v_header c.args.region.now l.0 l.1.0 c.args.e.now l.1.1 l.1.2 (free_is c.args.e.now c.requires.free) c.args.self.now.heads w.0 w.1 w.2 in
     let n = long1 c.args.region.now l.0 l.1.0 c.args.e.now l.1.1 l.1.2 (free_is c.args.e.now c.requires.free) c.args.self.now.heads w.0 w.1 w.2 in
     rw (c.write_link.ensures, c.load_u32-before.ensures, c.load_u32-next.ensures) (
