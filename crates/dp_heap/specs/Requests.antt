@@ -1,0 +1,16 @@
+-- What a request for a block does.
+use Rattle.std.specs.Prelude.{◌≡◌, ℕ, ◌+◌, ◌<◌, List, Result, IfOk, MatchResult}
+use Rattle.dp_region.specs.Region.{BlockView}
+use Rattle.dp_heap.specs.declared.error.HeapError.{HeapError}
+use Rattle.dp_heap.specs.Elements.{rounded, alignment, is_busy, count_of, merged, Taken}
+use Rattle.dp_heap.specs.Laid.{HeapView}
+use Rattle.dp_heap.specs.Refusals.{IsAlign, IsRefused}
+
+-- a request for n bytes aligned to a, of a heap that was `old` and is `new`: a block with such bytes is taken, or it is refused
+pub record Answered (Bytes : List ℕ → Type 0) (old new : HeapView) (n a : ℕ) (answer : Result BlockView HeapError) : Type 0 where
+  pub block : IfOk answer (λ b. (b.home ≡ old.home) × Bytes b.bytes × Taken old.elements (rounded n) (alignment a) b.offset new.elements)
+  pub home : new.home ≡ old.home
+  pub refused : MatchResult answer (λ _. (0 < n) × IsAlign a) (λ e. IsRefused e n a old.elements × (new ≡ old))
+  pub undone : IfOk answer (λ b. merged b.offset new.elements ≡ old.elements)
+  pub counted : MatchResult answer (λ _. count_of is_busy new.elements ≡ count_of is_busy old.elements + 1)
+      (λ _. count_of is_busy new.elements ≡ count_of is_busy old.elements)
