@@ -124,7 +124,6 @@ impl Stack {
         ensures left { result.left + zone_bytes len ≡ length region.bytes }
         ensures names { AllBefore (first_of Kind.Port) result.names × (length result.names ≡ 1) }
     {
-        let _size = region.size();
         let mut heap = Heap::new(region);
         let mut zones = Zones::new();
         let spare = reserve(&mut heap, &mut zones, "spare", len);

@@ -1,5 +1,5 @@
 -- A stack over a region: what it is is settled once.
-use Rattle.std.proofs.Common.{◌≡◌, ◌+◌, ◌%◌, ap, refl, sym, subst, ◌∙◌, arith, List, length, ℕ}
+use Rattle.std.proofs.Common.{◌≡◌, ◌+◌, ap, refl, sym, subst, ◌∙◌, arith, List, length}
 use Rattle.dp_heap.specs.declared.elements.Element.{Element}
 use Rattle.dp_heap.specs.Elements.{rounded, NothingFits, Taken}
 use Rattle.dp_zone.specs.Zones.{Reserved}
@@ -11,7 +11,7 @@ use Rattle.dp_engine.proofs.stack.Stack.over.Goals.{After-reserve-spare}
 
 pub reserve-spare-requires-clause-room : goal.reserve-spare-requires-clause-room
 reserve-spare-requires-clause-room c = λ none.
-    new_fits (length c.args.region.bytes) c.args.len (ap (λ (n : ℕ). n % 64) (sym c.size-size.ensures.value) ∙ c.size-size.ensures.range.2) c.requires.room
+    new_fits (length c.args.region.bytes) c.args.len c.new-heap.ensures.size.2 c.requires.room
     (subst (λ (es : List Element). NothingFits (rounded c.args.len) 64 es) c.new-heap.ensures.one none)
 
 -- the spare zone is at the top, and the rest below it
@@ -24,7 +24,7 @@ stacked c =
     let more = table_more c.new-zones.result c.reserve-spare.new.zones _ r.names in
     let empty = ap (λ (t : List Reserved). length t) c.new-zones.ensures in
     stack_new (length c.args.region.bytes) c.args.len c.reserve-spare.result.offset c.reserve-spare.new.heap c.reserve-spare.new.zones c.reserve-spare.result
-    (ap (λ (n : ℕ). n % 64) (sym c.size-size.ensures.value) ∙ c.size-size.ensures.range.2) c.requires.room
+    c.new-heap.ensures.size.2 c.requires.room
     (subst (λ (es : List Element). Taken es (rounded c.args.len) 64 c.reserve-spare.result.offset c.reserve-spare.new.heap.elements) c.new-heap.ensures.one
     r.taken)
     refl r.zone.1 (r.zone.0 ∙ sym r.home) (omega (arith, one, none)) (omega (arith, more, empty))
