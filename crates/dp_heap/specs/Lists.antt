@@ -3,10 +3,12 @@
 --  16  the next element of the list
 --  20  the one before it
 use Rattle.std.specs.Prelude.{◌≡◌, ℕ, ◌+◌, ◌<◌, ◌≤◌, ◌⊎◌, List, [], ◌∷◌, ◌&&◌, length, slice_index, ◌==◌, nat_le, nat_lt, if◌then◌else◌}
-use Rattle.dp_region.specs.Region.{number_at, with_number}
+use Rattle.dp_region.specs.Region.{RegionView, number_at, with_number}
 use Rattle.dp_heap.specs.declared.elements.Element.{Element}
+use Rattle.dp_heap.specs.declared.elements.State.TheVariants.{Free}
 use Rattle.dp_heap.specs.Elements.{is_free, sum_of, CanHold}
 use Rattle.dp_heap.specs.Edits.{IsIn}
+use Rattle.dp_heap.specs.Laid.{elements_in, IsLaid}
 
 -- where a list ends
 abbrev pub none : ℕ
@@ -42,6 +44,12 @@ abbrev pub Listed : List ℕ → List ℕ → List Element → List Element → 
 Listed xs heads es off =
     (lists : ℕ → List ℕ) × (length heads ≡ 5) × ((c : ℕ) → c < 5 → Linked xs none (slice_index heads c) (lists c))
     × ((c p : ℕ) → times p (lists c) + belong c p off ≡ belong c p es)
+
+-- e is free, and in none of the lists that begin at `heads`
+pub record IsOff (r : RegionView) (heads : List ℕ) (e : Element) : Type 0 where
+  pub laid : IsLaid r × IsIn e (elements_in r.bytes)
+  pub free : e.state ≡ Free
+  pub listed : Listed r.bytes heads (elements_in r.bytes) (e ∷ [])
 
 -- outside low up to high no word changes but the one at 12 of the header at high
 abbrev pub Outside : ℕ → ℕ → List ℕ → List ℕ → Type 0

@@ -4,7 +4,7 @@ ghost use Rattle.dp_region.specs.Region.{cache_line};
 ghost use Rattle.dp_heap.specs.Elements.{header_len, joined, end_of, both, spare, pieces};
 ghost use Rattle.dp_heap.specs.Edits.{onto, Emptied, lower, upper, marked, below, above, IsIn, Replaces};
 ghost use Rattle.dp_heap.specs.Laid.{elements_in, IsLaid, IsHeap};
-ghost use Rattle.dp_heap.specs.Lists.{Listed, Outside};
+ghost use Rattle.dp_heap.specs.Lists.{IsOff, Listed, Outside};
 ghost use Rattle.dp_heap.specs.declared.elements.Element.{Element as Item};
 
 use crate::elements::{Element, HEADER_LEN, State};
@@ -66,14 +66,11 @@ fn mark(region: &mut Region, e: &Element, at: u32, len: u32) -> Block
 
 // `e`, which is free and in no list, loses what lies from `end` on, where that is more than the slack.
 fn trim_end(region: &mut Region, lists: &mut Lists, e: Element, end: u32) -> Element
-    requires laid { IsLaid region.old × IsIn e (elements_in region.old.bytes) }
-    requires free { e.state ≡ State.Free }
-    requires listed { Listed region.old.bytes lists.old.heads (elements_in region.old.bytes) (e ∷ []) }
+    requires off { IsOff region.old lists.old.heads e }
     requires inside { (e.offset + header_len ≤ end) × (end ≤ end_of e) × (end % cache_line ≡ 0) }
     ensures left { result ≡ below e end }
-    ensures laid { IsLaid region.new }
     ensures home { region.new.home ≡ region.old.home }
-    ensures listed { Listed region.new.bytes lists.new.heads (elements_in region.new.bytes) (result ∷ []) }
+    ensures off { IsOff region.new lists.new.heads result }
     ensures pieces { Replaces e (below e end ∷ spare end (end_of e - end)) (elements_in region.old.bytes) (elements_in region.new.bytes) }
 {
     if e.offset + e.size - end <= SLACK {
@@ -86,14 +83,11 @@ fn trim_end(region: &mut Region, lists: &mut Lists, e: Element, end: u32) -> Ele
 
 // `e`, which is free and in no list, loses what lies before `start`, where that is more than the slack.
 fn trim_start(region: &mut Region, lists: &mut Lists, e: Element, start: u32) -> Element
-    requires laid { IsLaid region.old × IsIn e (elements_in region.old.bytes) }
-    requires free { e.state ≡ State.Free }
-    requires listed { Listed region.old.bytes lists.old.heads (elements_in region.old.bytes) (e ∷ []) }
+    requires off { IsOff region.old lists.old.heads e }
     requires inside { (e.offset ≤ start) × (start + header_len ≤ end_of e) × (start % cache_line ≡ 0) }
     ensures left { result ≡ above e start }
-    ensures laid { IsLaid region.new }
     ensures home { region.new.home ≡ region.old.home }
-    ensures listed { Listed region.new.bytes lists.new.heads (elements_in region.new.bytes) (result ∷ []) }
+    ensures off { IsOff region.new lists.new.heads result }
     ensures pieces { Replaces e (spare e.offset (start - e.offset) ++ above e start ∷ []) (elements_in region.old.bytes) (elements_in region.new.bytes) }
 {
     if start - e.offset <= SLACK {
@@ -164,13 +158,9 @@ fn join(region: &mut Region, x: Element, y: Element) -> Element
 
 // `e`, which is free and in no list, is joined to the element above it where that is free.
 pub(crate) fn join_above(region: &mut Region, lists: &mut Lists, e: Element) -> Element
-    requires laid { IsLaid region.old × IsIn e (elements_in region.old.bytes) }
-    requires free { e.state ≡ State.Free }
-    requires listed { Listed region.old.bytes lists.old.heads (elements_in region.old.bytes) (e ∷ []) }
-    ensures laid { IsLaid region.new }
+    requires { IsOff region.old lists.old.heads e }
     ensures home { region.new.home ≡ region.old.home }
-    ensures free { result.state ≡ State.Free }
-    ensures listed { Listed region.new.bytes lists.new.heads (elements_in region.new.bytes) (result ∷ []) }
+    ensures off { IsOff region.new lists.new.heads result }
     ensures pieces { (before after : List Item) → elements_in region.old.bytes ≡ before ++ e ∷ after → (rest : List Item) × (joined e after ≡ result ∷ rest)
         × (elements_in region.new.bytes ≡ before ++ result ∷ rest) }
 {
@@ -190,13 +180,9 @@ pub(crate) fn join_above(region: &mut Region, lists: &mut Lists, e: Element) -> 
 
 // `e`, which is free and in no list, is joined to the element below it where that is free.
 pub(crate) fn join_below(region: &mut Region, lists: &mut Lists, e: Element) -> Element
-    requires laid { IsLaid region.old × IsIn e (elements_in region.old.bytes) }
-    requires free { e.state ≡ State.Free }
-    requires listed { Listed region.old.bytes lists.old.heads (elements_in region.old.bytes) (e ∷ []) }
-    ensures laid { IsLaid region.new × IsIn result (elements_in region.new.bytes) }
+    requires { IsOff region.old lists.old.heads e }
     ensures home { region.new.home ≡ region.old.home }
-    ensures free { result.state ≡ State.Free }
-    ensures listed { Listed region.new.bytes lists.new.heads (elements_in region.new.bytes) (result ∷ []) }
+    ensures off { IsOff region.new lists.new.heads result }
     ensures pieces { (before after : List Item) → elements_in region.old.bytes ≡ before ++ e ∷ after → elements_in region.new.bytes ≡ onto before (e ∷ after) }
 {
     if e.offset == 0 {
