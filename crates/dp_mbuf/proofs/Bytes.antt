@@ -1,12 +1,10 @@
 -- Bytes read and written in a live packet.
-use Rattle.std.proofs.Common.{◌≡◌, ℕ, zero, suc, ◌+◌, ◌-◌, ◌≤◌, List, [], ◌∷◌, ◌++◌, length, take, drop, Some, None, refl, sym, ◌∙◌, ap, subst, arith, get_or}
+use Rattle.std.proofs.Common.{◌≡◌, ℕ, zero, suc, ◌+◌, ◌-◌, ◌≤◌, List, [], ◌∷◌, ◌++◌, length, take, drop, Some, None, sym, ◌∙◌, ap, subst, arith, get_or}
 use Rattle.std.proofs.Common.{set}
 use Rattle.std.specs.Prelude.{slice_get, slice_set, slice_range, replicate}
 use Rattle.std.proofs.lemmas.Option.{same_Some}
 use Rattle.std.proofs.lemmas.List.{length-drop, take_all}
-use Rattle.dp_model.specs.Arithmetic.{bytes_in, big_endian, spelled}
-use Rattle.dp_model.specs.declared.registers.Width.{Width}
-use Rattle.dp_model.specs.declared.registers.Width.TheVariants.{One, Two, Four, Eight}
+use Rattle.dp_model.specs.Arithmetic.{big_endian, spelled}
 use Rattle.dp_model.specs.Environments.{room_at}
 use Rattle.dp_model.specs.Buffers.{IsNumber, bytes_of, written}
 use Rattle.dp_model.specs.Packets.{Segment, Packet, headroom, tailroom, first_len, room_behind, at_front, at_end, more_before, more_behind, zeroed_before}

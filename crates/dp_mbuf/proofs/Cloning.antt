@@ -13,7 +13,7 @@ use Rattle.dp_pool.specs.Pools.{PoolView}
 use Rattle.dp_mbuf.specs.Objects.{header_at, is_out, count_in, specs_of, buffers_of, HasObject, HeaderSet}
 use Rattle.dp_mbuf.specs.Steps.{Linkage, Alike, CanClone, Cloned, cloned_header}
 use Rattle.dp_mbuf.specs.Mbufs.{handle, numbered, segment_at, shown, mbufs, Linked, last_mbuf, StandsAt, Whole, Sound}
-use Rattle.dp_mbuf.proofs.ObjectLemmas.{same_or, same_self, length_specs}
+use Rattle.dp_mbuf.proofs.ObjectLemmas.{same_or, length_specs}
 use Rattle.dp_mbuf.proofs.Counting.{AllOf, count-append, count-cons, mbufs-append, mbufs-cons, mbufs_first, refs-append, refs-cons, refs_first, refs_le}
 use Rattle.dp_mbuf.proofs.Counting.{each_count, all_join, all_front, all_rest, all_slot, slot_among, count_of}
 use Rattle.dp_mbuf.proofs.Links.{alike, first_in, first_mbuf, linked_kept, segment_eq}

@@ -16,7 +16,7 @@ use Rattle.dp_mbuf.specs.Objects.{header_at, count_in, pool_in, no_pool, specs_o
 use Rattle.dp_mbuf.specs.Steps.{Linkage, FilledBy, direct_header}
 use Rattle.dp_mbuf.specs.Mbufs.{handle, segment_at, shown, mbufs, Linked, last_mbuf, Whole, Sound}
 use Rattle.dp_mbuf.proofs.PoolLemmas.{Small, small_drop}
-use Rattle.dp_mbuf.proofs.ObjectLemmas.{same_or, same_self, bytes_are, room_is, object_pool, length_specs, count_is}
+use Rattle.dp_mbuf.proofs.ObjectLemmas.{same_or, bytes_are, room_is, object_pool, length_specs, count_is}
 use Rattle.dp_mbuf.proofs.Counting.{mbufs-append, mbufs-cons, mbufs_first, refs-append, all_join, all_front}
 use Rattle.dp_mbuf.proofs.Links.{alike, first_in, linked_kept}
 use Rattle.dp_mbuf.proofs.Frames.{object_of, number_of, number_small}

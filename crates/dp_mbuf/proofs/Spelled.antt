@@ -1,5 +1,5 @@
 -- The bytes of a number, the highest first.
-use Rattle.std.proofs.Common.{◌≡◌, ℕ, zero, suc, ◌<◌, List, [], ◌∷◌, length, refl, ap, arith, get_or}
+use Rattle.std.proofs.Common.{◌≡◌, ℕ, zero, suc, length, refl, ap, arith}
 use Rattle.dp_model.specs.Arithmetic.{big_endian}
 use Rattle.dp_mbuf.proofs.PoolLemmas.{Small}
 

@@ -1,5 +1,5 @@
 -- A clone of a packet: the call is opened once, and each goal is one step of it.
-use Rattle.std.proofs.Common.{length, refl, ap, arith, ◌∙◌}
+use Rattle.std.proofs.Common.{refl, ap, arith, ◌∙◌}
 use Rattle.dp_model.specs.Packets.{Packet}
 use Rattle.dp_model.specs.Stores.{Has}
 use Rattle.dp_mbuf.proofs.InHand.{cloned_zones}
