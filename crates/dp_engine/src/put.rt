@@ -40,7 +40,5 @@ pub(crate) fn put_packet<W: Sink>(
     if mbufs.segments(&packet) != 1 {
         return put_segments(mbufs, packet, time, unit, w);
     }
-    // The record is not longer than its packet, which is not too long.
-    let _length = mbufs.length(&packet);
     put_record(w, unit, time, mbufs.segment_bytes(&packet, 0))
 }

@@ -15,7 +15,9 @@ ghost use Rattle.dp_mbuf.specs.Mbufs.{numbered, handle, AreReady, IsNew, HasNone
 
 use crate::big_endian::read_number;
 use crate::header::{Header, MbufNumber};
-use crate::limits::{HEADROOM, MAX_LENGTH, MAX_MBUFS, MAX_POOLS, MAX_SEGMENTS, POOL_HANDLES};
+use crate::limits::{
+    HEADROOM, MAX_LENGTH, MAX_MBUFS, MAX_POOLS, MAX_ROOM, MAX_SEGMENTS, POOL_HANDLES,
+};
 use crate::objects::Objects;
 use crate::steps::{
     behind, clone_segment, fill_segment, fresh_header, hook, release, relink, unhook, unhook_all,
@@ -378,10 +380,11 @@ impl Mbufs {
         self.objects.header(segment.buffer).refs
     }
 
-    /// The bytes of the `k`-th segment.
+    /// The bytes of the `k`-th segment, at most as many as a data room has.
     pub fn segment_bytes(&self, packet: &Packet, k: u32) -> &[u8]
         requires { HasSome self.now.store packet.now (λ p. k < length p) }
-        ensures { Of self.now.store packet.now (λ p. (s : Segment) → slice_get p k ≡ Some s → result.now ≡ segment_bytes self.now.store.buffers s) }
+        ensures value { Of self.now.store packet.now (λ p. (s : Segment) → slice_get p k ≡ Some s → result.now ≡ segment_bytes self.now.store.buffers s) }
+        ensures bound { length result.now ≤ MAX_ROOM }
     {
         let segment = self
             .objects

@@ -1,5 +1,5 @@
 -- A packet of one segment.
-use Rattle.std.proofs.Common.{rules, ◌≡◌, ℕ, ◌+◌, ◌≤◌, List, [], ◌∷◌, length, Some, arith, sym, ap, refl, ◌∙◌, subst, append-nil, length-append}
+use Rattle.std.proofs.Common.{rules, ◌≡◌, ℕ, ◌+◌, ◌≤◌, List, [], ◌∷◌, length, Some, arith, sym, refl, ◌∙◌, subst, append-nil, length-append}
 use Rattle.std.specs.Prelude.{slice_get}
 use Rattle.std.specs.Io.KnownBytes.{Appends}
 use Rattle.std.proofs.lemmas.Result.{on_err_weaker, on_ok_weaker}
@@ -23,15 +23,12 @@ segment_bytes-requires g c =
     (k, has, omega (arith, c.segments.ensures k has, c.if-segments-ne1.false))
 
 pub put_record-requires-clause-len : goal.put_record-requires-clause-len
-put_record-requires-clause-len g c =
-    let (k, has, _) = c.requires.live in
-    let bytes = one_segment _ k _ (omega (arith, c.segments.ensures k has, c.if-segments-ne1.false)) (c.segment_bytes.ensures k has) in
-    omega (arith, ap length bytes, c.length-length.ensures.value k has, c.length-length.ensures.bound)
+put_record-requires-clause-len g c = omega (arith, c.segment_bytes.ensures.bound)
 
 pub returns : goal.returns
 returns g c =
     let same : (k : Packet) → Has c.args.mbufs.now.store c.args.packet k → c.segment_bytes.result.now ≡ packet_bytes c.args.mbufs.now.store.buffers k = λ k has.
-    one_segment _ k _ (omega (arith, c.segments.ensures k has, c.if-segments-ne1.false)) (c.segment_bytes.ensures k has) in
+    one_segment _ k _ (omega (arith, c.segments.ensures k has, c.if-segments-ne1.false)) (c.segment_bytes.ensures.value k has) in
     let written : List ℕ → List ℕ = λ bytes. record_text c.args.unit (record { time = c.args.time; bytes = bytes }) in
     record {
       ok = on_ok_weaker c.put_record.result (λ wrote k has.

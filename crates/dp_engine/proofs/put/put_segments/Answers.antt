@@ -14,7 +14,7 @@ part : (g : _) (c : After-segment_bytes g) (k : Packet) → Has c.args.mbufs.now
     × (slice_get k c.loop-index.index ≡ Some s) × (c.segment_bytes.result.now ≡ segment_bytes c.args.mbufs.now.store.buffers s)
 part g c k has =
     let (s, here) = at_slot k c.loop-index.index (omega (arith, c.segments-index-end.ensures k has)) in
-    (s, here, c.segment_bytes.ensures k has s here)
+    (s, here, c.segment_bytes.ensures.value k has s here)
 
 pub returns-in_err-put_head : goal.returns-in_err-put_head
 returns-in_err-put_head g c = record {

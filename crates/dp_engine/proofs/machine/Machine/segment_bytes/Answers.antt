@@ -19,4 +19,4 @@ pub returns : goal.returns
 returns c k s holds here =
     let there = held _ _ _ _ _ _ _ _ c.args.p c.handle_in-packet.result k c.self.view_is c.self.invariant c.handle_in-packet.ensures holds in
     subst (λ b. c.segment_bytes.result.now ≡ segment_bytes b s) (ap (λ (m : Core). m.state.world.buffers) c.self.view_is)
-    (c.segment_bytes.ensures k there.has s here)
+    (c.segment_bytes.ensures.value k there.has s here)

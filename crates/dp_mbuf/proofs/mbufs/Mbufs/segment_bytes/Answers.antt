@@ -1,5 +1,5 @@
 -- The bytes of a segment stand in its buffer, from its offset on.
-use Rattle.std.proofs.Common.{◌<◌, length, ap, ◌∙◌}
+use Rattle.std.proofs.Common.{◌<◌, length, ap, arith, ◌∙◌}
 use Rattle.dp_model.specs.Packets.{Segment, segment_bytes}
 use Rattle.dp_mbuf.specs.Objects.{buffers_of}
 use Rattle.dp_mbuf.proofs.Live.{same_store}
@@ -30,8 +30,8 @@ bytes_in_segment-requires-clause-fits c =
     (part _ _ c.args.packet.now (same_store c.self.view_is) c.self.invariant c.requires.0 _ c.args.k c.requires.1 c.requires.2
     (walk c.requires.0 (links_of _ _ c.args.packet.now (same_store c.self.view_is) c.self.invariant c.requires.0 c.requires.1) c.requires.2)).fits
 
-pub returns : goal.returns
-returns c = λ k has s is.
+pub returns-clause-value : goal.returns-clause-value
+returns-clause-value c = λ k has s is.
     let walk = rw c.first_number.ensures at c.mbuf_at.ensures in
     let b : c.args.k < length k = some_below k c.args.k s is in
     let q = part _ _ c.args.packet.now (same_store c.self.view_is) c.self.invariant k _ c.args.k has b
@@ -40,3 +40,11 @@ returns c = λ k has s is.
     bytes
     ∙ (ap (λ (t : Segment). segment_bytes (buffers_of c.self.inside.objects) t) (q.segment ∙ nth_is k c.args.k s q.seg q.rest is q.is)
     ∙ ap (λ v. segment_bytes v.buffers s) (same_store c.self.view_is))
+
+pub returns-clause-bound : goal.returns-clause-bound
+returns-clause-bound c =
+    let walk = rw c.first_number.ensures at c.mbuf_at.ensures in
+    let q = part _ _ c.args.packet.now (same_store c.self.view_is) c.self.invariant c.requires.0 _ c.args.k c.requires.1 c.requires.2
+    (walk c.requires.0 (links_of _ _ c.args.packet.now (same_store c.self.view_is) c.self.invariant c.requires.0 c.requires.1) c.requires.2) in
+    let many = rw c.header-segment.ensures at c.bytes_in_segment.ensures.many in
+    omega (arith, many, q.small)
