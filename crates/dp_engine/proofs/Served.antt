@@ -5,26 +5,30 @@ use Rattle.std.specs.Prelude.{slice_get, slice_index_or, option_map, MatchOption
 use Rattle.std.specs.List.{AllByRecursion}
 use Rattle.std.proofs.lemmas.Option.{same_Some, slice_get_within, slice_get-get_or}
 use Rattle.dp_model.specs.declared.env.Entry.TheVariants.{Port, Ring}
+use Rattle.dp_model.specs.declared.env.PoolSpec.{PoolSpec}
 use Rattle.dp_model.specs.declared.env.PortSpec.{PortSpec}
 use Rattle.dp_model.specs.declared.instr.Instr.{Instr}
-use Rattle.dp_model.specs.Environments.{Environment, room_at}
-use Rattle.dp_model.specs.Packets.{Packet, needed, received, Filled, AreFresh}
-use Rattle.dp_model.specs.Machine.{Setting, World, State, live, is_denied}
+use Rattle.dp_model.specs.Environments.{Environment, room_at, pool_fits, fault_of}
+use Rattle.dp_model.specs.Packets.{Packet, first_len, needed, received, Filled, AreFresh}
+use Rattle.dp_model.specs.Machine.{Setting, World, State, Holds, live, is_denied}
 use Rattle.dp_model.specs.Meaning.{RingHolds}
 use Rattle.dp_model.specs.Runs.{first_state, between, Took, Receives, Waiting, behind, first_waiting, Serves, Nodes}
 use Rattle.dp_model.specs.Safety.{IsAtRest, Beginning, IsOfRecord, IsSafeBeginning, IsPipeline, KeepsSafe}
 use Rattle.dp_model.specs.Laws.Lists.{get_within, zip_back}
 use Rattle.dp_model.specs.Laws.Limits.{segs_small}
+use Rattle.dp_model.specs.Laws.Places.{IsInside, inside_held}
 use Rattle.dp_model.specs.Laws.Waiting.{waits}
 use Rattle.dp_model.specs.Laws.Runs.{safe_never_stuck, safe_rests}
 use Rattle.dp_lpm.specs.Routes.{RouteTable}
 use Rattle.dp_engine.specs.declared.run.NodeRun as took
 use Rattle.dp_engine.specs.Handles.{Core, moved}
+use Rattle.dp_engine.specs.Laws.{known}
 use Rattle.dp_engine.specs.Schemes.{Scheme}
 use Rattle.dp_engine.specs.Serving.{ServesOne, Rests}
-use Rattle.dp_engine.specs.Steps.{setting_of, routes_of, CanRun, Runs}
+use Rattle.dp_engine.specs.Steps.{setting_of, routes_of, KeepsFirstsShort, CanRun, Runs}
 use Rattle.dp_engine.specs.Tallies.{held_count, listed_count, packet_count}
 use Rattle.dp_engine.specs.Turns.{IsReceived}
+use Rattle.dp_engine.proofs.Refusals.{within}
 
 -- ---- a setting by its parts
 
@@ -34,10 +38,35 @@ setting_is c env tables pattern is_env is_tables is_pattern = rw (is_env, is_tab
 
 -- ---- a node run
 
+-- no data room of an environment is larger than one may be
+small_room : (pools : List PoolSpec) (k : ℕ) → AllByRecursion (λ s. pool_fits s ≡ true) pools → room_at pools k ≤ 4096
+small_room [] k fit = omega arith
+small_room (s ∷ pools) zero fit = (within s fit.0).room
+small_room (s ∷ pools) (suc k) fit = small_room pools k fit.1
+
+-- nor is a segment that lies within one
+short_first : (c : Setting) (s : State) → fault_of c.env ≡ None → IsInside c s → (p : ℕ) (k : Packet) → Holds s p k → first_len k ≤ 4096
+short_first c s limits inside p [] holds = omega arith
+short_first c s limits inside p (t ∷ k) holds =
+    let fits = (inside_held c s p (t ∷ k) inside holds).0.fits in
+    omega (arith, fits, small_room c.env.pools t.buffer.pool (known c.env limits).pools_fit)
+
+-- so it is wherever a safe one comes
+firsts_short : (c : Setting) (b : Beginning) → fault_of c.env ≡ None → IsSafeBeginning c b
+    → KeepsFirstsShort c b.program (first_state b.packet b.number b.world)
+firsts_short c b limits safe = subst (λ p. KeepsFirstsShort c p (first_state b.packet b.number b.world)) safe.program_is
+    (λ n label answers s goes. short_first c s limits (safe.safe.stays n label answers s goes).well_formed.within)
+
 -- a safe one
-can_run : (c : Setting) (nodes : Nodes) (b : Beginning) → KeepsSafe c nodes → IsSafeBeginning c b
+can_run : (c : Setting) (nodes : Nodes) (b : Beginning) → KeepsSafe c nodes → fault_of c.env ≡ None → IsSafeBeginning c b
     → CanRun c b.program (first_state b.packet b.number b.world)
-can_run c nodes b keeps safe = record { first = refl; eight = refl; never_stuck = safe_never_stuck c b safe; leads = keeps.leads b safe }
+can_run c nodes b keeps limits safe = record {
+  first = refl;
+  eight = refl;
+  never_stuck = safe_never_stuck c b safe;
+  leads = keeps.leads b safe;
+  firsts = firsts_short c b limits safe;
+}
 
 -- ---- a record
 
@@ -83,10 +112,10 @@ pub record Received (c : Setting) (program : List Instr) (port : ℕ) (spec : Po
   pub receives : (s' : State) → Runs c program s s' → (answers : List Bool) × Receives c program port spec bytes w answers s'.world
 
 pub received_is : (c : Setting) (nodes : Nodes) (program : List Instr) (port : ℕ) (spec : PortSpec) (bytes : List ℕ) (w : World) (s : State)
-    → KeepsSafe c nodes → slice_get c.env.ports port ≡ Some spec → slice_get nodes.ports port ≡ Some program → IsAtRest c w
+    → KeepsSafe c nodes → fault_of c.env ≡ None → slice_get c.env.ports port ≡ Some spec → slice_get nodes.ports port ≡ Some program → IsAtRest c w
     → needed c.env.pools spec.pool (length bytes) ≤ spec.segs → is_denied c (between w) spec.pool (needed c.env.pools spec.pool (length bytes)) ≡ false
     → IsReceived c spec.pool port bytes w s → Received c program port spec bytes w s
-received_is c nodes program port spec bytes w s keeps is_spec is_program rest fits given r =
+received_is c nodes program port spec bytes w s keeps limits is_spec is_program rest fits given r =
     let k : Packet = received (room_at c.env.pools spec.pool) r.numbers (length bytes) in
     let b : Beginning = record {
       entry = Port port;
@@ -109,7 +138,7 @@ received_is c nodes program port spec bytes w s keeps is_spec is_program rest fi
       is = refl;
     } in
     subst (Received c program port spec bytes w) (sym r.state) (record {
-      can_run = can_run c nodes b keeps (keeps.turn_runs port bytes w b rest (inl of_record));
+      can_run = can_run c nodes b keeps limits (keeps.turn_runs port bytes w b rest (inl of_record));
       receives = λ s' (n, answers, goes). (
         true ∷ answers,
         record {
@@ -163,14 +192,14 @@ next_is c nodes m m' ring rest = go (first_waiting m.state.world.rings) refl
         record { next = next; waits = e; ring_is = ring_is; taken = is; there = omega (arith, ring_is, within next e) }
 
 -- its node can run on it
-pub next_runs : (c : Setting) (nodes : Nodes) (program : List Instr) (m m' : Core) (ring : ℕ) → KeepsSafe c nodes → slice_get nodes.rings ring ≡ Some program
-    → IsAtRest c m.state.world → Next c nodes m m' ring → CanRun c program m'.state
-next_runs c nodes program m m' ring keeps is_program rest n =
+pub next_runs : (c : Setting) (nodes : Nodes) (program : List Instr) (m m' : Core) (ring : ℕ) → KeepsSafe c nodes → fault_of c.env ≡ None
+    → slice_get nodes.rings ring ≡ Some program → IsAtRest c m.state.world → Next c nodes m m' ring → CanRun c program m'.state
+next_runs c nodes program m m' ring keeps limits is_program rest n =
     let here : slice_get nodes.rings n.next.ring ≡ Some program = ap (slice_get nodes.rings) n.ring_is ∙ is_program in
     let w : World = record m.state.world { rings = n.next.rings } in
     let b : Beginning = record { entry = Ring n.next.ring; program = program; packet = n.next.packet; number = n.next.ring; world = w } in
     subst (λ (x : Core). CanRun c program x.state) (sym n.taken)
-    (can_run c nodes b keeps (keeps.waiting n.next program m.state.world rest n.waits here))
+    (can_run c nodes b keeps limits (keeps.waiting n.next program m.state.world rest n.waits here))
 
 -- and that is a node run
 pub next_serves : (s : Scheme) (program : List Instr) (m m' m2 : Core) (ring : ℕ) (run : took.NodeRun) → slice_get s.nodes.rings ring ≡ Some program

@@ -226,14 +226,12 @@ impl Machine {
         }
     }
 
-    // The offset in a packet's first segment that a register's number and a constant make.
+    // The offset that a register's number and a constant make.
     #[inline(always)]
-    pub(crate) fn offset_in(&self, p: PacketRegister, index: NumberRegister, offset: u16) -> u64
-        requires { (k : Packet) × Holds self.now.state p k × (slice_index self.now.state.numbers index + offset ≤ first_len k) }
+    pub(crate) fn offset_at(&self, index: NumberRegister, offset: u16) -> u64
+        requires { slice_index self.now.state.numbers index + offset < 2 ^ 64 }
         ensures { result ≡ slice_index self.now.state.numbers index + offset }
     {
-        // It is no greater than the segment's length, which fits.
-        let _len = self.first_len(p);
         self.number(index) + offset as u64
     }
 

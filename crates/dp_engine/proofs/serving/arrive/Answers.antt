@@ -46,7 +46,8 @@ came g c at fits =
     let got = received_with p.setting (setting_of c.env-env.result.now [] c.pattern.result.now) spec.pool c.args.port bytes w s c.env-env.ensures.same
     (c.if-not-receive.ensures.received refl) in
     let denied = rw (c.env-env.ensures.same, c.pattern.ensures) at c.if-not-receive.ensures.denied in
-    received_is p.setting p.nodes c.port_program-program.result.now c.args.port spec bytes w s c.env-env.ensures.safe at.spec_is
+    received_is p.setting p.nodes c.port_program-program.result.now c.args.port spec bytes w s c.env-env.ensures.safe c.env-env.ensures.pipeline.limits
+    at.spec_is
     c.port_program-program.ensures.same c.requires.rests.rest fits (sym denied) got
 
 -- what its run made

@@ -36,7 +36,8 @@ run-requires-clause-sound g c =
     let program = c.ring_program-program.result.now in
     let setting = setting_is p.setting c.env.result.now c.tables.result.now c.pattern.result.now c.env.ensures.same c.tables.ensures c.pattern.ensures in
     subst (λ (x : Setting). CanRun x program m1.state) (sym setting)
-    (next_runs p.setting p.nodes program c.args.m.now m1 c.in_ok-ring.ring c.env.ensures.safe c.ring_program-program.ensures.same c.requires.rests.rest
+    (next_runs p.setting p.nodes program c.args.m.now m1 c.in_ok-ring.ring c.env.ensures.safe c.env.ensures.pipeline.limits c.ring_program-program.ensures.same
+    c.requires.rests.rest
     (next g (goal.at.run-requires-clause-sound g c).After-begin))
 
 pub returns-clause-serves : goal.returns-clause-serves
