@@ -32,8 +32,3 @@ pub use pipeline::Pipeline;
 pub use running::{RunFault, run};
 pub use surveying::{Survey, survey_of};
 pub use tracing::{Traced, Tracer, trace};
-
-#[cfg(test)]
-mod node_tests;
-#[cfg(test)]
-mod tests;

@@ -77,8 +77,8 @@ impl Pipeline {
         self.region
     }
 
-    /// Its tables of routes.
-    pub(crate) fn tables(&self) -> &[Lpm]
+    /// Its tables, each with its routes: as many as its environment has.
+    pub fn tables(&self) -> &[Lpm]
         ensures same { result.now ≡ self.now.tables }
         ensures plan { IsPlan self.now }
     {

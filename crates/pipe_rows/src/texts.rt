@@ -1,13 +1,11 @@
 //! Pipeline files: the causes for which they are refused, and what is read of the others.
-use crate::config::{Config, configure};
-use crate::error::{Part, PipeError, RouteError};
-use crate::routes::route_in;
-use dp_lpm::LpmError;
-use dp_model::{EnvError, Fact};
-use std::alloc::AllocError;
-use std::test::*;
 
-const POOL: &str = "[[pool]]\ncount = 4\ncache = 0\nroom = 2176\n";
+use crate::given::{FORWARD, POOL, file, loaded};
+use dp_lpm::LpmError;
+use dp_model::{Entry, EnvError, Fact};
+use dp_pipe::{How, Part, PipeError, RouteError, survey_of};
+use std::alloc::AllocError;
+use std::test::Fail;
 
 const TABLE: &str =
     "[[table]]\nrules = 4\ngroups = 1\nroutes = [\"10.0.0.0/8 1\", \"10.1.2.128/25 2\"]\n";
@@ -19,11 +17,8 @@ const PORT: &str =
     "[[port]]\npool = 0\nsegs = 1\nqueue = 4\nnode = \"n\"\ncert = \"c\"\nin = \"a\"\nout = \"b\"\n";
 
 /// Why a text is refused, and nothing where it is not.
-fn refusal(rt: &HostRuntime, text: &str) -> Option<PipeError> {
-    match configure(rt.alloc(), text.as_bytes()) {
-        Ok(_) => None,
-        Err(error) => Some(error),
-    }
+fn refusal(rt: &HostRuntime, text: &[u8]) -> Option<PipeError> {
+    survey_of(rt.alloc(), text).err()
 }
 
 /// A whole file of these parts, with a word changed where it first stands.
@@ -40,39 +35,48 @@ fn bad(part: Part, index: usize) -> Option<PipeError> {
     Some(PipeError::BadKey { part, index })
 }
 
+/// Two ports that receive into the same pool, each with its node and its captures.
+const TWO_PORTS: &str =
+    "region = 10368\n[[pool]]\ncount = 4\ncache = 0\nroom = 2176\n[[pool]]\ncount = 4\ncache = 0\nroom = 0\n\
+    [[port]]\npool = 0\nsegs = 1\nqueue = 4\nnode = \"multicast.dpv\"\nin = \"a.pcap\"\nout = \"a.out\"\n\
+    [[port]]\npool = 0\nsegs = 1\nqueue = 4\nnode = \"forward.dpv\"\nin = \"b.pcap\"\nout = \"b.out\"\n";
+
 #[test]
 fn two_ports_are_read(rt: HostRuntime) -> Result<(), Fail> {
-    let text =
-        "region = 10368\n[[pool]]\ncount = 4\ncache = 0\nroom = 2176\n[[pool]]\ncount = 4\ncache = 0\nroom = 0\n\
-        [[port]]\npool = 0\nsegs = 1\nqueue = 4\nnode = \"multicast.dpv\"\nin = \"a.pcap\"\nout = \"a.out\"\n\
-        [[port]]\npool = 0\nsegs = 1\nqueue = 4\nnode = \"forward.dpv\"\nin = \"b.pcap\"\nout = \"b.out\"\n";
-    let config = configure(rt.alloc(), text.as_bytes()).ok().ok_or("m.toml")?;
-    assert_eq!(rt; config.region, 10_368);
-    assert_eq!(rt; config.env.pools().len(), 2);
-    assert_eq!(rt; config.env.ports().len(), 2);
-    assert_eq!(rt; config.env.tables(), 0);
-    assert_eq!(rt; config.tables.len(), 0);
-    assert_eq!(rt; config.rings.len(), 0);
-    assert_eq!(rt; config.ports.len(), 2);
-    let second = &config.ports[1];
-    assert_eq!(rt; second.files.node.as_str(), "forward.dpv");
-    assert!(rt; second.files.cert.is_none());
-    assert_eq!(rt; second.input.as_str(), "b.pcap");
-    assert_eq!(rt; second.output.as_str(), "b.out");
+    let files = [file("multicast.dpv", FORWARD), file("forward.dpv", FORWARD)];
+    let pipeline = loaded(&rt, TWO_PORTS, &files, How::Given)
+        .ok()
+        .ok_or("m.toml")?;
+    assert_eq!(rt; pipeline.region(), 10_368);
+    assert_eq!(rt; pipeline.env().pools().len(), 2);
+    assert_eq!(rt; pipeline.env().ports().len(), 2);
+    assert_eq!(rt; pipeline.env().tables(), 0);
+    assert_eq!(rt; pipeline.tables().len(), 0);
+    assert_eq!(rt; pipeline.rings(), 0);
+    assert_eq!(rt; pipeline.ports(), 2);
+    assert_eq!(rt; pipeline.input(1), "b.pcap");
+    assert_eq!(rt; pipeline.output(1), "b.out");
+    let survey = survey_of(rt.alloc(), TWO_PORTS.as_bytes())
+        .ok()
+        .ok_or("m.toml")?;
+    assert_eq!(rt; survey.program(Entry::Port(1)), Some("forward.dpv"));
+    assert!(rt; survey.cert(Entry::Port(1)).is_none());
     Ok(())
 }
 
 #[test]
 fn every_part_is_read(rt: HostRuntime) -> Result<(), Fail> {
     let text = changed(&rt, "region", "region")?;
-    let config = configure(rt.alloc(), text.as_bytes())
+    let files = [file("n", FORWARD), file("r", FORWARD)];
+    let pipeline = loaded(&rt, text.as_str(), &files, How::Inferred)
         .ok()
         .ok_or("every part")?;
-    assert_eq!(rt; config.tables.len(), 1);
-    assert_eq!(rt; config.tables[0].len(), 2);
-    assert_eq!(rt; config.tables[0].lookup(0x0a01_02c8), Some(2));
-    assert_eq!(rt; config.tables[0].lookup(0x0a01_0264), Some(1));
-    assert_eq!(rt; config.tables[0].lookup(0x0b00_0001), None);
+    let tables = pipeline.tables();
+    assert_eq!(rt; tables.len(), 1);
+    assert_eq!(rt; tables[0].len(), 2);
+    assert_eq!(rt; tables[0].lookup(0x0a01_02c8), Some(2));
+    assert_eq!(rt; tables[0].lookup(0x0a01_0264), Some(1));
+    assert_eq!(rt; tables[0].lookup(0x0b00_0001), None);
     let held = Fact::Held {
         share: 1,
         head: 2,
@@ -81,29 +85,24 @@ fn every_part_is_read(rt: HostRuntime) -> Result<(), Fail> {
         last: 5,
         segs: 6,
     };
-    assert_eq!(rt; config.env.fact_of_ring(0), Some(held));
-    assert_eq!(rt; config.rings.len(), 1);
-    assert_eq!(rt; config.rings[0].node.as_str(), "r");
-    assert_eq!(rt; config.ports.len(), 1);
-    let files = &config.ports[0].files;
-    assert_eq!(rt; files.node.as_str(), "n");
-    assert_eq!(rt; files.cert.as_ref().map_or("", |name| name.as_str()), "c");
+    assert_eq!(rt; pipeline.env().fact_of_ring(0), Some(held));
+    assert_eq!(rt; pipeline.rings(), 1);
+    assert_eq!(rt; pipeline.ports(), 1);
+    let survey = survey_of(rt.alloc(), text.as_bytes())
+        .ok()
+        .ok_or("every part")?;
+    assert_eq!(rt; survey.program(Entry::Ring(0)), Some("r"));
+    assert_eq!(rt; survey.program(Entry::Port(0)), Some("n"));
+    assert_eq!(rt; survey.cert(Entry::Port(0)), Some("c"));
     Ok(())
 }
 
 #[test]
 fn other_texts_are_no_toml(rt: HostRuntime) {
-    assert_eq!(rt; refusal(&rt, "region = "), Some(PipeError::NotToml));
-    assert_eq!(rt;
-        refusal(&rt, "region = 99999999999999999999"),
-        Some(PipeError::NotToml)
-    );
-    let bytes = b"# \xff";
-    let found = match configure(rt.alloc(), bytes) {
-        Ok(_) => None,
-        Err(error) => Some(error),
-    };
-    assert_eq!(rt; found, Some(PipeError::NotToml));
+    let texts: [&[u8]; 3] = [b"region = ", b"region = 99999999999999999999", b"# \xff"];
+    for text in texts {
+        assert_eq!(rt; refusal(&rt, text), Some(PipeError::NotToml));
+    }
 }
 
 #[test]
@@ -136,7 +135,7 @@ fn bad_keys_are_found(rt: HostRuntime) -> Result<(), Fail> {
     ];
     for (old, new, part) in cases {
         let text = changed(&rt, old, new)?;
-        assert_eq!(rt; refusal(&rt, text.as_str()), bad(part, 0), "at {new}");
+        assert_eq!(rt; refusal(&rt, text.as_bytes()), bad(part, 0), "at {new}");
     }
     Ok(())
 }
@@ -144,32 +143,41 @@ fn bad_keys_are_found(rt: HostRuntime) -> Result<(), Fail> {
 #[test]
 fn the_first_bad_key_counts(rt: HostRuntime) -> Result<(), Fail> {
     let text = changed(&rt, "count", "counts")?;
-    assert_eq!(rt; refusal(&rt, text.as_str()), bad(Part::Pool, 0));
+    assert_eq!(rt; refusal(&rt, text.as_bytes()), bad(Part::Pool, 0));
     let text = changed(&rt, "node", "nodes")?;
-    assert_eq!(rt; refusal(&rt, text.as_str()), bad(Part::Ring, 0));
+    assert_eq!(rt; refusal(&rt, text.as_bytes()), bad(Part::Ring, 0));
     let alloc = rt.alloc();
     let text = format!(in alloc; "region = 4096\n{POOL}{POOL}[[pool]]\n{PORT}")?;
-    assert_eq!(rt; refusal(&rt, text.as_str()), bad(Part::Pool, 2));
+    assert_eq!(rt; refusal(&rt, text.as_bytes()), bad(Part::Pool, 2));
     let text = format!(in alloc; "region = 4096\npool = [1]\n")?;
-    assert_eq!(rt; refusal(&rt, text.as_str()), bad(Part::Top, 0));
+    assert_eq!(rt; refusal(&rt, text.as_bytes()), bad(Part::Top, 0));
     Ok(())
 }
 
 #[test]
 fn environments_are_refused(rt: HostRuntime) -> Result<(), Fail> {
     let number = Some(PipeError::BadEnv(EnvError::BadNumber));
-    assert_eq!(rt; refusal(&rt, "region = 4096\npool = []\n"), number);
+    assert_eq!(rt; refusal(&rt, b"region = 4096\npool = []\n"), number);
     let text = changed(&rt, "segs = 6", "segs = 65")?;
     assert_eq!(rt;
-        refusal(&rt, text.as_str()),
+        refusal(&rt, text.as_bytes()),
         Some(PipeError::BadEnv(EnvError::BadRing(0)))
     );
     let text = changed(&rt, "queue = 4", "queue = 3")?;
     assert_eq!(rt;
-        refusal(&rt, text.as_str()),
+        refusal(&rt, text.as_bytes()),
         Some(PipeError::BadEnv(EnvError::BadPort(0)))
     );
     Ok(())
+}
+
+/// The second route of the table is not taken in.
+fn bad_route(cause: RouteError) -> Option<PipeError> {
+    Some(PipeError::BadTable {
+        table: 0,
+        route: 1,
+        cause,
+    })
 }
 
 #[test]
@@ -189,23 +197,15 @@ fn routes_are_refused(rt: HostRuntime) -> Result<(), Fail> {
         "10.1.2.3/8 +1",
         "10..2.3/8 1",
         "10.1.2.3/ 1",
+        "10.1.2.128/25",
     ];
     for route in unreadable {
-        assert!(rt; route_in(route.as_bytes()).is_none(), "at {route}");
+        let text = changed(&rt, "10.1.2.128/25 2", route)?;
+        let fault = bad_route(RouteError::Unreadable);
+        assert_eq!(rt; refusal(&rt, text.as_bytes()), fault, "at {route}");
     }
-    let text = changed(&rt, "10.1.2.128/25 2", "10.1.2.128/25")?;
-    let fault = PipeError::BadTable {
-        table: 0,
-        route: 1,
-        cause: RouteError::Unreadable,
-    };
-    assert_eq!(rt; refusal(&rt, text.as_str()), Some(fault));
     let text = changed(&rt, "10.1.2.128/25 2", "10.1.2.128/99 2")?;
-    let fault = PipeError::BadTable {
-        table: 0,
-        route: 1,
-        cause: RouteError::Refused(LpmError::BadDepth),
-    };
-    assert_eq!(rt; refusal(&rt, text.as_str()), Some(fault));
+    let fault = bad_route(RouteError::Refused(LpmError::BadDepth));
+    assert_eq!(rt; refusal(&rt, text.as_bytes()), fault);
     Ok(())
 }
