@@ -6,11 +6,8 @@ use Rattle.std.specs.Prelude.{slice_get}
 use Rattle.dp_model.specs.declared.env.Entry.{Entry}
 use Rattle.dp_model.specs.declared.env.Entry.TheVariants.{Port, Ring}
 use Rattle.dp_model.specs.Environments.{Environment}
-use Rattle.dp_model.specs.Prefixes.{Route}
 use Rattle.dp_model.specs.Rules.{Question}
-use Rattle.std.specs.List.{AllByRecursion}
 use Rattle.std.proofs.lemmas.Bool.{cases_lt}
-use Rattle.dp_lpm.specs.Routes.{RouteTable}
 use Rattle.dp_check.specs.Faults.{IsChecked}
 use Rattle.dp_engine.specs.Laws.{plan_of}
 use Rattle.dp_pipe.proofs.PacketRuns.{IsReady, AreLaws}
@@ -99,11 +96,8 @@ all_checked env nodes h k q at = go (cases_lt k (length env.ports))
     go (inl less) = (h.ports k q less at).checked
     go (inr most) = (h.rings (k - length env.ports) q (ap (slice_get nodes) (omega (arith, most)) ∙ at)).checked
 
--- as its tables are shown
-pub is_ready : (p : Plan) (pattern : List ℕ) (tables : List RouteTable) → tables ≡ p.tables → IsPlan p
-    → ((k : ℕ) (t : RouteTable) → slice_get tables k ≡ Some t → AllByRecursion (λ (route : Route). route.hop ≤ 16777215) t.routes) → AreLaws → IsReady p pattern
-is_ready p pattern tables tables_are plan hops laws =
-    let engine = plan_of p.env p.tables p.nodes pattern plan.limits (are_nodes p.env p.nodes plan.nodes) plan.tables (all_checked p.env p.nodes plan.nodes)
-    (subst (λ (l : List RouteTable). (k : ℕ) (t : RouteTable) → slice_get l k ≡ Some t →
-    AllByRecursion (λ (route : Route). route.hop ≤ 16777215) t.routes) tables_are hops) in
+pub is_ready : (p : Plan) (pattern : List ℕ) → IsPlan p → AreLaws → IsReady p pattern
+is_ready p pattern plan laws =
+    let engine =
+    plan_of p.env p.tables p.nodes pattern plan.limits (are_nodes p.env p.nodes plan.nodes) plan.tables (all_checked p.env p.nodes plan.nodes) plan.hops in
     record { limits = plan.limits; pipeline = engine.pipeline; tables = engine.tables_fit; laws = laws }

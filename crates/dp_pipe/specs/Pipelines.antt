@@ -1,10 +1,13 @@
 -- What a pipeline is.
-use Rattle.std.specs.Prelude.{◌≡◌, ℕ, ◌+◌, ◌<◌, List, length, map, Some, None, slice_get, string_bytes}
+use Rattle.std.specs.Prelude.{◌≡◌, ℕ, ◌+◌, ◌<◌, ◌≤◌, List, length, map, Some, None, slice_get, string_bytes}
+use Rattle.std.specs.List.{AllByRecursion}
 use Rattle.dp_model.specs.declared.env.Entry.{Entry}
 use Rattle.dp_model.specs.declared.env.Entry.TheVariants.{Port, Ring}
 use Rattle.dp_model.specs.Environments.{Environment, fault_of}
+use Rattle.dp_model.specs.Prefixes.{Route}
 use Rattle.dp_model.specs.Rules.{Question}
 use Rattle.dp_region.specs.Region.{IsRegionSize}
+use Rattle.dp_lpm.specs.declared.limits.TheConstants.{MAX_HOP}
 use Rattle.dp_lpm.specs.Routes.{RouteTable}
 use Rattle.dp_check.specs.Faults.{IsChecked}
 use Rattle.dp_pipe.specs.declared.file_names.PortNames.{PortNames}
@@ -31,12 +34,17 @@ pub record HasNodes (env : Environment) (nodes : List Question) : Type 0 where
   pub ports : (port : ℕ) (q : Question) → port < length env.ports → slice_get nodes port ≡ Some q → IsFor env (Port port) q
   pub rings : (ring : ℕ) (q : Question) → slice_get nodes (length env.ports + ring) ≡ Some q → IsFor env (Ring ring) q
 
--- the environment is within the limits, and the parts of a pipeline fit together
+-- no hop of the table is above the greatest
+abbrev pub HasSmallHops : RouteTable → Type 0
+HasSmallHops t = AllByRecursion (λ (route : Route). route.hop ≤ MAX_HOP) t.routes
+
+-- the environment and the hops of the tables are within the limits, and the parts of a pipeline fit together
 pub record IsPlan (p : Plan) : Type 0 where
   pub limits : fault_of p.env ≡ None
   pub region : IsRegionSize p.region
   pub nodes : HasNodes p.env p.nodes
   pub tables : length p.tables ≡ p.env.tables
+  pub hops : (k : ℕ) (t : RouteTable) → slice_get p.tables k ≡ Some t → HasSmallHops t
   pub inputs : length p.inputs ≡ length p.env.ports
   pub outputs : length p.outputs ≡ length p.env.ports
 

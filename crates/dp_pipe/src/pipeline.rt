@@ -4,7 +4,8 @@ ghost use Rattle.std.specs.Prelude.{◌≡◌, ℕ, ◌+◌, ◌<◌, length, So
 ghost use Rattle.dp_model.specs.declared.env.Entry.TheVariants.{Port, Ring};
 ghost use Rattle.dp_model.specs.Environments.{fault_of};
 ghost use Rattle.dp_region.specs.Region.{IsRegionSize};
-ghost use Rattle.dp_pipe.specs.Pipelines.{HasNodes, IsFor, IsPlan, plan_of};
+ghost use Rattle.dp_lpm.specs.Routes.{RouteTable};
+ghost use Rattle.dp_pipe.specs.Pipelines.{HasNodes, HasSmallHops, IsFor, IsPlan, plan_of};
 
 use crate::file_names::PortNames;
 use dp_check::Checked;
@@ -34,7 +35,7 @@ impl Model for Pipeline {
 }
 
 impl Pipeline {
-    /// The pipeline of these parts: as many tables as the environment has, a node for each port and then for each ring, each
+    /// The pipeline of these parts: as many tables as the environment has, with no hop above `MAX_HOP`, a node for each port and then for each ring, each
     /// checked with the environment and its entry, and the names of each port's captures.
     pub(crate) fn new(
         region: u32,
@@ -47,6 +48,7 @@ impl Pipeline {
         requires region { IsRegionSize region }
         requires nodes { HasNodes env nodes.items }
         requires tables { length tables.items ≡ env.tables }
+        requires hops { (k : ℕ) (t : RouteTable) → slice_get tables.items k ≡ Some t → HasSmallHops t }
         requires ports { length ports.items ≡ length env.ports }
         ensures { result ≡ plan_of env region tables.items nodes.items ports.items }
     {

@@ -1,6 +1,6 @@
 //! The run of a pipeline, from captures to captures.
 
-ghost use Rattle.std.specs.Prelude.{◌≡◌, ℕ, ◌+◌, ◌<◌, ◌≤◌, ◌++◌, ◌∷◌, ◌⊎◌, ◌↔◌, [], Err, false, length, map, replicate, slice_get, Some, OnOk, OnErr, IfOk};
+ghost use Rattle.std.specs.Prelude.{◌≡◌, ◌+◌, ◌<◌, ◌≤◌, ◌++◌, ◌∷◌, ◌⊎◌, ◌↔◌, [], Err, false, length, map, replicate, OnOk, OnErr, IfOk};
 ghost use Rattle.std.specs.Prelude.{IfErr, IsOk, IsTrue, vec_len};
 ghost use Rattle.std.specs.List.{AllByRecursion, list_any};
 ghost use Rattle.std.specs.Vec.{vec_capacity};
@@ -11,11 +11,9 @@ ghost use Rattle.dp_engine.specs.Reports.{port_report, IsWhole};
 ghost use Rattle.dp_pipe.specs.Devices.{AllSound, AllFared, failed_reader, failed_writer};
 ghost use Rattle.dp_pipe.specs.Forwarding as forwarding;
 ghost use Rattle.dp_pipe.specs.Forwarding.{AllStand, units_of};
-ghost use Rattle.dp_lpm.specs.Routes.{RouteTable};
-ghost use Rattle.dp_lpm.specs.declared.limits.TheConstants.{MAX_HOP};
 ghost use Rattle.dp_model.specs.Environments.{Environment};
-ghost use Rattle.dp_model.specs.Prefixes.{Route};
 ghost use Rattle.dp_pipe.specs.Headline.{Forwarded, StoppedBy};
+ghost use Rattle.dp_pipe.specs.Pipelines.{IsPlan};
 ghost use Rattle.dp_pipe.specs.Running as spec;
 
 use crate::forwarding::{Progress, RunCause, rounds};
@@ -24,7 +22,6 @@ use crate::pipeline::Pipeline;
 use arrayvec::ArrayVec;
 use dp_copies::clones_are_copies;
 use dp_engine::{Engine, InputState, PoolReport, PortReport, Report};
-use dp_lpm::Lpm;
 use dp_model::{Env, PoolSpec, PortSpec, RingSpec, runs_keep_safe};
 use dp_pcap::{Feed, LARGEST_RECORD, Sink, Time, Unit, put_header, read_header};
 use std::alloc::Global;
@@ -288,6 +285,7 @@ fn answer<R: Feed, W: Sink>(
     ensures sound { IsOk result → AllSound R.is_broken ins.new × AllSound W.is_broken outs.new }
     ensures fared_readers { AllFared R.is_broken R.failures (failed_reader (spec.answer_of result)) ins.old ins.new }
     ensures fared_writers { AllFared W.is_broken W.failures (failed_writer (spec.answer_of result)) outs.old outs.new }
+    ensures plan { IsPlan pipeline }
 {
     let idle = idle_report(pipeline.env());
     match opened(alloc, pipeline, pattern) {
@@ -298,15 +296,6 @@ fn answer<R: Feed, W: Sink>(
             cause,
             report: idle,
         }),
-    }
-}
-
-// What every table is known to keep: no hop is above `MAX_HOP`.
-fn hops_are_small(tables: &[Lpm])
-    ensures { (k : ℕ) (t : RouteTable) → slice_get tables.now k ≡ Some t → AllByRecursion (λ (route : Route). route.hop ≤ MAX_HOP) t.routes }
-{
-    for table in tables {
-        let _rules = table.len();
     }
 }
 
@@ -355,7 +344,6 @@ pub fn run<R: Feed, W: Sink>(
     ensures fared_readers { AllFared R.is_broken R.failures (failed_reader (spec.answer_of result)) ins.old ins.new }
     ensures fared_writers { AllFared W.is_broken W.failures (failed_writer (spec.answer_of result)) outs.old outs.new }
 {
-    hops_are_small(pipeline.tables());
     // The laws of such runs.
     runs_keep_safe::<Time>();
     clones_are_copies::<Time>();

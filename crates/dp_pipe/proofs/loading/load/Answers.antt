@@ -3,6 +3,7 @@ use Rattle.std.proofs.Common.{◌≡◌, ◌≤◌, length, sym, subst, arith}
 use Rattle.std.proofs.lemmas.Result.{err_from_is_err_and}
 use Rattle.dp_pipe.specs.Pipelines.{Plan}
 use Rattle.dp_pipe.specs.Loads.{IsLoadedFrom}
+use Rattle.dp_pipe.proofs.Hops.{small_hops}
 use Rattle.dp_pipe.proofs.Loaded.{few, limits_of, ports_of, rings_of, tables_of, fit_nodes, loaded_from, bad_node}
 use Rattle.dp_region.specs.Region.{IsRegionSize}
 use Rattle.dp_pipe.proofs.Regions.{setup_region}
@@ -38,6 +39,10 @@ new-requires-clause-nodes g c =
 
 pub new-requires-clause-tables : goal.new-requires-clause-tables
 new-requires-clause-tables g c = tables_of c.in_ok-config.ensures.ok.setup c.in_ok-config.config c.in_ok-config.ensures.ok.config
+
+pub new-requires-clause-hops : goal.new-requires-clause-hops
+new-requires-clause-hops g c =
+    small_hops c.in_ok-config.ensures.ok.setup.tables c.in_ok-config.config.tables.items c.in_ok-config.ensures.ok.config.tables
 
 pub new-requires-clause-ports : goal.new-requires-clause-ports
 new-requires-clause-ports g c = ports_of c.in_ok-config.ensures.ok.setup c.in_ok-config.config c.in_ok-config.ensures.ok.config

@@ -10,7 +10,7 @@ use Rattle.dp_pipe.proofs.running.run.Goals.{After-answer}
 
 ready : (g : _) (c : After-answer g) → IsReady c.args.pipeline c.args.pattern.items
 ready g c =
-    is_ready c.args.pipeline c.args.pattern.items _ c.tables.ensures.same c.tables.ensures.plan c.hops_are_small.ensures
+    is_ready c.args.pipeline c.args.pattern.items c.answer.ensures.plan
     (record { safe = c.runs_keep_safe.ensures; copies = c.clones_are_copies.ensures })
 
 pub returns-clause-forwarded : goal.returns-clause-forwarded
