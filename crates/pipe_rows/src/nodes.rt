@@ -94,15 +94,22 @@ fn fault(
     Ok(with_nodes(rt, how, port, ring)?.err())
 }
 
+/// How many instructions a node's program has, and what it is checked for.
+fn node(pipeline: &Pipeline, k: usize) -> Option<(usize, Entry)> {
+    if k >= pipeline.nodes() {
+        return None;
+    }
+    let checked = pipeline.node(k);
+    Some((checked.program().instrs().len(), checked.entry()))
+}
+
 #[test]
 fn nodes_are_loaded_with_certificates_given_and_inferred(rt: HostRuntime) -> Result<(), Fail> {
     match with_nodes(&rt, How::Given, ("strip", "strip.cert"), ("forward", ""))? {
         Ok(pipeline) => {
             assert_eq!(&rt; pipeline.nodes(), 2);
-            assert_eq!(&rt; pipeline.node(0).program().instrs().len(), 6);
-            assert_eq!(&rt; pipeline.node(1).program().instrs().len(), 4);
-            assert_eq!(&rt; pipeline.node(0).entry(), Entry::Port(0));
-            assert_eq!(&rt; pipeline.node(1).entry(), Entry::Ring(0));
+            assert_eq!(&rt; node(&pipeline, 0), Some((6, Entry::Port(0))));
+            assert_eq!(&rt; node(&pipeline, 1), Some((4, Entry::Ring(0))));
         }
         Err(error) => assert_eq!(&rt; Some(error), None),
     }

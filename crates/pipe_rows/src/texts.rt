@@ -2,8 +2,8 @@
 
 use crate::given::{FORWARD, POOL, file, loaded};
 use dp_lpm::LpmError;
-use dp_model::{Entry, EnvError, Fact};
-use dp_pipe::{How, Part, PipeError, RouteError, survey_of};
+use dp_model::{Entry, Env, EnvError, Fact};
+use dp_pipe::{How, Part, PipeError, Pipeline, RouteError, survey_of};
 use std::alloc::AllocError;
 use std::test::Fail;
 
@@ -41,6 +41,39 @@ const TWO_PORTS: &str =
     [[port]]\npool = 0\nsegs = 1\nqueue = 4\nnode = \"multicast.dpv\"\nin = \"a.pcap\"\nout = \"a.out\"\n\
     [[port]]\npool = 0\nsegs = 1\nqueue = 4\nnode = \"forward.dpv\"\nin = \"b.pcap\"\nout = \"b.out\"\n";
 
+/// How many pools, ports and tables an environment has.
+fn in_env(env: &Env) -> (usize, usize, u8) {
+    (env.pools().len(), env.ports().len(), env.tables())
+}
+
+/// How many tables, rings and ports a pipeline has.
+fn counts(pipeline: &Pipeline) -> [usize; 3] {
+    [pipeline.tables().len(), pipeline.rings(), pipeline.ports()]
+}
+
+/// Whether a port has these captures.
+fn has_captures(pipeline: &Pipeline, port: usize, input: &str, output: &str) -> bool {
+    port < pipeline.ports() && pipeline.input(port) == input && pipeline.output(port) == output
+}
+
+/// Whether a node of a text has these files.
+fn has_files(rt: &HostRuntime, text: &str, node: Entry, program: &str, cert: Option<&str>) -> bool {
+    match survey_of(rt.alloc(), text.as_bytes()) {
+        Ok(survey) => survey.program(node) == Some(program) && survey.cert(node) == cert,
+        Err(_) => false,
+    }
+}
+
+/// Where the first table sends the address.
+fn hop(pipeline: &Pipeline, ip: u32) -> Option<u32> {
+    pipeline.tables().first()?.lookup(ip)
+}
+
+/// How many routes the first table has.
+fn routes(pipeline: &Pipeline) -> Option<usize> {
+    Some(pipeline.tables().first()?.len())
+}
+
 #[test]
 fn two_ports_are_read(rt: HostRuntime) -> Result<(), Fail> {
     let files = [file("multicast.dpv", FORWARD), file("forward.dpv", FORWARD)];
@@ -48,19 +81,10 @@ fn two_ports_are_read(rt: HostRuntime) -> Result<(), Fail> {
         .ok()
         .ok_or("m.toml")?;
     assert_eq!(rt; pipeline.region(), 10_368);
-    assert_eq!(rt; pipeline.env().pools().len(), 2);
-    assert_eq!(rt; pipeline.env().ports().len(), 2);
-    assert_eq!(rt; pipeline.env().tables(), 0);
-    assert_eq!(rt; pipeline.tables().len(), 0);
-    assert_eq!(rt; pipeline.rings(), 0);
-    assert_eq!(rt; pipeline.ports(), 2);
-    assert_eq!(rt; pipeline.input(1), "b.pcap");
-    assert_eq!(rt; pipeline.output(1), "b.out");
-    let survey = survey_of(rt.alloc(), TWO_PORTS.as_bytes())
-        .ok()
-        .ok_or("m.toml")?;
-    assert_eq!(rt; survey.program(Entry::Port(1)), Some("forward.dpv"));
-    assert!(rt; survey.cert(Entry::Port(1)).is_none());
+    assert_eq!(rt; in_env(pipeline.env()), (2, 2, 0));
+    assert_eq!(rt; counts(&pipeline), [0, 0, 2]);
+    assert!(rt; has_captures(&pipeline, 1, "b.pcap", "b.out"));
+    assert!(rt; has_files(&rt, TWO_PORTS, Entry::Port(1), "forward.dpv", None));
     Ok(())
 }
 
@@ -71,12 +95,11 @@ fn every_part_is_read(rt: HostRuntime) -> Result<(), Fail> {
     let pipeline = loaded(&rt, text.as_str(), &files, How::Inferred)
         .ok()
         .ok_or("every part")?;
-    let tables = pipeline.tables();
-    assert_eq!(rt; tables.len(), 1);
-    assert_eq!(rt; tables[0].len(), 2);
-    assert_eq!(rt; tables[0].lookup(0x0a01_02c8), Some(2));
-    assert_eq!(rt; tables[0].lookup(0x0a01_0264), Some(1));
-    assert_eq!(rt; tables[0].lookup(0x0b00_0001), None);
+    assert_eq!(rt; counts(&pipeline), [1, 1, 1]);
+    assert_eq!(rt; routes(&pipeline), Some(2));
+    assert_eq!(rt; hop(&pipeline, 0x0a01_02c8), Some(2));
+    assert_eq!(rt; hop(&pipeline, 0x0a01_0264), Some(1));
+    assert_eq!(rt; hop(&pipeline, 0x0b00_0001), None);
     let held = Fact::Held {
         share: 1,
         head: 2,
@@ -86,14 +109,8 @@ fn every_part_is_read(rt: HostRuntime) -> Result<(), Fail> {
         segs: 6,
     };
     assert_eq!(rt; pipeline.env().fact_of_ring(0), Some(held));
-    assert_eq!(rt; pipeline.rings(), 1);
-    assert_eq!(rt; pipeline.ports(), 1);
-    let survey = survey_of(rt.alloc(), text.as_bytes())
-        .ok()
-        .ok_or("every part")?;
-    assert_eq!(rt; survey.program(Entry::Ring(0)), Some("r"));
-    assert_eq!(rt; survey.program(Entry::Port(0)), Some("n"));
-    assert_eq!(rt; survey.cert(Entry::Port(0)), Some("c"));
+    assert!(rt; has_files(&rt, text.as_str(), Entry::Ring(0), "r", None));
+    assert!(rt; has_files(&rt, text.as_str(), Entry::Port(0), "n", Some("c")));
     Ok(())
 }
 
