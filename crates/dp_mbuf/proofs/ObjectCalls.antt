@@ -39,7 +39,7 @@ as_many (q ∷ ps) (suc k) p many =
 
 module _ (pools : List (Option PoolView)) (ps : List PoolView) (e : present pools ≡ ps) (inv : ArePoolSlots pools) where
   pub are : ArePools ps
-  are = subst ArePools e (are_pools pools inv.0 inv.1)
+  are = subst ArePools e (are_pools pools (omega (arith, inv.0)) inv.1)
 
   pub listed : (k : ℕ) → k < length ps → (k < length pools) × (k < 8)
   listed k h = let b = slot_below pools ps k e h in (b, omega (arith, b, inv.0))

@@ -1,7 +1,7 @@
 -- The pools of mbufs after a write into one.
 use Rattle.std.proofs.Common.{◌≡◌, ◌≢◌, ◌⊎◌, ℕ, zero, suc, ◌+◌, ◌-◌, ◌*◌, ◌/◌, ◌%◌, ◌<◌, ◌≤◌, Bool, true, false, List, [], ◌∷◌, ◌++◌, length, take, drop}
 use Rattle.std.proofs.Common.{Option, Some, None, refl, sym, ◌∙◌, ap, subst, arith, inl, inr, ⊎_elim, get_or, set, map}
-use Rattle.std.specs.Prelude.{count_by, not, slice_get, ◌&&◌, IfSome}
+use Rattle.std.specs.Prelude.{count_by, not, slice_get, ◌&&◌}
 use Rattle.std.proofs.lemmas.Bool.{cases_eq, cases_Bool, eq-eqb, eqb-true, and_from}
 use Rattle.std.proofs.lemmas.List.{length-set, length-take-le, get_or-set_same, get_or-set_other, get_or_append_left, get_or-take, drop-drop, drop-take}
 use Rattle.std.proofs.lemmas.List.{drop-append-le}
@@ -12,10 +12,10 @@ use Rattle.dp_model.specs.Environments.{room_at, count_at}
 use Rattle.dp_model.specs.Buffers.{Number, same_number, bytes_of, overwritten}
 use Rattle.dp_mbuf.specs.declared.header.Header.{Header}
 use Rattle.dp_mbuf.specs.Headers.{header_of, header_bytes, word, mbuf_number}
-use Rattle.dp_pool.specs.Pools.{PoolView, IsPool, object_in, with_written, got, put_back}
+use Rattle.dp_pool.specs.Pools.{PoolView, object_in, with_written, got, put_back}
 use Rattle.dp_mbuf.specs.Objects.{present, no_pool, pool_in, header_at, header_with, is_out, count_in, spec_of, specs_of, rooms_of, buffers_of, zones_of}
-use Rattle.dp_mbuf.specs.Objects.{HasObject, HasRooms, HeadersFirst, PoolsFirst, ArePools, HeaderSet, RoomWritten, Taken, Given}
-use Rattle.dp_mbuf.proofs.PoolLemmas.{one_if, with_out, count_set, some_below, get_some, Small, pool_out, pool_written, map_set, length_map}
+use Rattle.dp_mbuf.specs.Objects.{HasObject, HasRooms, PoolsFirst, ArePools, HeaderSet, RoomWritten, Taken, Given}
+use Rattle.dp_mbuf.proofs.PoolLemmas.{one_if, with_out, count_set, some_below, Small, pool_out, pool_written, map_set, length_map}
 
 -- ---- numbers
 
@@ -121,26 +121,6 @@ present_set (None ∷ pools) k p h = absurd (omega arith)
 present_set (Some q ∷ pools) zero p h = refl
 present_set (Some q ∷ pools) (suc k) p h = ap (λ ps. q ∷ ps) (present_set pools k p (omega arith))
 
--- pools with room for a header are pools of mbufs
-pub slots_first : (pools : List (Option PoolView)) → HeadersFirst pools → ((k : ℕ) (p : PoolView) → slice_get pools k ≡ Some (Some p) → IsPool p) →
-    PoolsFirst pools
-slots_first [] first known = tt
-slots_first (None ∷ pools) first known = first
-slots_first (Some p ∷ pools) first known =
-    let pool = known 0 p refl in (
-      record { pool = pool; header = first.0; room = pool.size.1 },
-      slots_first pools first.1 (λ k. known (suc k)),
-    )
-
--- what is known of the pools before a mbuf, and of the mbuf's, is known up to there
-pub law_of_more : (pools : List (Option PoolView)) (i : ℕ) (o : Option PoolView) → o ≡ get_or pools i o → IfSome o IsPool →
-    ((k : ℕ) (p : PoolView) → k < i → slice_get pools k ≡ Some (Some p) → IsPool p)
-    → (k : ℕ) (p : PoolView) → k < i + 1 → slice_get pools k ≡ Some (Some p) → IsPool p
-law_of_more pools i o is known before k p low at = ⊎_elim
-    (λ (e : k ≡ i). subst (λ x. IfSome x IsPool) (is ∙ get_some pools i (Some p) o (ap (slice_get pools) (sym e) ∙ at)) known)
-    (λ ne. before k p (omega (arith, low, ne)) at)
-    (cases_eq k i)
-
 pub first_at : (pools : List (Option PoolView)) (k : ℕ) → PoolsFirst pools → k < length (present pools) → HasRooms (pool_in (present pools) k)
 first_at [] k f h = absurd (omega arith)
 first_at (None ∷ pools) k f h = absurd (omega arith)
@@ -154,8 +134,8 @@ first_set (None ∷ pools) k p f h r = absurd (omega arith)
 first_set (Some q ∷ pools) zero p f h r = (r, f.1)
 first_set (Some q ∷ pools) (suc k) p f h r = (f.0, first_set pools k p f.1 (omega arith) r)
 
-pub are_pools : (pools : List (Option PoolView)) → length pools ≡ 8 → PoolsFirst pools → ArePools (present pools)
-are_pools pools e f = record { few = omega (arith, e, present_below pools); rooms = λ k h. first_at pools k f h }
+pub are_pools : (pools : List (Option PoolView)) → length pools ≤ 8 → PoolsFirst pools → ArePools (present pools)
+are_pools pools few f = record { few = omega (arith, few, present_below pools); rooms = λ k h. first_at pools k f h }
 
 -- an object's pool is there
 pub object_pool : (ps : List PoolView) (n : Number) → HasObject ps n → n.pool < length ps
@@ -281,7 +261,7 @@ module _ (ps : List PoolView) (n : Number) (are : ArePools ps) (object : HasObje
 
 -- ---- a header set
 
-rest_kept : (old : List ℕ) (at : ℕ) (new : List ℕ) → at + length new ≤ 128 → 128 ≤ length old → drop 128 (overwritten old at new) ≡ drop 128 old
+pub rest_kept : (old : List ℕ) (at : ℕ) (new : List ℕ) → at + length new ≤ 128 → 128 ≤ length old → drop 128 (overwritten old at new) ≡ drop 128 old
 rest_kept old at new h long =
     let m : ℕ = 128 - at - length new in
     let rest : List ℕ = drop (at + length new) old in

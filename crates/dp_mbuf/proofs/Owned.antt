@@ -172,7 +172,7 @@ few_refs ps v e sound b =
 
 -- ---- so many mbufs
 
-mbufs_are : (ps : List PoolView) → mbufs_in_all (specs_of ps) ≡ objects_in_all ps
+pub mbufs_are : (ps : List PoolView) → mbufs_in_all (specs_of ps) ≡ objects_in_all ps
 mbufs_are [] = refl
 mbufs_are (p ∷ ps) =
     let more = mbufs_are ps in

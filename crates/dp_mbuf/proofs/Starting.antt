@@ -51,17 +51,15 @@ whole_new ps are all_in heads = record {
     none None n e = ap is_positive (heads n)
     none (Some k) n e = absurd (cc)
 
-pub new_is : (pools : List (Option PoolView)) (ps ps' : List PoolView) → ps ≡ present pools → Unhooked (λ m. Unit {0}) ps ps' → AreReady pools →
-    Sound ps' × IsNew pools (viewed ps')
-new_is pools ps ps' e u ready =
-    let all_in : AreAllIn ps = subst AreAllIn (sym e) ready.all_in in
-    let d = settled ps' (replicate (65536 * length ps') None) (whole_new ps' u.are (λ n. u.outs n ∙ all_in n) (λ m. u.heads m tt)) in (
+pub new_is : (pools : List (Option PoolView)) (ps : List PoolView) → Unhooked (present pools) ps → AreReady pools → Sound ps × IsNew pools (viewed ps)
+new_is pools ps u ready =
+    let d = settled ps (replicate (65536 * length ps) None) (whole_new ps u.are (λ n. u.outs n ∙ ready.all_in n) u.heads) in (
       d.0,
       record {
-        pools_are = u.specs ∙ ap specs_of e;
-        buffers = u.buffers ∙ ap buffers_of e;
-        zones = u.zones ∙ ap zones_of e;
-        empty = d.1 ∙ ap (λ n. replicate (65536 * n) None) (sym (length_specs ps'));
+        pools_are = u.specs;
+        buffers = u.buffers;
+        zones = u.zones;
+        empty = d.1 ∙ ap (λ n. replicate (65536 * n) None) (sym (length_specs ps));
       },
     )
 

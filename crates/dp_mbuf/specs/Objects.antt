@@ -130,15 +130,14 @@ pub record RoomWritten (pools : List PoolView) (n : Number) (at : ℕ) (bytes : 
   pub ins : (k : ℕ) → count_in pools' k ≡ count_in pools k
   pub headers : (m : Number) → header_at pools' m ≡ header_at pools m
 
--- no packet begins any more at the numbers of which this holds, nor anew at others
-pub record Unhooked (P : Number → Type 0) (pools pools' : List PoolView) : Type 0 where
+-- no packet begins any more at any number
+pub record Unhooked (pools pools' : List PoolView) : Type 0 where
   pub are : ArePools pools'
   pub specs : specs_of pools' ≡ specs_of pools
   pub zones : zones_of pools' ≡ zones_of pools
   pub buffers : buffers_of pools' ≡ buffers_of pools
   pub outs : (m : Number) → is_out pools' m ≡ is_out pools m
-  pub heads : (m : Number) → P m → (header_at pools' m).segs ≡ 0
-  pub kept : (m : Number) → (header_at pools m).segs ≡ 0 → (header_at pools' m).segs ≡ 0
+  pub heads : (m : Number) → (header_at pools' m).segs ≡ 0
 
 -- n has been handed out, which was in
 pub record Taken (pools : List PoolView) (n : Number) (pools' : List PoolView) : Type 0 where
@@ -200,3 +199,18 @@ abbrev pub SlotGives : Option PoolView → Option ℕ → Option PoolView → Ty
 SlotGives None result o = ⊥
 SlotGives (Some p) None o = (in_count p.out ≡ 0) × (o ≡ Some p)
 SlotGives (Some p) (Some i) o = (slice_get p.out i ≡ Some false) × (o ≡ Some (got p i))
+
+-- no packet begins any more at the first n objects of a pool, which stays a pool of mbufs
+pub record UnhookedTo (n : ℕ) (p p' : PoolView) : Type 0 where
+  pub rooms : HasRooms p'
+  pub spec : spec_of p' ≡ spec_of p
+  pub zones : p'.zones ≡ p.zones
+  pub buffers : rooms_of p' ≡ rooms_of p
+  pub out : p'.out ≡ p.out
+  pub heads : (i : ℕ) → i < n → (header_of (object_in p' i)).segs ≡ 0
+
+-- and at no object of the slot's pool
+abbrev pub SlotUnhooked : Option PoolView → Option PoolView → Type 0
+SlotUnhooked None o = o ≡ None
+SlotUnhooked (Some p) None = ⊥
+SlotUnhooked (Some p) (Some p') = UnhookedTo (length p.objects) p p'

@@ -20,7 +20,7 @@ use crate::limits::{
 };
 use crate::objects::Objects;
 use crate::steps::{
-    behind, clone_segment, fill_segment, fresh_header, hook, release, relink, unhook, unhook_all,
+    behind, clone_segment, fill_segment, fresh_header, hook, release, relink, unhook,
 };
 use dp_model::{Packet, Width};
 use dp_pool::Pool;
@@ -118,9 +118,9 @@ impl Mbufs {
         requires { AreReady pools }
         ensures { IsNew pools result }
     {
-        let mut objects = Objects::over(pools);
-        unhook_all(&mut objects);
-        Mbufs { objects }
+        Mbufs {
+            objects: Objects::over(pools),
+        }
     }
 
     /// Whether there is no packet, live or parked.

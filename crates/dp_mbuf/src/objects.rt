@@ -1,16 +1,16 @@
 // The objects of all pools, each with a header and with bytes behind it.
 
-ghost use Rattle.std.specs.Prelude.{◌≡◌, ℕ, ◌<◌, ◌≤◌, ◌+◌, [], true, false, length, Some, None, slice_get, slice_index, replicate, MatchOption, IfSome};
+ghost use Rattle.std.specs.Prelude.{◌≡◌, ℕ, ◌<◌, ◌≤◌, ◌+◌, [], true, false, length, slice_index, replicate, MatchOption, IfSome};
 ghost use Rattle.std.specs.Prelude.{IsTrue, ◌↔◌};
 ghost use Rattle.std.specs.List.{list_all};
 ghost use Rattle.dp_model.specs.Arithmetic.{bytes_in, big_endian};
 ghost use Rattle.dp_model.specs.Buffers.{bytes_of};
 ghost use Rattle.dp_model.specs.Environments.{room_at};
-ghost use Rattle.dp_pool.specs.Pools.{PoolView, IsPool, object_in, with_object, with_written, put_back};
+ghost use Rattle.dp_pool.specs.Pools.{object_in, with_object, with_written, put_back};
 ghost use Rattle.dp_mbuf.specs.Headers.{then_word, with_hook};
 ghost use Rattle.dp_mbuf.specs.Objects.{present, pool_in, header_at, header_with, is_out, count_in, specs_of, buffers_of, HasObject, HasRooms, HeadersFirst};
-ghost use Rattle.dp_mbuf.specs.Objects.{PoolsFirst, objects_in_all, ArePools, HeaderSet, RoomWritten, Taken, Given, SlotHas, SlotFits, SlotIsOut};
-ghost use Rattle.dp_mbuf.specs.Objects.{SlotBecomes, SlotGives, slot_count, slot_whole, AreAllIn};
+ghost use Rattle.dp_mbuf.specs.Objects.{PoolsFirst, objects_in_all, HeaderSet, RoomWritten, Taken, Given, SlotHas, SlotFits, SlotIsOut};
+ghost use Rattle.dp_mbuf.specs.Objects.{SlotBecomes, SlotGives, slot_count, slot_whole, AreAllIn, Unhooked, UnhookedTo, SlotUnhooked};
 
 use crate::big_endian::write_number;
 use crate::header::{
@@ -163,34 +163,36 @@ fn get_in(slot: &mut Option<Pool>) -> Option<u16>
     }
 }
 
-// What is known of a slot's pool, as of every pool.
-fn law_of_pool(slot: &Option<Pool>)
-    ensures { IfSome slot.now IsPool }
+// Makes each object of a pool one at which no packet begins.
+fn unhook_objects(pool: &mut Pool)
+    requires { HEADER_SIZE ≤ pool.old.size }
+    ensures { UnhookedTo (length pool.old.objects) pool.old pool.new }
 {
-    if let Some(pool) = slot {
-        let _count = pool.count();
+    for index in 0..pool.count() {
+        pool.write(index, SEGS as u32, &bytes_of_word(0));
     }
 }
 
-// What is known of each of these slots' pools.
-fn law_of_pools(slots: &[Option<Pool>])
-    ensures { (k : ℕ) (p : PoolView) → slice_get slots.now k ≡ Some (Some p) → IsPool p }
+// Makes each object of a slot's pool one at which no packet begins.
+fn unhook_slot(slot: &mut Option<Pool>)
+    requires { IfSome slot.old (λ p. HEADER_SIZE ≤ p.size) }
+    ensures { SlotUnhooked slot.old slot.new }
 {
-    for slot in slots {
-        law_of_pool(slot);
+    if let Some(pool) = slot {
+        unhook_objects(pool);
     }
 }
 
 impl Objects {
-    /// The objects of these pools.
-    pub fn over(pools: [Option<Pool>; MAX_POOLS]) -> Objects
+    /// The objects of these pools, at which no packet begins any more.
+    pub fn over(mut pools: [Option<Pool>; MAX_POOLS]) -> Objects
         requires first { HeadersFirst pools }
-        requires few { length (present pools) ≤ MAX_POOLS }
         requires objects { objects_in_all (present pools) ≤ MAX_MBUFS }
-        ensures value { result ≡ present pools }
-        ensures pools { ArePools result }
+        ensures { Unhooked (present pools) result }
     {
-        law_of_pools(&pools);
+        for slot in pools.iter_mut() {
+            unhook_slot(slot);
+        }
         Objects { pools }
     }
 

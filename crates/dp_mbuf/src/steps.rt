@@ -2,11 +2,11 @@
 
 ghost use Rattle.std.specs.Prelude.{◌≡◌, ◌+◌, ◌<◌, ◌≤◌, true, length, take, drop};
 ghost use Rattle.dp_model.specs.Environments.{room_at};
-ghost use Rattle.dp_mbuf.specs.Objects.{header_at, is_out, specs_of, HasObject, count_in, ArePools, HeaderSet, Unhooked, Taken};
+ghost use Rattle.dp_mbuf.specs.Objects.{header_at, is_out, specs_of, HasObject, count_in, ArePools, HeaderSet, Taken};
 ghost use Rattle.dp_mbuf.specs.Steps.{MbufBack, BufferLess, CanRelease, Released, CanClone, Cloned, FilledBy};
 
 use crate::header::{Header, MbufNumber};
-use crate::limits::{HEADROOM, MAX_POOLS};
+use crate::limits::HEADROOM;
 use crate::objects::Objects;
 
 /// Makes a packet's first header none, and gives what it was.
@@ -19,27 +19,6 @@ pub(crate) fn unhook(objects: &mut Objects, n: MbufNumber) -> Header
     let header = objects.header(n);
     objects.set_segs(n, 0);
     header
-}
-
-// Makes each header of a pool one of no packet.
-fn unhook_pool(objects: &mut Objects, pool: u16)
-    requires { ArePools objects.old }
-    ensures { Unhooked (λ m. m.pool ≡ pool) objects.old objects.new }
-{
-    let count = objects.count(pool);
-    for index in 0..count {
-        unhook(objects, MbufNumber::new(pool, index as u16));
-    }
-}
-
-/// Makes each header one of no packet.
-pub(crate) fn unhook_all(objects: &mut Objects)
-    requires { ArePools objects.old }
-    ensures { Unhooked (λ m. Unit {0}) objects.old objects.new }
-{
-    for pool in 0..MAX_POOLS as u16 {
-        unhook_pool(objects, pool);
-    }
 }
 
 /// Makes a packet's first header of an mbuf: how many segments the packet has, and which is the last.

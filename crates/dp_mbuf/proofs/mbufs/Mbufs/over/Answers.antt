@@ -1,9 +1,9 @@
--- Objects that are all in their pools and unhooked are a store without packets.
+-- Objects that are all in their pools and at which no packet begins are a store without packets.
 use Rattle.dp_mbuf.proofs.Starting.{new_is}
 use Rattle.dp_mbuf.proofs.mbufs.Mbufs.over.Goals as goal
 
 pub invariant_of-result : goal.invariant_of-result
-invariant_of-result c = (new_is c.args.pools _ _ c.over-objects.ensures.value c.unhook_all.ensures c.requires).0
+invariant_of-result c = (new_is c.args.pools _ c.over.ensures c.requires).0
 
 pub returns : goal.returns
-returns c = (new_is c.args.pools _ _ c.over-objects.ensures.value c.unhook_all.ensures c.requires).1
+returns c = (new_is c.args.pools _ c.over.ensures c.requires).1

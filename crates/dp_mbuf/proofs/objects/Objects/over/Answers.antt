@@ -1,14 +1,15 @@
--- Pools with room for a header are pools of mbufs, since each pool is as every pool is.
+-- One slot more with each step, and all are at the end.
 use Rattle.std.proofs.Common.{rules}
-use Rattle.dp_mbuf.proofs.ObjectLemmas.{slots_first, first_at}
+use Rattle.dp_mbuf.proofs.Unhooking.{has_header, over_done}
 use Rattle.dp_mbuf.proofs.objects.Objects.over.Goals as goal
 
-pub invariant_of-result : goal.invariant_of-result
-invariant_of-result c = (search rules, slots_first c.args.pools c.requires.first c.law_of_pools.ensures, c.requires.objects)
+pub unhook_slot-requires : goal.unhook_slot-requires
+unhook_slot-requires c = has_header _ c.args.pools _ _ (search rules) c.requires.first c.loop-slot.invariant c.loop-slot-test.true
 
-pub returns-clause-pools : goal.returns-clause-pools
-returns-clause-pools c = record {
-  few = c.requires.few;
-  rooms = λ k h.
-      first_at c.args.pools k (slots_first c.args.pools c.requires.first c.law_of_pools.ensures) h;
-}
+pub invariant_of-result : goal.invariant_of-result
+invariant_of-result c =
+    (over_done _ c.args.pools _ (search rules) c.requires.first c.requires.objects c.loop-slot.invariant c.loop-slot-test.false).0
+
+pub returns : goal.returns
+returns c =
+    (over_done _ c.args.pools _ (search rules) c.requires.first c.requires.objects c.loop-slot.invariant c.loop-slot-test.false).1
