@@ -1,7 +1,7 @@
 #!/usr/bin/env python3
 """Counts the machine instructions that an engine over mbufs takes for a record, captures read and written.
 
-Usage: bench/engine.py [PROGRAM WORD ..]   (a program that runs a pipeline file; by default ./dpv run at the top of the repository)
+Usage: bench/engine.py [PROGRAM WORD ..]   (a program that runs a pipeline file; by default what ./dpv run begins)
 A pipeline's count is the difference of two runs, of which one has twice as many records of 60 bytes, as perf or valgrind count
 them. Prints two tables. The first has a line per pipeline: instructions per record, and how many instructions of its program a
 record runs. The second has what follows: a hop through a ring, and an instruction of two programs that load, add, compare and
@@ -12,9 +12,8 @@ import struct
 import sys
 import tempfile
 
-from timing import instructions
+from timing import TOP, built, instructions
 
-TOP = pathlib.Path(__file__).resolve().parent.parent
 RECORDS = 2_000
 POOL = "[[pool]]\ncount = 64\ncache = {cache}\nroom = 2176\n"
 PORT = '[[port]]\npool = 0\nsegs = 1\nqueue = 32\nnode = "{node}"\nin = "{place}.pcap"\nout = "{place}.out"\n'
@@ -101,7 +100,7 @@ def counted(command: list[str], folder: pathlib.Path, ports: int, records: int) 
 
 
 def main() -> None:
-    program = sys.argv[1:] or [str(TOP / "dpv"), "run"]
+    program = sys.argv[1:] or [built(), "run"]
     each = {}
     print(f"{'records of 60 bytes':<36} {'a record':>9} {'of its program':>15}")
     with tempfile.TemporaryDirectory() as name:

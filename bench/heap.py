@@ -1,7 +1,7 @@
 #!/usr/bin/env python3
 """Times heap scripts of 10,000 blocks under `dpv mem`, beside rte_malloc where DPDK is installed.
 
-Usage: bench/heap.py [PROGRAM]   (the program dpv; by default ./dpv at the top of the repository)
+Usage: bench/heap.py [PROGRAM]   (the program dpv; by default what ./dpv begins)
 Prints one table: per script its commands, the time of one command (the best of three runs, less that of a script with no
 command), the machine instructions of one where perf or valgrind can count them, and the time of rte_malloc with the ratio.
 The figures of dpv include reading the script and printing its answers.
@@ -12,9 +12,8 @@ import subprocess
 import sys
 import tempfile
 
-from timing import best, dpdk, instructions
+from timing import best, built, dpdk, instructions
 
-TOP = pathlib.Path(__file__).resolve().parent.parent
 REGION = 1 << 27
 BLOCKS = 10_000
 
@@ -89,7 +88,7 @@ def rte(folder: pathlib.Path) -> str | None:
 
 
 def main() -> None:
-    program = sys.argv[1] if len(sys.argv) > 1 else str(TOP / "dpv")
+    program = sys.argv[1] if len(sys.argv) > 1 else built()
     with tempfile.TemporaryDirectory() as name:
         folder = pathlib.Path(name)
         empty = folder / "empty"

@@ -6,6 +6,15 @@ import subprocess
 import time
 
 
+TOP = pathlib.Path(__file__).resolve().parent.parent
+
+
+def built() -> str:
+    """The program that ./dpv runs, which builds it where it has to. valgrind counts nothing of a program that a script begins."""
+    subprocess.run([str(TOP / "dpv"), "--version"], check=True, stdout=subprocess.DEVNULL)
+    return str(TOP / "crates/dp_cli/out/dp_cli")
+
+
 def seconds(command: list[str]) -> float:
     """The time of one run."""
     start = time.perf_counter()

@@ -213,8 +213,9 @@ CASES: dict[str, Callable[[Tried], bool]] = {
 
 def main() -> int:
     """All of it."""
-    # Where a shell starts this in the background, SIGINT is ignored, also by what is started here.
+    # Where a shell starts this in the background, SIGINT is ignored, and under nohup SIGHUP, also by what is started here.
     signal.signal(signal.SIGINT, signal.default_int_handler)
+    signal.signal(signal.SIGHUP, signal.SIG_DFL)
     program = asked()
     passed = []
     signal.alarm(600)
