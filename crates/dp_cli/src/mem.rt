@@ -1,10 +1,10 @@
 //! `dpv mem`: heap scripts.
 
-ghost use Rattle.std.specs.Prelude.{◌≡◌, ℕ, suc, ◌∷◌, ◌+◌, ◌^◌, ◌%◌, ◌≤◌, ◌<◌, ◌==◌, ◌⊎◌, ◌↔◌, [], All, IfSome, IfOk, IsTrue, MatchOption, MatchResult};
+ghost use Rattle.std.specs.Prelude.{◌≡◌, ℕ, suc, ◌∷◌, ◌+◌, ◌^◌, ◌%◌, ◌≤◌, ◌<◌, ◌==◌, ◌⊎◌, ◌↔◌, [], All, IfSome, IfOk, IsTrue, MatchOption};
 ghost use Rattle.std.specs.Prelude.{length, option_map, position, false, true};
 ghost use Rattle.std.specs.Io.KnownBytes.{Appends};
-ghost use Rattle.dp_heap.specs.Elements.{alignment, count_of, is_busy, rounded, Taken};
-ghost use Rattle.dp_heap.specs.Refusals.{IsAlign, IsRefused};
+ghost use Rattle.dp_heap.specs.Elements.{count_of, is_busy};
+ghost use Rattle.dp_heap.specs.Requests.{Answered};
 ghost use Rattle.dp_region.specs.Region.{IsRegionSize};
 ghost use Rattle.dp_cli.specs.Commands.{command_in};
 ghost use Rattle.dp_cli.specs.Heaps as spec;
@@ -100,12 +100,7 @@ fn tell_refusal<O: Write>(error: HeapError, out: &mut O) -> u8
 
 /// A block of these many bytes and this alignment, all its bytes 0 where that is asked for.
 fn request(heap: &mut Heap, size: u32, align: u32, zeros: bool) -> Result<Block, HeapError>
-    ensures block { IfOk result (λ b. (b.home ≡ heap.old.home) × IsFilled zeros size b.bytes
-        × Taken heap.old.elements (rounded size) (alignment align) b.offset heap.new.elements) }
-    ensures home { heap.new.home ≡ heap.old.home }
-    ensures refused { MatchResult result (λ _. (0 < size) × IsAlign align) (λ e. IsRefused e size align heap.old.elements × (heap.new ≡ heap.old)) }
-    ensures counted { MatchResult result (λ _. count_of is_busy heap.new.elements ≡ count_of is_busy heap.old.elements + 1)
-        (λ _. count_of is_busy heap.new.elements ≡ count_of is_busy heap.old.elements) }
+    ensures { Answered (IsFilled zeros size) heap.old heap.new size align result }
 {
     if zeros {
         heap.zmalloc(size, align)

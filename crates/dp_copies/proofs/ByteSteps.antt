@@ -9,7 +9,7 @@ use Rattle.dp_model.specs.CopyMachine.{with_stored, copy_on, first_piece, provid
 use Rattle.dp_model.specs.Copies.{copy_of}
 use Rattle.dp_model.specs.declared.registers.Width.{Width}
 use Rattle.dp_model.specs.declared.registers.Width.TheVariants.{One, Two, Four, Eight}
-use Rattle.dp_model.specs.Laws.Places.{IsInside}
+use Rattle.dp_model.specs.Laws.Within.{IsInside}
 use Rattle.dp_copies.proofs.States.{copied}
 use Rattle.dp_copies.proofs.Lengths.{first_length, there}
 use Rattle.dp_copies.proofs.Stores.{store_copies}

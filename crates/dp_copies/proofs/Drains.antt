@@ -9,7 +9,7 @@ use Rattle.dp_model.specs.CopyMachine.{Copy, copy_bytes}
 use Rattle.dp_model.specs.Copies.{copy_of}
 use Rattle.dp_model.specs.Runs.{between, with_empty_outboxes}
 use Rattle.dp_model.specs.Laws.Lists.{all_left, all_join}
-use Rattle.dp_model.specs.Laws.Places.{IsInside}
+use Rattle.dp_model.specs.Laws.Within.{IsInside}
 
 -- a copy has the bytes of its packet
 bytes_copied : (pools : List PoolSpec) (buffers : Buffers) (k : Packet) → copy_bytes (copy_of pools buffers k) ≡ packet_bytes buffers k

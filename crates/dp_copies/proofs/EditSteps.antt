@@ -10,7 +10,7 @@ use Rattle.dp_model.specs.CopyMachine.{Copy, copy_step, with_held, copy_put, cop
 use Rattle.dp_model.specs.CopyMachine.{without_back, provided, copy_edits}
 use Rattle.dp_model.specs.Copies.{piece_of, copy_of}
 use Rattle.dp_model.specs.declared.instr.Instr.{Instr}
-use Rattle.dp_model.specs.Laws.Places.{IsInside}
+use Rattle.dp_model.specs.Laws.Within.{IsInside}
 use Rattle.dp_copies.proofs.States.{copied}
 use Rattle.dp_copies.proofs.Lengths.{there}
 use Rattle.dp_copies.proofs.Writes.{apart}

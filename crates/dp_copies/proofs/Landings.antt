@@ -7,7 +7,7 @@ use Rattle.dp_model.specs.Copies.{copy_of}
 use Rattle.dp_model.specs.declared.instr.Instr.{Instr}
 use Rattle.dp_model.specs.CopyMachine.{CopyState, copy_node_run, copy_goes}
 use Rattle.dp_model.specs.Runs.{first_state, NodeRun, between}
-use Rattle.dp_model.specs.Laws.Places.{IsInside}
+use Rattle.dp_model.specs.Laws.Within.{IsInside}
 use Rattle.dp_model.specs.Laws.Lists.{all_right}
 use Rattle.dp_copies.proofs.States.{copied}
 use Rattle.dp_copies.proofs.Steps.{steps_copy}

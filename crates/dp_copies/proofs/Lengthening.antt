@@ -14,7 +14,7 @@ use Rattle.dp_model.specs.Copies.{piece_of, copy_of}
 use Rattle.dp_model.specs.Laws.References.{refs-append, refs-cons, refs_first}
 use Rattle.dp_model.specs.Laws.Cases.{one_if}
 use Rattle.dp_model.specs.Laws.Stored.{bytes_other}
-use Rattle.dp_model.specs.Laws.Places.{IsInside, inside_held}
+use Rattle.dp_model.specs.Laws.Within.{IsInside, inside_held}
 use Rattle.dp_copies.proofs.States.{copied}
 use Rattle.dp_copies.proofs.Parts.{range_before, range_behind, written_at}
 use Rattle.dp_copies.proofs.Lengths.{IsThere, there}

@@ -8,7 +8,7 @@ use Rattle.dp_model.specs.Packets.{Segment, Packet, segment_bytes, first_len, Li
 use Rattle.dp_model.specs.Machine.{State, live, Holds, Setting}
 use Rattle.dp_model.specs.Copies.{copy_of}
 use Rattle.dp_model.specs.CopyMachine.{first_piece, last_piece}
-use Rattle.dp_model.specs.Laws.Places.{IsInside, inside_held}
+use Rattle.dp_model.specs.Laws.Within.{IsInside, inside_held}
 
 -- a segment within its buffer has its length
 pub length_segment : (pools : List PoolSpec) (buffers : Buffers) (s : Segment) → s.offset + s.len ≤ length (bytes_of buffers s.buffer) →

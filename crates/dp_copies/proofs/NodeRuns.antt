@@ -8,7 +8,7 @@ use Rattle.dp_model.specs.Environments.{Environment}
 use Rattle.dp_model.specs.Prefixes.{Route}
 use Rattle.dp_model.specs.declared.instr.Instr.{Instr}
 use Rattle.dp_model.specs.Runs.{Then, Goes}
-use Rattle.dp_model.specs.Laws.Places.{IsInside}
+use Rattle.dp_model.specs.Laws.Within.{IsInside}
 use Rattle.dp_model.specs.Laws.StepsWithin.{step_within}
 use Rattle.dp_copies.proofs.States.{copied}
 use Rattle.dp_copies.proofs.Steps.{StepsCopy}

@@ -11,7 +11,7 @@ use Rattle.dp_model.specs.CopyMachine.{are_answered, Copy, CopyState, copy_node_
 use Rattle.dp_model.specs.declared.instr.Instr.{Instr}
 use Rattle.dp_model.specs.Runs.{first_state, NodeRun, between, Waiting, behind, first_waiting, Serves}
 use Rattle.dp_model.specs.Laws.Lists.{all_left, all_right, all_join}
-use Rattle.dp_model.specs.Laws.Places.{IsInside, all_first}
+use Rattle.dp_model.specs.Laws.Within.{IsInside, all_first}
 use Rattle.dp_model.specs.Laws.Waiting.{waits, all_pop}
 use Rattle.dp_copies.proofs.Lengths.{there}
 use Rattle.dp_copies.proofs.Landings.{Shows, Lands, stays, node_lands}

@@ -12,7 +12,7 @@ use Rattle.dp_model.specs.Copies.{copy_of}
 use Rattle.dp_model.specs.Laws.References.{refs-cons, refs_held, refs_two, live_parts}
 use Rattle.dp_model.specs.Laws.Cases.{one_if}
 use Rattle.dp_model.specs.Laws.Lists.{all_left}
-use Rattle.dp_model.specs.Laws.Places.{all_held}
+use Rattle.dp_model.specs.Laws.Within.{all_held}
 use Rattle.dp_model.specs.Laws.Stored.{bytes_other, bytes_same, range_overwritten}
 use Rattle.dp_copies.proofs.States.{copied}
 use Rattle.dp_copies.proofs.Unchanged.{Same, copy_same, listed_same}

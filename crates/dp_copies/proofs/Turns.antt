@@ -13,7 +13,7 @@ use Rattle.dp_model.specs.declared.instr.Instr.{Instr}
 use Rattle.dp_model.specs.Runs.{Outcome, Got, Oversize, Nodes, NoBuffer, between, Receives, Arrives, Turn}
 use Rattle.dp_model.specs.Laws.Limits.{HaveRoom}
 use Rattle.dp_model.specs.Laws.References.{live_parts}
-use Rattle.dp_model.specs.Laws.Places.{IsInside, lies_received, needed_holds, all_first}
+use Rattle.dp_model.specs.Laws.Within.{IsInside, lies_received, needed_holds, all_first}
 use Rattle.dp_copies.proofs.Unchanged.{Same, listed_same}
 use Rattle.dp_copies.proofs.Taking.{received_copy, quiet, roomy}
 use Rattle.dp_copies.proofs.Landings.{Shows, Lands, stays, node_lands}

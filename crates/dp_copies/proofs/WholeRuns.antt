@@ -8,7 +8,7 @@ use Rattle.dp_model.specs.Machine.{Setting, World}
 use Rattle.dp_model.specs.Runs.{Outcome, Nodes, Arrival, Shown, Run, joined, between, records_at, with_empty_outboxes}
 use Rattle.dp_model.specs.Starts.{IsStart}
 use Rattle.dp_model.specs.Laws.Limits.{HaveRoom}
-use Rattle.dp_model.specs.Laws.Places.{IsInside, start_inside}
+use Rattle.dp_model.specs.Laws.Within.{IsInside, start_inside}
 use Rattle.dp_copies.proofs.Lists.{empty_lists, no_lists}
 use Rattle.dp_copies.proofs.Landings.{Shows, Lands, stays}
 use Rattle.dp_copies.proofs.Turns.{turn_lands}

@@ -16,7 +16,7 @@ use Rattle.dp_model.specs.Runs.{first_state, between, Took, Receives, Waiting, b
 use Rattle.dp_model.specs.Safety.{IsAtRest, Beginning, IsOfRecord, IsSafeBeginning, IsPipeline, KeepsSafe}
 use Rattle.dp_model.specs.Laws.Lists.{get_within, zip_back}
 use Rattle.dp_model.specs.Laws.Limits.{segs_small}
-use Rattle.dp_model.specs.Laws.Places.{IsInside, inside_held}
+use Rattle.dp_model.specs.Laws.Within.{IsInside, inside_held}
 use Rattle.dp_model.specs.Laws.Waiting.{waits}
 use Rattle.dp_model.specs.Laws.Runs.{safe_never_stuck, safe_rests}
 use Rattle.dp_lpm.specs.Routes.{RouteTable}

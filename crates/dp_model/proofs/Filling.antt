@@ -13,7 +13,7 @@ use Rattle.dp_model.specs.Packets.{Segment, segment_bytes, packet_bytes, direct,
 use Rattle.dp_model.specs.Laws.Stored.{bytes_other, bytes_same, written_each, length_overwritten}
 use Rattle.dp_model.specs.Laws.Lists.{all_join, all_take, all_drop}
 use Rattle.dp_model.specs.Laws.Counts.{same_number_sym}
-use Rattle.dp_model.specs.Laws.Places.{needed_holds}
+use Rattle.dp_model.specs.Laws.Within.{needed_holds}
 
 -- ---- one write
 

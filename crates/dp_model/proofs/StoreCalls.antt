@@ -18,7 +18,7 @@ use Rattle.dp_model.proofs.Counts.{tally_set, tally_front, tally_end, tally_chai
 use Rattle.dp_model.proofs.Owned.{times, more_owned, MayCome, allocated_direct, received_direct, direct_comes, clone_comes}
 use Rattle.dp_model.proofs.OwnedSteps.{HasOwners, effect_owned, more_by}
 use Rattle.dp_model.specs.Laws.StepsWithin.{inside_set, changes_within, lies_allocated, lies_cloned, stored_within, effect_within}
-use Rattle.dp_model.specs.Laws.Places.{IsInside, inside_held, lies_received, needed_holds}
+use Rattle.dp_model.specs.Laws.Within.{IsInside, inside_held, lies_received, needed_holds}
 
 -- ---- references of every buffer
 

@@ -2,6 +2,7 @@
 // and the environments of programs.
 #![tactic(auto)]
 
+mod definition_laws;
 mod env;
 mod instr;
 mod laws;
@@ -10,8 +11,12 @@ mod limits;
 mod registers;
 mod row;
 mod rule;
-mod words;
 
+pub use definition_laws::{
+    budgets_are_as_they_read, layers_stay_well_formed, longest_prefixes_agree,
+    numbers_are_as_called, runs_are_as_they_read, whole_runs_end_with_whole_pools,
+    worlds_stay_well_formed,
+};
 pub use env::{Entry, Env, EnvError, PoolSpec, PortSpec, RingSpec};
 pub use instr::Instr;
 pub use laws::{
@@ -26,8 +31,3 @@ pub use limits::{
 pub use registers::{NumberRegister, Operand, PacketRegister, Width};
 pub use row::{Fact, Holding, Lead, Row};
 pub use rule::Rule;
-pub use words::{
-    budgets_are_as_they_read, layers_stay_well_formed, longest_prefixes_agree,
-    numbers_are_as_called, runs_are_as_they_read, whole_runs_end_with_whole_pools,
-    worlds_stay_well_formed,
-};

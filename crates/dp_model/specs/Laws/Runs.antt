@@ -11,7 +11,7 @@ use Rattle.dp_model.specs.Runs.{Outcome, between, Nodes, Turn, Arrival, Shown, R
 use Rattle.dp_model.specs.Starts.{IsStart}
 use Rattle.dp_model.specs.Safety.{IsPacket, ArePackets, IsAtRest, Beginning, IsSafeBeginning}
 use Rattle.dp_model.specs.Laws.{Ready}
-use Rattle.dp_model.specs.Laws.Places.{start_inside}
+use Rattle.dp_model.specs.Laws.Within.{start_inside}
 
 empty_rings : (pools : List PoolSpec) (segments : List Segment) (specs : List RingSpec) → AllZip (RingHolds pools segments) specs (map (λ _. []) specs)
 empty_rings pools segments [] = tt

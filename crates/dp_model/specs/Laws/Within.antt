@@ -6,6 +6,7 @@ use Rattle.std.proofs.lemmas.Option.{same_Some}
 use Rattle.std.proofs.Math.Nat.{mul-le-mul_right}
 use Rattle.dp_model.specs.declared.env.PoolSpec.{PoolSpec}
 use Rattle.dp_model.specs.Environments.{room_at}
+use Rattle.dp_model.specs.Limits.{default_headroom}
 use Rattle.dp_model.specs.Buffers.{Number}
 use Rattle.dp_model.specs.Packets.{Segment, Packet, IsFresh, Lies, IsWithin, received}
 use Rattle.dp_model.specs.Machine.{Setting, State, live, segments_held, segments_listed, Holds, World}
@@ -47,8 +48,8 @@ pub inside_held : (c : Setting) (s : State) (p : ℕ) (k : Packet) → IsInside 
 inside_held c s p k well holds = all_held (Lies c.env.pools) s.packets p k (parts (Lies c.env.pools) s well.lie).held holds
 
 -- the segments of a received packet lie within their buffers, where there are enough of them
-pub lies_received : (pools : List PoolSpec) (segments : List Segment) (pool : ℕ) (ns : List Number) (len : ℕ) → 128 ≤ room_at pools pool
-    → len ≤ length ns * (room_at pools pool - 128) → AllByRecursion (IsFresh pools segments pool) ns
+pub lies_received : (pools : List PoolSpec) (segments : List Segment) (pool : ℕ) (ns : List Number) (len : ℕ) → default_headroom ≤ room_at pools pool
+    → len ≤ length ns * (room_at pools pool - default_headroom) → AllByRecursion (IsFresh pools segments pool) ns
     → AllByRecursion (Lies pools) (received (room_at pools pool) ns len)
 lies_received pools segments pool [] len room le all = tt
 lies_received pools segments pool (n ∷ []) len room le all =
@@ -57,8 +58,8 @@ lies_received pools segments pool (n ∷ []) len room le all =
 lies_received pools segments pool (n ∷ m ∷ ns) len room le all =
     let same : room_at pools n.pool ≡ room_at pools pool = ap (room_at pools) all.0.of_pool in (
       record { fits = omega (arith, room, same); number = all.0.exists },
-      lies_received pools segments pool (m ∷ ns) (len - (room_at pools pool - 128)) room
-          (fewer (length ns) (room_at pools pool - 128) len le) all.1,
+      lies_received pools segments pool (m ∷ ns) (len - (room_at pools pool - default_headroom)) room
+          (fewer (length ns) (room_at pools pool - default_headroom) len le) all.1,
     )
   where
     fewer : (c r len : ℕ) → len ≤ suc (suc c) * r → len - r ≤ suc c * r

@@ -2,7 +2,7 @@
 use Rattle.std.proofs.Common.{arith}
 use Rattle.dp_model.proofs.Numbers.{ones_least, spelled_low, stored_loaded}
 use Rattle.dp_model.specs.Laws.Calculations.{ones_are, ones_enough}
-use Rattle.dp_model.proofs.words.numbers_are_as_called.Goals as goal
+use Rattle.dp_model.proofs.definition_laws.numbers_are_as_called.Goals as goal
 
 pub returns : goal.returns
 returns c = record {

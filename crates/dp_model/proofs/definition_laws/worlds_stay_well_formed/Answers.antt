@@ -5,7 +5,7 @@ use Rattle.dp_model.proofs.PacketSteps.{step_packets}
 use Rattle.dp_model.proofs.SafeWhole.{drained_rest}
 use Rattle.dp_model.specs.Laws.Runs.{start_rest}
 use Rattle.dp_model.proofs.Few.{refs_small}
-use Rattle.dp_model.proofs.words.worlds_stay_well_formed.Goals as goal
+use Rattle.dp_model.proofs.definition_laws.worlds_stay_well_formed.Goals as goal
 
 pub returns : goal.returns
 returns c = record {

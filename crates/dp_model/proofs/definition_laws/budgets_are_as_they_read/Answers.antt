@@ -1,7 +1,7 @@
 -- Each clause is a lemma.
 use Rattle.dp_model.proofs.BudgetLaws.{acts_lead, jumps_taken, node_took, turn_took}
 use Rattle.dp_model.specs.Laws.Steps.{freed_in_order}
-use Rattle.dp_model.proofs.words.budgets_are_as_they_read.Goals as goal
+use Rattle.dp_model.proofs.definition_laws.budgets_are_as_they_read.Goals as goal
 
 pub returns : goal.returns
 returns c = record {
