@@ -1,12 +1,12 @@
 -- With which statuses a verdict ends.
-use Rattle.std.proofs.Common.{◌≡◌, ◌⊎◌, ℕ, Option, Result, Ok, Err, inl, inr, refl}
+use Rattle.std.proofs.Common.{◌≡◌, ◌⊎◌, ℕ, Option, Result, Ok, Err, inl, inr}
 use Rattle.std.specs.Prelude.{IfErr}
 use Rattle.dp_model.specs.Environments.{Environment}
 use Rattle.dp_pipe.specs.declared.error.PipeError.{PipeError}
 use Rattle.dp_pipe.specs.declared.error.PipeError.TheVariants.{Memory, NotInferred, Refused}
 use Rattle.dp_pipe.specs.Files.{FileMap}
 use Rattle.dp_pipe.specs.Nodes.{Node}
-use Rattle.dp_cli.specs.Judging.{IsVerdict, IsNodeTold}
+use Rattle.dp_cli.specs.Judging.{IsNodeTold}
 use Rattle.dp_cli.specs.Told.{IsTold, status_of}
 
 -- what holds of an error, where there is one

@@ -19,7 +19,6 @@ use Rattle.dp_pipe.specs.Config.{IsConfigOf, IsFaultOf}
 use Rattle.dp_pipe.specs.Causes.{node_text}
 use Rattle.dp_pipe.specs.Files.{FileMap, IsFile}
 use Rattle.dp_pipe.specs.declared.nodes.How.TheVariants.{Given}
-use Rattle.dp_pipe.specs.Setup.{NodeFiles}
 use Rattle.dp_pipe.specs.Surveys.{files_at}
 use Rattle.dp_pipe.specs.Nodes.{Node, node_of, IsCertOf, IsMissing, IsBadCert, IsProgramOf, HasNoProgram}
 use Rattle.dp_cli.specs.declared.judged.Asked.{Asked}

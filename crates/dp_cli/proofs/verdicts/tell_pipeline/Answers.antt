@@ -1,5 +1,5 @@
 -- The configuration of the text is that of which the nodes were asked.
-use Rattle.std.proofs.Common.{◌≡◌, None, Some, sym, subst, inr}
+use Rattle.std.proofs.Common.{None, Some, sym, subst, inr}
 use Rattle.dp_cli.specs.Judging.{IsPipelineTold}
 use Rattle.dp_cli.proofs.verdicts.tell_pipeline.Goals as goal
 
