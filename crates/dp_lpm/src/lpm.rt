@@ -36,7 +36,9 @@ impl Lpm {
     pub fn new(alloc: Global, max_rules: u32, groups: u32) -> Result<Lpm, Memory>
         requires rules { max_rules ≤ MAX_RULES }
         requires groups { groups ≤ MAX_GROUPS }
-        ensures { IfOk result (λ t. t ≡ record { routes = []; max_rules = max_rules; groups = groups }) }
+        ensures empty { IfOk result (λ t. t ≡ record { routes = []; max_rules = max_rules; groups = groups }) }
+        ensures table { IfOk result IsTableOfRoutes }
+        ensures hops { IfOk result (λ t. AllByRecursion (λ route. route.hop ≤ MAX_HOP) t.routes) }
     {
         Ok(Lpm {
             ruled: RuledTable::new(alloc, max_rules, groups)?,
@@ -50,6 +52,8 @@ impl Lpm {
         ensures ok { OnOk result (add_fault self.old ip depth hop ≡ None) }
         ensures fault { IfErr result (λ e. add_fault self.old ip depth hop ≡ Some e) }
         ensures err { OnErr result (self.new ≡ self.old) }
+        ensures table { IsTableOfRoutes self.new }
+        ensures hops { AllByRecursion (λ route. route.hop ≤ MAX_HOP) self.new.routes }
     {
         self.ruled.add(ip, depth, hop)
     }
@@ -60,6 +64,8 @@ impl Lpm {
         ensures ok { OnOk result (delete_fault self.old ip depth ≡ None) }
         ensures fault { IfErr result (λ e. delete_fault self.old ip depth ≡ Some e) }
         ensures err { OnErr result (self.new ≡ self.old) }
+        ensures table { IsTableOfRoutes self.new }
+        ensures hops { AllByRecursion (λ route. route.hop ≤ MAX_HOP) self.new.routes }
     {
         self.ruled.delete(ip, depth)
     }
