@@ -24,7 +24,6 @@ pub mod Texts
 pub mod Numbers
 pub mod PacketRuns
 pub mod Headline
-pub mod Hops
 pub mod Idle
 pub mod LastTurn
 pub mod Stopped
@@ -32,6 +31,5 @@ pub mod GoingOn
 pub mod Stopping
 pub mod Rounding
 pub mod Through
-pub mod Once
 pub mod Regions
 pub mod Faring

@@ -1,8 +1,10 @@
 //! From the text of a pipeline file to its configuration.
 
 ghost use Rattle.std.specs.Prelude.{◌≡◌, map, option_map, string_bytes, IfOk, IfErr};
+ghost use Rattle.std.specs.List.{All};
 ghost use Rattle.toml.specs.View.{table_view};
 ghost use Rattle.dp_pipe.specs.Config as spec;
+ghost use Rattle.dp_pipe.specs.Pipelines.{HasSmallHops};
 ghost use Rattle.dp_pipe.specs.Views as view;
 
 use crate::error::PipeError;
@@ -122,6 +124,7 @@ fn names_of_ports(alloc: Global, ports: &[PortPart<'_>]) -> Result<Vec<PortNames
 fn filled(alloc: Global, index: usize, part: &TablePart<'_>) -> Result<Lpm, PipeError>
     ensures ok { IfOk result (λ table. spec.Holds (view.table_part part.now) table) }
     ensures err { IfErr result (spec.IsFillFault index (view.table_part part.now)) }
+    ensures hops { IfOk result HasSmallHops }
 {
     let mut table = match Lpm::new(alloc, part.rules, part.groups) {
         Ok(table) => table,
@@ -141,6 +144,7 @@ fn filled(alloc: Global, index: usize, part: &TablePart<'_>) -> Result<Lpm, Pipe
 fn tables_of(alloc: Global, tables: &[TablePart<'_>]) -> Result<Vec<Lpm>, PipeError>
     ensures ok { IfOk result (λ v. spec.HoldAll (map view.table_part tables.now) v.items) }
     ensures err { IfErr result (spec.IsTablesFault (map view.table_part tables.now)) }
+    ensures hops { IfOk result (λ v. All HasSmallHops v.items) }
 {
     let mut filled_tables = Vec::new(alloc);
     for (index, part) in tables.iter().enumerate() {
@@ -153,6 +157,7 @@ fn tables_of(alloc: Global, tables: &[TablePart<'_>]) -> Result<Vec<Lpm>, PipeEr
 fn config_of(alloc: Global, setup: &Setup<'_>) -> Result<Config, PipeError>
     ensures ok { IfOk result (spec.IsConfig (view.setup setup.now)) }
     ensures err { IfErr result (spec.IsSetupFault (view.setup setup.now)) }
+    ensures hops { IfOk result (λ config. All HasSmallHops config.tables.items) }
 {
     let env = env_of(alloc, setup)?;
     Ok(Config {
@@ -171,6 +176,7 @@ fn config_of(alloc: Global, setup: &Setup<'_>) -> Result<Config, PipeError>
 pub(crate) fn configure(alloc: Global, text: &[u8]) -> Result<Config, PipeError>
     ensures ok { IfOk result (spec.IsConfigOf text.now) }
     ensures err { IfErr result (spec.IsFaultOf text.now) }
+    ensures hops { IfOk result (λ config. All HasSmallHops config.tables.items) }
 {
     let top = table_of(alloc, text)?;
     let setup = setup_in(alloc, &top)?;

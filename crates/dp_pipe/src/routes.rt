@@ -4,6 +4,7 @@ ghost use Rattle.std.specs.Prelude.{◌≡◌, ◌≤◌, ◌<◌, ◌^◌, ◌=
 ghost use Rattle.std.specs.Char.{is_ascii_digit};
 ghost use Rattle.std.specs.List.{list_all};
 ghost use Rattle.toml.specs.View.{view};
+ghost use Rattle.dp_pipe.specs.Pipelines.{HasSmallHops};
 ghost use Rattle.dp_pipe.specs.Routes as spec;
 ghost use Rattle.dp_pipe.specs.Views.{values};
 
@@ -118,6 +119,7 @@ fn route_of(value: &Value) -> Option<Route>
 fn add_route(table: &mut Lpm, value: &Value) -> Result<(), RouteError>
     ensures ok { OnOk result (spec.Takes table.old table.new (view value.now)) }
     ensures refused { IfErr result (λ cause. spec.refusal table.old (spec.route_of (view value.now)) ≡ Some cause) }
+    ensures hops { HasSmallHops table.old → HasSmallHops table.new }
 {
     let Some(route) = route_of(value) else {
         return Err(RouteError::Unreadable);
@@ -132,6 +134,7 @@ fn add_route(table: &mut Lpm, value: &Value) -> Result<(), RouteError>
 pub fn add_routes(table: &mut Lpm, routes: &[Value]) -> Result<(), (usize, RouteError)>
     ensures ok { OnOk result (spec.TakesAll table.old table.new (values routes.now)) }
     ensures refused { IfErr result (λ e. spec.IsFirstRefused table.old (values routes.now) e.0 e.1) }
+    ensures hops { HasSmallHops table.old → HasSmallHops table.new }
 {
     for (index, value) in routes.iter().enumerate() {
         if let Err(cause) = add_route(table, value) {

@@ -1,8 +1,13 @@
--- `tables_of`: the tables so far hold their routes.
+-- `tables_of`: the tables so far hold their routes, and no hop of theirs is too great.
 use Rattle.std.proofs.Common.{take, map}
+use Rattle.std.specs.List.{All}
 use Rattle.dp_pipe.specs.Config.{HoldAll}
+use Rattle.dp_pipe.specs.Pipelines.{HasSmallHops}
 use Rattle.dp_pipe.specs.Views.{table_part}
 use Rattle.dp_pipe.proofs.config.tables_of.Given as goal
 
 abbrev pub invariant-loop-index : goal.invariant-loop-index
-invariant-loop-index l = HoldAll (take l.index (map table_part l.tables)) l.filled_tables.items
+invariant-loop-index l = record {
+  hold : HoldAll (take l.index (map table_part l.tables)) l.filled_tables.items;
+  hops : All HasSmallHops l.filled_tables.items;
+}

@@ -1,9 +1,10 @@
 -- The configuration, and its nodes or the first that is not loaded.
 use Rattle.std.proofs.Common.{◌≡◌, ◌≤◌, length, sym, subst, arith}
+use Rattle.std.proofs.lemmas.List.Elements.{All-get_or}
+use Rattle.std.proofs.lemmas.Option.{get_or_from_slice_get, slice_get_within}
 use Rattle.std.proofs.lemmas.Result.{err_from_is_err_and}
-use Rattle.dp_pipe.specs.Pipelines.{Plan}
+use Rattle.dp_pipe.specs.Pipelines.{Plan, HasSmallHops}
 use Rattle.dp_pipe.specs.Loads.{IsLoadedFrom}
-use Rattle.dp_pipe.proofs.Hops.{small_hops}
 use Rattle.dp_pipe.proofs.Loaded.{few, limits_of, ports_of, rings_of, tables_of, fit_nodes, loaded_from, bad_node}
 use Rattle.dp_region.specs.Region.{IsRegionSize}
 use Rattle.dp_pipe.proofs.Regions.{setup_region}
@@ -41,8 +42,10 @@ pub new-requires-clause-tables : goal.new-requires-clause-tables
 new-requires-clause-tables g c = tables_of c.in_ok-config.ensures.ok.setup c.in_ok-config.config c.in_ok-config.ensures.ok.config
 
 pub new-requires-clause-hops : goal.new-requires-clause-hops
-new-requires-clause-hops g c =
-    small_hops c.in_ok-config.ensures.ok.setup.tables c.in_ok-config.config.tables.items c.in_ok-config.ensures.ok.config.tables
+new-requires-clause-hops g c k t at =
+    let tables = c.in_ok-config.config.tables.items in
+    subst HasSmallHops (get_or_from_slice_get tables k t t at)
+    (All-get_or HasSmallHops tables k t (slice_get_within tables k t at) c.in_ok-config.ensures.hops)
 
 pub new-requires-clause-ports : goal.new-requires-clause-ports
 new-requires-clause-ports g c = ports_of c.in_ok-config.ensures.ok.setup c.in_ok-config.config c.in_ok-config.ensures.ok.config
