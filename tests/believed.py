@@ -15,18 +15,18 @@ import sys
 TOP = pathlib.Path(__file__).resolve().parent.parent
 PAGE = TOP / "docs" / "definitions.md"
 BEGIN, END = "<!-- believed: begin -->", "<!-- believed: end -->"
-# Each promise: its crate, the file below src/, the function, and what it promises in few words.
+# Each promise: its crate, the file of src/ that has it, the function, and what it promises in few words.
 PROMISES = (
     ("dp_pipe", "running", "run", "captures to captures"),
     ("dp_pipe", "loading", "load", "a pipeline is what its text says"),
     ("dp_copies", "laws", "clones_are_copies", "clones are copies"),
     ("dp_model", "laws", "accepted_programs_are_safe", "accepted programs are never stuck"),
     ("dp_check", "checked", "check", "the checker is exact"),
-    ("dp_infer", "infer", "infer", "the inferrer is exact for programs that never jump back"),
+    ("dp_infer", "inferring", "infer", "the inferrer is exact for programs that never jump back"),
     ("dp_lang", "assembler", "assemble", "a text is read as the program that it spells"),
-    ("dp_cert", "decode", "decode", "a certificate is read exactly"),
-    ("dp_engine", "engine", "turn", "a turn of an engine is one of the buffer machine"),
-    ("dp_pcap", "source", "next_record", "a capture is read exactly"),
+    ("dp_cert", "decoding", "decode", "a certificate is read exactly"),
+    ("dp_engine", "engine/turns", "turn", "a turn of an engine is one of the buffer machine"),
+    ("dp_pcap", "reading", "next_record", "a capture is read exactly"),
     ("dp_heap", "heap", "malloc", "memory is taken where some free element fits"),
 )
 IMPORT = re.compile(r"^(?:ghost )?use Rattle\.([\w.]+?)(?:\.\{(.*)\}| as (\w+))?;?$", re.M)
@@ -100,14 +100,14 @@ def named_in(lines: list[str], here: str, module: Module) -> list[tuple[str, str
 
 def contract_of(crate: str, file: str, function: str) -> tuple[list[str], Module]:
     """The lines of a function's contract, and what its file imports."""
-    folder = TOP / "crates" / crate / "src"
-    texts = [path.read_text() for path in (folder / f"{file}.rt", *sorted(folder.rglob("*.rt"))) if path.is_file()]
-    head = re.compile(rf"^ *pub fn {function}\b.*?^ *{{", re.M | re.S)
-    for text in texts:
-        found = head.search(text)
-        if found and "ensures" in found.group(0):
-            return found.group(0).splitlines(), Module(*imports_of(text), {})
-    raise SystemExit(f"believed: no contract of {crate}::{function}")
+    path = TOP / "crates" / crate / "src" / f"{file}.rt"
+    if not path.is_file():
+        raise SystemExit(f"believed: {path.relative_to(TOP)} is not there, which has {crate}::{function}")
+    text = path.read_text()
+    found = re.search(rf"^ *pub fn {function}\b.*?^ *{{", text, re.M | re.S)
+    if not found or "ensures" not in found.group(0):
+        raise SystemExit(f"believed: {path.relative_to(TOP)} has no contract of {function}")
+    return found.group(0).splitlines(), Module(*imports_of(text), {})
 
 
 def believed(crate: str, file: str, function: str, known: dict[str, Module | None]) -> dict[str, set[str]]:
