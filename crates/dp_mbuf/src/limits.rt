@@ -15,7 +15,7 @@ pub const MAX_OBJECT_SIZE: u32 = HEADER_SIZE + MAX_ROOM;
 /// The most pools that an `Mbufs` stands over.
 pub const MAX_POOLS: usize = 8;
 
-/// The most mbufs in all pools, so that a buffer's references fit (`refcnt` has 16 bits).
+/// The most mbufs in all pools, which indexes of 16 bits number. So no buffer has more references.
 pub const MAX_MBUFS: u32 = 65_535;
 
 /// The most segments of a packet (`nb_segs`).

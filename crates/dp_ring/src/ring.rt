@@ -9,7 +9,7 @@ use crate::runs::{load_one, load_run, store_one, store_run};
 use dp_zone::Zone;
 use std::marker::Model;
 
-/// A ring of `count` slots, a power of two from 2 to 65,536, of which one stays unused. It stands in a zone of at
+/// A ring of `count` slots, from 2 to 65,536, of which one stays unused. It stands in a zone of at
 /// least 4 bytes a slot, and gives it back by `into_zone`.
 pub struct Ring {
     zone: Zone,
@@ -41,7 +41,7 @@ impl Model for Ring {
     ghost invariant = { λ r. (r.first < r.count) × (r.used < r.count) × (r.count ≤ most_slots) × (4 * r.count ≤ length r.zone.bytes) };
 }
 
-// The slot that is so far behind one.
+// The slot `n` places after `first`.
 #[inline(always)]
 fn slot_behind(count: u32, first: u32, n: u32) -> u32
     requires { (first < count) × (n < count) × (count ≤ most_slots) }
