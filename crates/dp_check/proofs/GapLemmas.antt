@@ -1,5 +1,5 @@
 -- What is left of a list to test.
-use Rattle.std.proofs.Common.{◌≡◌, ℕ, zero, suc, ◌+◌, Bool, true, List, [], ◌∷◌, Some, None, ◌<◌, length, get_or, drop, add-one, inl, inr, refl, arith}
+use Rattle.std.proofs.Common.{◌≡◌, ℕ, zero, suc, ◌+◌, Bool, true, List, [], ◌∷◌, Some, None, ◌<◌, length, get_or, drop, add-one, inl, inr, refl, sym, subst, arith}
 use Rattle.std.specs.Prelude.{◌&&◌, slice_get, Option, IfSome}
 use Rattle.std.specs.List.{list_all}
 use Rattle.dp_check.specs.Diagnoses.{Is, SomeOf, Says, Explains}
@@ -41,8 +41,11 @@ pub explained : (q : Question) (label : ℕ) (i : Instr) (row : Row) (o : Option
 explained q label i row None ei er h = h
 explained q label i row (Some reason) ei er h = inr (rw (ei, er) h)
 
--- what stands at a place of a list
-pub at_index : {A : Type 0} → (xs : List A) (i : ℕ) (d : A) → i < length xs → slice_get xs i ≡ Some (get_or xs i d)
-at_index (x ∷ xs) zero d below = refl
-at_index (x ∷ xs) (suc i) d below = at_index xs i d (omega arith)
-at_index [] i d below = absurd (omega arith)
+at : {A : Type 0} → (xs : List A) (i : ℕ) (d : A) → i < length xs → slice_get xs i ≡ Some (get_or xs i d)
+at (x ∷ xs) zero d below = refl
+at (x ∷ xs) (suc i) d below = at xs i d (omega arith)
+at [] i d below = absurd (omega arith)
+
+-- what stands at an index of a list, which may be called otherwise
+pub at_index : {A : Type 0} → (xs : List A) (i j : ℕ) (d : A) → j ≡ i → i < length xs → slice_get xs i ≡ Some (get_or xs j d)
+at_index xs i j d same below = subst (λ k. slice_get xs i ≡ Some (get_or xs k d)) (sym same) (at xs i d below)

@@ -11,7 +11,7 @@ pub(crate) fn with_bound(row: &Row, register: NumberRegister, bound: u64) -> Row
     ensures { result ≡ with_bound row.now register bound }
 {
     let mut changed = *row;
-    changed.bounds[register.number() as usize] = bound;
+    changed.bounds[usize::from(register.number())] = bound;
     changed
 }
 

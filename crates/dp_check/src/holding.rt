@@ -23,7 +23,7 @@ fn with_fact(row: &Row, packet: PacketRegister, fact: Fact) -> Row
     ensures { result ≡ with_fact row.now packet fact }
 {
     let mut changed = *row;
-    changed.facts[packet.number() as usize] = fact;
+    changed.facts[usize::from(packet.number())] = fact;
     changed
 }
 

@@ -8,7 +8,8 @@ ghost use Rattle.dp_model.specs.Rules.{Question, indices_exist, is_held, uses, t
 ghost use Rattle.dp_check.specs.Diagnoses.{Is, Says, SomeOf, measured, measured_at, rule_of, segs_in, share_in};
 
 use crate::entailing::{fact_entails, share_entails};
-use crate::reason::{Measure, Reason};
+use crate::reason::Measure::{self, First, Headroom, Last, Tailroom};
+use crate::reason::Reason;
 use dp_model::{Env, Fact, Instr, MOST_SEGMENTS, PacketRegister, Row};
 
 /// The pool, the table or the ring that is not there, if the instruction names one.
@@ -20,7 +21,7 @@ pub(crate) fn missing_index(env: &Env, instr: Instr) -> Option<Reason>
     match instr {
         Instr::Alloc { pool, .. } | Instr::Clone { pool, .. } => {
             let known = env.pools().len();
-            if (pool as usize) < known {
+            if usize::from(pool) < known {
                 None
             } else {
                 Some(Reason::NoPool { pool, known })
@@ -36,7 +37,7 @@ pub(crate) fn missing_index(env: &Env, instr: Instr) -> Option<Reason>
         }
         Instr::Enq { ring, .. } => {
             let known = env.rings().len();
-            if (ring as usize) < known {
+            if usize::from(ring) < known {
                 None
             } else {
                 Some(Reason::NoRing { ring, known })
@@ -129,10 +130,10 @@ fn measured(part: Measure, fact: Fact) -> u16
             last,
             ..
         } => match part {
-            Measure::Headroom => head,
-            Measure::Tailroom => tail,
-            Measure::First => first,
-            Measure::Last => last,
+            Headroom => head,
+            Tailroom => tail,
+            First => first,
+            Last => last,
         },
     }
 }
@@ -149,7 +150,7 @@ fn too_little(
         (λ reason. (measured_at row.now packet part < start + count) × (reason ≡ Reason.TooLittle packet part (measured_at row.now packet part) start count)) }
 {
     let known = measured(part, row.fact(packet));
-    if start <= known as u64 && start + count as u64 <= known as u64 {
+    if start <= u64::from(known) && start + u64::from(count) <= u64::from(known) {
         return None;
     }
     Some(Reason::TooLittle {
@@ -169,14 +170,10 @@ pub(crate) fn unfit_bytes(row: &Row, instr: Instr) -> Option<Reason>
     ensures says { (q : Question) (label : ℕ) → IfSome result (Says q label instr row.now) }
 {
     match instr {
-        Instr::Prepend { packet, count } => {
-            too_little(row, packet, Measure::Headroom, 0, count as u32)
-        }
-        Instr::Adj { packet, count } => too_little(row, packet, Measure::First, 0, count as u32),
-        Instr::Append { packet, count } => {
-            too_little(row, packet, Measure::Tailroom, 0, count as u32)
-        }
-        Instr::Trim { packet, count } => too_little(row, packet, Measure::Last, 0, count as u32),
+        Instr::Prepend { packet, count } => too_little(row, packet, Headroom, 0, u32::from(count)),
+        Instr::Adj { packet, count } => too_little(row, packet, First, 0, u32::from(count)),
+        Instr::Append { packet, count } => too_little(row, packet, Tailroom, 0, u32::from(count)),
+        Instr::Trim { packet, count } => too_little(row, packet, Last, 0, u32::from(count)),
         Instr::Load {
             packet,
             offset,
@@ -189,8 +186,8 @@ pub(crate) fn unfit_bytes(row: &Row, instr: Instr) -> Option<Reason>
             width,
             ..
         } => {
-            let count = offset as u32 + width.bytes() as u32;
-            too_little(row, packet, Measure::First, 0, count)
+            let count = u32::from(offset) + u32::from(width.bytes());
+            too_little(row, packet, First, 0, count)
         }
         Instr::LoadX {
             packet,
@@ -206,8 +203,8 @@ pub(crate) fn unfit_bytes(row: &Row, instr: Instr) -> Option<Reason>
             width,
             ..
         } => {
-            let count = offset as u32 + width.bytes() as u32;
-            too_little(row, packet, Measure::First, row.bound_of(index), count)
+            let count = u32::from(offset) + u32::from(width.bytes());
+            too_little(row, packet, First, row.bound_of(index), count)
         }
         _ => None,
     }
@@ -279,7 +276,7 @@ pub(crate) fn unfit_segments(row: &Row, instr: Instr) -> Option<Reason>
         Instr::Chain { front, back } => {
             let known = segs_in(row.fact(front));
             let more = segs_in(row.fact(back));
-            if known as u16 + more as u16 <= u16::from(MOST_SEGMENTS) {
+            if u16::from(known) + u16::from(more) <= u16::from(MOST_SEGMENTS) {
                 return None;
             }
             Some(Reason::TooLong {
@@ -315,7 +312,7 @@ pub(crate) fn unfit_exit(env: &Env, row: &Row, instr: Instr) -> Option<Reason>
         }
         Instr::Enq { packet, ring, .. } => {
             let known = row.fact(packet);
-            let wanted = env.rings()[ring as usize].fact;
+            let wanted = env.rings()[usize::from(ring)].fact;
             if fact_entails(known, wanted) {
                 return None;
             }

@@ -80,7 +80,7 @@ fn write_why<W: fmt::Write>(f: &mut fmt::Formatter<W>, reason: Reason) -> fmt::R
 /// The line of an instruction, from 1; or nothing, where memory runs out.
 fn line_at(alloc: Global, text: &[u8], label: u16) -> Option<usize> {
     match source_lines(alloc, text) {
-        Ok(lines) => lines.get(label as usize).copied(),
+        Ok(lines) => lines.get(usize::from(label)).copied(),
         Err(_) => None,
     }
 }

@@ -413,7 +413,7 @@ fn write_test<W: fmt::Write>(
     start: u64,
     count: u32,
 ) -> fmt::Result {
-    let most = start.saturating_add(count as u64);
+    let most = start.saturating_add(u64::from(count));
     let test = test_word(part);
     if most <= MOST_TESTED {
         write!(f, "{test} p{packet},{most},L before it")

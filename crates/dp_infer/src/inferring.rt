@@ -70,7 +70,7 @@ fn pass_from(rows: &mut [Row], env: &Env, label: u16, instr: &Instr)
     ensures found { rows.new ≡ spec.passed_from env.now label instr.now rows.old }
     ensures well_formed { IsTrue (list_all is_well_formed_row rows.new) }
 {
-    let row = rows[label as usize];
+    let row = rows[usize::from(label)];
     if row.live {
         let leads = leads_of(*instr, env, label, &row);
         pass_on(rows, label, &leads);
@@ -86,7 +86,7 @@ fn spread(program: &[Instr], env: &Env, rows: &mut [Row])
     ensures well_formed { IsTrue (list_all is_well_formed_row rows.new) }
 {
     for label in 0..program.len() as u16 {
-        pass_from(rows, env, label, &program[label as usize]);
+        pass_from(rows, env, label, &program[usize::from(label)]);
     }
 }
 

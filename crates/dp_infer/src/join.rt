@@ -132,7 +132,7 @@ pub(crate) fn met(there: &Row, row: &Row) -> Row
 fn reach(rows: &mut [Row], label: u16, lead: &Lead)
     ensures { rows.new ≡ spec.reached label rows.old lead.now }
 {
-    let to = lead.to as usize;
+    let to = usize::from(lead.to);
     if label < lead.to && to < rows.len() {
         rows[to] = met(&rows[to], &lead.row);
     }

@@ -157,7 +157,7 @@ fn reach_again(rows: &mut [Row], program: &[Instr], label: u16, lead: &Lead, slo
     ensures well_formed { IsTrue (list_all is_well_formed_row rows.new) }
     ensures long { length rows.new ≡ length rows.old }
 {
-    let to = lead.to as usize;
+    let to = usize::from(lead.to);
     if to >= rows.len() {
         return false;
     }
@@ -176,11 +176,11 @@ fn pass_again(rows: &mut [Row], program: &[Instr], env: &Env, label: u16, slow: 
     ensures well_formed { IsTrue (list_all is_well_formed_row rows.new) }
     ensures long { length rows.new ≡ length rows.old }
 {
-    let row = rows[label as usize];
+    let row = rows[usize::from(label)];
     if !row.live {
         return false;
     }
-    let instr = program[label as usize];
+    let instr = program[usize::from(label)];
     match leads_of(instr, env, label, &row) {
         Leads::Ends => false,
         Leads::One(lead) => reach_again(rows, program, label, &lead, slow),

@@ -112,14 +112,14 @@ pub(crate) fn store(rt: &impl Abort, m: &mut Mbufs, p: &Packet, offset: u64, byt
     let sharers = refs(rt, m, p, 0);
     assert!(rt; sharers == 1);
     let len = m.first_len(p);
-    assert!(rt; offset < len as u64);
-    m.store(p, offset, Width::One, byte as u64);
+    assert!(rt; offset < u64::from(len));
+    m.store(p, offset, Width::One, u64::from(byte));
 }
 
 pub(crate) fn load_one(rt: &impl Abort, m: &Mbufs, p: &Packet, offset: u64) -> u64 {
     alive(rt, m, p);
     let len = m.first_len(p);
-    assert!(rt; offset < len as u64);
+    assert!(rt; offset < u64::from(len));
     m.load(p, offset, Width::One)
 }
 

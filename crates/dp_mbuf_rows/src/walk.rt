@@ -193,10 +193,10 @@ fn walk_store(rt: &impl Abort, m: &mut Mbufs, shadow: &mut Shadow, seed: &mut u6
     if len == 0 {
         return;
     }
-    let offset = pick(seed, len as usize);
+    let offset = pick(seed, usize::from(len));
     assert!(rt; offset < shadow.bytes.len());
     let byte = load_one(rt, m, &packet, offset as u64);
-    assert_eq!(rt; byte, shadow.bytes[offset] as u64);
+    assert_eq!(rt; byte, u64::from(shadow.bytes[offset]));
     if refs(rt, m, &packet, 0) == 1 {
         let byte = (next(seed) % 256) as u8;
         store(rt, m, &packet, offset as u64, byte);

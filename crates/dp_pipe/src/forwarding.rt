@@ -105,7 +105,7 @@ fn drain_all<W: Sink>(engine: &mut Engine, time: Time, unit: Unit, outs: &mut [W
 {
     for port in 0..outs.len() as u8 {
         if engine
-            .drain(port, time, unit, &mut outs[port as usize])
+            .drain(port, time, unit, &mut outs[usize::from(port)])
             .is_err()
         {
             return Err(port);
@@ -194,7 +194,7 @@ fn round<R: Feed, W: Sink>(
     ensures fared_writers { AllSound W.is_broken outs.old → AllFared W.is_broken W.failures (failed_writer result) outs.old outs.new }
 {
     for port in 0..inputs.len() as u8 {
-        let k = port as usize;
+        let k = usize::from(port);
         ask(engine, port, &mut inputs[k], &mut ins[k], outs, unit, buf)?;
     }
     Ok(())

@@ -162,14 +162,14 @@ fn done<W: Sink>(
     let ports = env.ports().len();
     match act {
         Act::Turn(port, record) => {
-            if port as usize >= ports || record.len() > 4096 || engine.turns() > 1000 {
+            if usize::from(port) >= ports || record.len() > 4096 || engine.turns() > 1000 {
                 return (None, None, 0);
             }
             let turn = engine.turn(port, record);
             (Some(turn), None, engine.queued(port))
         }
         Act::Drain(port) => {
-            if port as usize >= ports {
+            if usize::from(port) >= ports {
                 return (None, None, 0);
             }
             let drain = engine.drain(port, TIME, Unit::Micro, w);
