@@ -9,7 +9,7 @@ use Rattle.dp_infer.specs.Inference.{Certifies, SaysMost}
 use Rattle.dp_pipe.specs.declared.error.PipeError.{PipeError}
 use Rattle.dp_pipe.specs.Files.{FileMap}
 use Rattle.dp_pipe.specs.Nodes.{Node, IsProgramOf, Fails}
-use Rattle.dp_cli.specs.Told.{IsTold, status_of}
+use Rattle.dp_cli.specs.Told.{IsTold, refusal_line, status_of}
 
 -- a node with this program file, and none for a certificate
 abbrev pub by_itself : Entry → List ℕ → Node
@@ -40,6 +40,12 @@ pub record IsNoneTold (known : Option FileMap) (env : Environment) (node : Node)
   pub error : PipeError
   pub fails : Fails known env node error
   pub told : IsTold (status_of error) status
+
+-- the line that there is none was printed
+pub record IsNonePrinted (known : Option FileMap) (env : Environment) (node : Node) (before after : Option (List ℕ)) : Type 0 where
+  pub error : PipeError
+  pub fails : Fails known env node error
+  pub printed : Appends before after (refusal_line error)
 
 -- the status of the one or the other
 abbrev pub IsInferredTold : Option FileMap → Environment → Node → ℕ → Type 0

@@ -1,5 +1,6 @@
 -- What `dpv check` and `dpv infer` tell of pipelines.
 use Rattle.std.specs.Prelude.{ℕ, ◌+◌, List, ◌∷◌, [], ◌++◌, length, Option, None, nat_lt, slice_get, codes, if◌then◌else◌}
+use Rattle.std.specs.Io.KnownBytes.{Appends}
 use Rattle.std.specs.List.{flat_map}
 use Rattle.dp_model.specs.declared.env.Entry.{Entry}
 use Rattle.dp_model.specs.declared.env.Entry.TheVariants.{Port, Ring}
@@ -10,13 +11,19 @@ use Rattle.dp_pipe.specs.Files.{FileMap}
 use Rattle.dp_pipe.specs.Loads.{IsUnloaded}
 use Rattle.dp_pipe.specs.Pipelines.{Plan}
 use Rattle.dp_pipe.specs.Causes.{node_text}
-use Rattle.dp_cli.specs.Told.{IsTold, status_of}
+use Rattle.dp_cli.specs.Told.{IsTold, refusal_line, status_of}
 
 -- a status tells why there is no pipeline
 pub record IsFaultTold (known : Option FileMap) (how : How) (text : List ℕ) (status : ℕ) : Type 0 where
   pub error : PipeError
   pub unloaded : IsUnloaded known how text error
   pub told : IsTold (status_of error) status
+
+-- the line of a program that keeps the pipeline from being loaded was printed
+pub record IsRefusalPrinted (known : Option FileMap) (how : How) (text : List ℕ) (before after : Option (List ℕ)) : Type 0 where
+  pub error : PipeError
+  pub unloaded : IsUnloaded known how text error
+  pub printed : Appends before after (refusal_line error)
 
 -- the line of a node that is accepted
 abbrev pub accepted_line : Question → List ℕ

@@ -3,7 +3,8 @@ use Rattle.std.specs.Prelude.{◌≡◌, ℕ, ◌⊎◌, List, [], ◌∷◌, �
 use Rattle.std.specs.Fmt.{decimal}
 use Rattle.std.specs.Io.KnownBytes.{Appends}
 use Rattle.dp_pcap.specs.Causes.{number_of}
-use Rattle.dp_pipe.specs.Causes.{text_of}
+use Rattle.dp_pipe.specs.Causes.{node_text, text_of}
+use Rattle.dp_model.specs.declared.env.Entry.{Entry}
 use Rattle.dp_pipe.specs.declared.error.PipeError.{PipeError}
 use Rattle.dp_pipe.specs.declared.error.PipeError.TheVariants.{Memory, NotInferred, Refused}
 use Rattle.dp_cli.specs.declared.fault.Fault.{Fault}
@@ -69,6 +70,14 @@ status_of Memory = 4
 status_of (NotInferred _ _ _) = 1
 status_of (Refused _ _ _) = 1
 status_of _ = 3
+
+-- the line of a program that is refused or has no certificate
+abbrev pub refusal_line : PipeError → List ℕ
+refusal_line error = text_of error ++ 10 ∷ []
+
+-- the line of a node that a pipeline does not have
+abbrev pub no_node_line : Entry → List ℕ
+no_node_line node = (codes "error: the pipeline has no " ++ node_text node) ++ 10 ∷ []
 
 -- the line on a command line with an argument that is no text
 abbrev pub unread_text : List ℕ

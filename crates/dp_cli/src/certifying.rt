@@ -4,7 +4,7 @@ ghost use Rattle.std.specs.Prelude.{◌≡◌, ◌⊎◌, IfOk, IfErr};
 ghost use Rattle.std.specs.Io.KnownBytes.{Appends};
 ghost use Rattle.dp_cert.specs.Spelling.{spelling};
 ghost use Rattle.dp_pipe.specs.Nodes.{Fails};
-ghost use Rattle.dp_cli.specs.Inferring.{by_itself, IsInferred, IsCertPrinted, IsInferredTold};
+ghost use Rattle.dp_cli.specs.Inferring.{by_itself, IsInferred, IsCertPrinted, IsInferredTold, IsNonePrinted};
 ghost use Rattle.dp_cli.specs.Told.{IsTold, TellsMemory};
 
 use crate::fault::{
@@ -66,6 +66,7 @@ pub fn infer_node<F: Files, O: Write, E: Write>(
 ) -> u8
     ensures status { IsInferredTold (F.known files.old) env.now (by_itself node program.now) result }
     ensures printed { result ≡ DONE → IsCertPrinted (F.known files.old) env.now (by_itself node program.now) (O.contents out.old) (O.contents out.new) }
+    ensures refused { result ≡ REFUSED → IsNonePrinted (F.known files.old) env.now (by_itself node program.now) (O.contents out.old) (O.contents out.new) }
     ensures silent { (result ≡ DONE) ⊎ (result ≡ REFUSED) → err.new ≡ err.old }
     ensures stays { F.known files.new ≡ F.known files.old }
     ensures memory { result ≡ MEMORY → TellsMemory (E.contents err.old) (E.contents err.new) }

@@ -3,7 +3,7 @@
 ghost use Rattle.std.specs.Prelude.{◌≡◌, ◌≢◌, ◌⊎◌, ◌++◌, ◌∷◌, [], IfOk, IfSome, OnErr, OnOk};
 ghost use Rattle.std.specs.Fmt.{with_newline};
 ghost use Rattle.std.specs.Io.KnownBytes.{Appends};
-ghost use Rattle.dp_cli.specs.Told.{IsTold, TellsMemory, finding_of, lines_behind, lines_of_fault, status_of, status_of_fault, text_of_fault};
+ghost use Rattle.dp_cli.specs.Told.{IsTold, TellsMemory, finding_of, lines_behind, lines_of_fault, no_node_line, refusal_line, status_of, status_of_fault, text_of_fault};
 
 use crate::fault_reasons::{Finding, Reason, reason_of, write_finding};
 use dp_model::Entry;
@@ -195,6 +195,7 @@ pub fn tell_usage<W: Write, T: Display + Drop>(to: &mut W, text: T) -> u8
 /// Tells that a pipeline has no such node.
 pub fn tell_no_node<E: Write>(node: Entry, err: &mut E) -> u8
     ensures status { IsTold USAGE result }
+    ensures printed { result ≡ USAGE → Appends (E.contents err.old) (E.contents err.new) (no_node_line node) }
     ensures memory { result ≢ MEMORY }
 {
     let name = NodeName(node);
@@ -219,6 +220,7 @@ pub fn tell_if_memory<W: Write>(to: &mut W, status: u8) -> u8
 pub fn tell_unloaded<O: Write, E: Write>(error: PipeError, out: &mut O, err: &mut E) -> u8
     ensures status { IsTold (status_of error) result }
     ensures refused { result ≡ REFUSED → err.new ≡ err.old }
+    ensures printed { result ≡ REFUSED → Appends (O.contents out.old) (O.contents out.new) (refusal_line error) }
     ensures fault { status_of error ≢ REFUSED → out.new ≡ out.old }
     ensures fails { result ≢ DONE }
     ensures memory { result ≡ MEMORY → TellsMemory (E.contents err.old) (E.contents err.new) }

@@ -6,10 +6,10 @@ ghost use Rattle.dp_cert.specs.Spelling.{Certificate, spelling};
 ghost use Rattle.dp_check.specs.Faults.{IsWith};
 ghost use Rattle.dp_pipe.specs.Loads.{IsLoadedFrom};
 ghost use Rattle.dp_cli.specs.Pipelines as spec;
-ghost use Rattle.dp_cli.specs.Told.{IsTold, TellsMemory};
+ghost use Rattle.dp_cli.specs.Told.{IsTold, TellsMemory, no_node_line};
 
 use crate::certifying::print_cert;
-use crate::fault::{DONE, MEMORY, USAGE, tell, tell_if_memory, tell_no_node, tell_unloaded};
+use crate::fault::{DONE, MEMORY, REFUSED, USAGE, tell, tell_if_memory, tell_no_node, tell_unloaded};
 use dp_check::Checked;
 use dp_model::Entry;
 use dp_pipe::{Files, How, NodeName, Pipeline, load};
@@ -29,6 +29,8 @@ pub fn load_line<F: Files, O: Write, E: Write>(
     ensures loaded { IfOk result (IsLoadedFrom (F.known files.old) how text.now) }
     ensures silent { OnOk result ((out.new ≡ out.old) × (err.new ≡ err.old)) }
     ensures fails { IfErr result (spec.IsFaultTold (F.known files.old) how text.now) }
+    ensures refused { IfErr result (λ status. status ≡ REFUSED →
+        spec.IsRefusalPrinted (F.known files.old) how text.now (O.contents out.old) (O.contents out.new)) }
     ensures stays { F.known files.new ≡ F.known files.old }
     ensures memory { IfErr result (λ status. status ≡ MEMORY → TellsMemory (E.contents err.old) (E.contents err.new)) }
 {
@@ -82,6 +84,7 @@ pub fn infer_line<O: Write, E: Write>(
         Appends (O.contents out.old) (O.contents out.new) (spelling cert)) }
     ensures silent { result ≡ DONE → err.new ≡ err.old }
     ensures nothing { IfNone (spec.node_at pipeline.now which) (out.new ≡ out.old) }
+    ensures missing { result ≡ USAGE → Appends (E.contents err.old) (E.contents err.new) (no_node_line which) }
     ensures memory { result ≡ MEMORY → TellsMemory (E.contents err.old) (E.contents err.new) }
 {
     match node_at(pipeline, which) {
