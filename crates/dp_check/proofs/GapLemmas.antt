@@ -1,5 +1,6 @@
 -- What is left of a list to test.
-use Rattle.std.proofs.Common.{◌≡◌, ℕ, zero, suc, ◌+◌, Bool, true, List, [], ◌∷◌, Some, None, ◌<◌, length, get_or, drop, add-one, inl, inr, refl, sym, subst, arith}
+use Rattle.std.proofs.Common.{◌≡◌, ℕ, zero, suc, ◌+◌, Bool, true, List, [], ◌∷◌, Some, None, ◌<◌, length, get_or, drop, add-one, inl, inr}
+use Rattle.std.proofs.Common.{refl, sym, subst, arith}
 use Rattle.std.specs.Prelude.{◌&&◌, slice_get, Option, IfSome}
 use Rattle.std.specs.List.{list_all}
 use Rattle.dp_check.specs.Diagnoses.{Is, SomeOf, Says, Explains}

@@ -3,7 +3,8 @@
 ghost use Rattle.std.specs.Prelude.{◌≡◌, ◌≢◌, ◌⊎◌, ◌++◌, ◌∷◌, [], IfOk, IfSome, OnErr, OnOk};
 ghost use Rattle.std.specs.Fmt.{with_newline};
 ghost use Rattle.std.specs.Io.KnownBytes.{Appends};
-ghost use Rattle.dp_cli.specs.Told.{IsTold, TellsMemory, finding_of, lines_behind, lines_of_fault, no_node_line, refusal_line, status_of, status_of_fault, text_of_fault};
+ghost use Rattle.dp_cli.specs.Told.{IsTold, TellsMemory, finding_of, lines_behind, lines_of_fault, no_node_line, refusal_line, status_of, status_of_fault};
+ghost use Rattle.dp_cli.specs.Told.{text_of_fault};
 
 use crate::fault_reasons::{Finding, Reason, reason_of, write_finding};
 use dp_model::Entry;

@@ -9,7 +9,9 @@ ghost use Rattle.dp_cli.specs.Pipelines as spec;
 ghost use Rattle.dp_cli.specs.Told.{IsTold, TellsMemory, no_node_line};
 
 use crate::certifying::print_cert;
-use crate::fault::{DONE, MEMORY, REFUSED, USAGE, tell, tell_if_memory, tell_no_node, tell_unloaded};
+use crate::fault::{
+    DONE, MEMORY, REFUSED, USAGE, tell, tell_if_memory, tell_no_node, tell_unloaded,
+};
 use dp_check::Checked;
 use dp_model::Entry;
 use dp_pipe::{Files, How, NodeName, Pipeline, load};

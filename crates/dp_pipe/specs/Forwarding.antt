@@ -346,3 +346,7 @@ AreRounds unit e e' olds news held holds progress (Err cause) = Stops unit e e' 
 -- every input has ended
 abbrev pub NoneIsOpen : List Progress → Type 0
 NoneIsOpen progress = (q : ℕ) (p : Progress) → slice_get progress q ≡ Some p → p.state ≡ Open → ⊥
+
+-- an input has not ended
+abbrev pub SomeIsOpen : List Progress → Type 0
+SomeIsOpen progress = (q : ℕ) × (p : Progress) × (slice_get progress q ≡ Some p) × (p.state ≡ Open)

@@ -3,7 +3,8 @@ ghost use Rattle.std.specs.Prelude.{◌≡◌, ℕ, ◌+◌, ◌<◌, ◌≤◌,
 ghost use Rattle.std.specs.Prelude.{IfOk, IfErr, IsOk, IsErr, IsErrOf, IsTrue};
 ghost use Rattle.dp_pcap.specs.Source.{body_in, IsInRange, Moves, failed_pulls};
 ghost use Rattle.dp_pipe.specs.Devices.{AllSound, AllFared, FaredAlone, failed_reader, failed_writer, failed_drain};
-ghost use Rattle.dp_pipe.specs.Forwarding.{Input, ReadsTurn, DrainedAll, DrainsStopped, DrainedFirst, Advances, Along, IsRound, AreRounds, NoneIsOpen};
+ghost use Rattle.dp_pipe.specs.Forwarding.{Input, ReadsTurn, DrainedAll, DrainsStopped, DrainedFirst, Advances, Along, IsRound, AreRounds};
+ghost use Rattle.dp_pipe.specs.Forwarding.{NoneIsOpen, SomeIsOpen};
 ghost use Rattle.dp_engine.specs.Engines.{EngineState};
 ghost use Rattle.dp_pcap.specs.declared.time.Time.{Time as InSeconds};
 ghost use Rattle.dp_pcap.specs.declared.time.Unit.{Unit as TimeUnit};
@@ -105,7 +106,7 @@ fn drain_all<W: Sink>(engine: &mut Engine, time: Time, unit: Unit, outs: &mut [W
 {
     for port in 0..outs.len() as u8 {
         if engine
-            .drain(port, time, unit, &mut outs[usize::from(port)])
+            .drain(port, time, unit, &mut outs[port as usize])
             .is_err()
         {
             return Err(port);
@@ -194,7 +195,7 @@ fn round<R: Feed, W: Sink>(
     ensures fared_writers { AllSound W.is_broken outs.old → AllFared W.is_broken W.failures (failed_writer result) outs.old outs.new }
 {
     for port in 0..inputs.len() as u8 {
-        let k = usize::from(port);
+        let k = port as usize;
         ask(engine, port, &mut inputs[k], &mut ins[k], outs, unit, buf)?;
     }
     Ok(())
@@ -202,10 +203,11 @@ fn round<R: Feed, W: Sink>(
 
 // Whether an input has not ended.
 fn is_any_open(inputs: &[Progress]) -> bool
-    ensures { result ≡ false → NoneIsOpen inputs.now }
+    ensures none { result ≡ false → NoneIsOpen inputs.now }
+    ensures some { IsTrue result → SomeIsOpen inputs.now }
 {
-    for k in 0..inputs.len() {
-        if is_open(&inputs[k]) {
+    for input in inputs {
+        if is_open(input) {
             return true;
         }
     }

@@ -5,5 +5,5 @@ use Rattle.dp_engine.specs.declared.report.InputState.TheVariants.{Open}
 use Rattle.dp_pipe.specs.declared.forwarding.Progress.{Progress}
 use Rattle.dp_pipe.proofs.forwarding.is_any_open.Given as goal
 
-abbrev pub invariant-loop-k : goal.invariant-loop-k
-invariant-loop-k l = (q : ℕ) (p : Progress) → q < l.k → slice_get l.inputs q ≡ Some p → p.state ≡ Open → ⊥
+abbrev pub invariant-loop-input : goal.invariant-loop-input
+invariant-loop-input l = (q : ℕ) (p : Progress) → q < l.input-index → slice_get l.inputs q ≡ Some p → p.state ≡ Open → ⊥

@@ -85,7 +85,7 @@ loop-k-preserved g c =
 pub returns-then-not-is_any_open-clause-goes : goal.returns-then-not-is_any_open-clause-goes
 returns-then-not-is_any_open-clause-goes g c e0 olds held read start =
     let (now, along) = c.loop-k.invariant.goes e0 olds held read start in
-    went_all c.args.unit e0 c.loop-k.engine olds _ held _ c.loop-k.inputs now c.loop-k.k 0 along (c.if-not-is_any_open.ensures refl)
+    went_all c.args.unit e0 c.loop-k.engine olds _ held _ c.loop-k.inputs now c.loop-k.k 0 along (c.if-not-is_any_open.ensures.none refl)
 
 pub returns-then-not-is_any_open-clause-fared_readers : goal.returns-then-not-is_any_open-clause-fared_readers
 returns-then-not-is_any_open-clause-fared_readers g c = c.loop-k.invariant.readers
