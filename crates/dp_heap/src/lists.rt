@@ -44,7 +44,7 @@ impl Lists {
         ensures listed { (off : List Item) → Listed region.old.bytes self.old.heads (elements_in region.old.bytes) (e.now ∷ off) →
             Listed region.new.bytes self.new.heads (elements_in region.new.bytes) off }
     {
-        let class = class_of(e.size as u64);
+        let class = class_of(u64::from(e.size));
         let first = self.heads[class];
         write_link(region, NEXT, e.offset, first);
         write_link(region, BEFORE, e.offset, NONE);
@@ -69,7 +69,7 @@ impl Lists {
         write_link(region, NEXT, before, next);
         write_link(region, BEFORE, next, before);
         if before == NONE {
-            self.heads[class_of(e.size as u64)] = next;
+            self.heads[class_of(u64::from(e.size))] = next;
         }
     }
 
@@ -80,7 +80,7 @@ impl Lists {
         ensures { MatchOption result (NothingFits len align (elements_in region.now.bytes)) (λ f. IsIn f.0 (elements_in region.now.bytes)
             × (f.0.state ≡ State.Free) × IsHighest f.0 len align f.1) }
     {
-        let mut class = class_of(len + HEADER_LEN as u64);
+        let mut class = class_of(len + u64::from(HEADER_LEN));
         while class < 5 {
             if let Some(found) = self.first_fit(region, class, len, align) {
                 return Some(found);
@@ -122,12 +122,12 @@ fn highest(e: &Element, len: u64, align: u64) -> Option<u32>
     requires bounds { (len < 2 ^ 33) × (e.now.offset + e.now.size ≤ largest_region) × (e.now.state ≡ State.Free) }
     ensures { MatchOption result ((d : ℕ) → ¬ CanHold e.now len align d) (λ d. IsHighest e.now len align d) }
 {
-    let end = (e.offset + e.size) as u64;
+    let end = u64::from(e.offset + e.size);
     if end < len {
         return None;
     }
     let at = (end - len) / align * align;
-    if at < e.offset as u64 + HEADER_LEN as u64 {
+    if at < u64::from(e.offset) + u64::from(HEADER_LEN) {
         return None;
     }
     Some(at as u32)

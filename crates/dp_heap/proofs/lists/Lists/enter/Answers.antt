@@ -17,7 +17,7 @@ write_link-requires-2 c =
     c.requires.off.1 in
     let n = long1 c.args.region.now l.0 l.1.0 c.args.e.now l.1.1 l.1.2 (free_is c.args.e.now c.requires.free) c.args.self.now.heads c.requires.off.0
     c.requires.off.1 in let room = o.room in
-    rw (c.write_link.ensures, c.class_of-class.ensures) (λ _. (omega arith, o.unlent), omega arith, omega arith)
+    rw (c.write_link.ensures, c.class_of-class.ensures, c.from.ensures) (λ _. (omega arith, o.unlent), omega arith, omega arith)
 
 pub write_link-requires-3 : goal.write_link-requires-3
 write_link-requires-3 c =
@@ -26,7 +26,7 @@ write_link-requires-3 c =
     c.requires.off.1 in
     let f = first c.args.region.now l.0 l.1.0 c.args.e.now l.1.1 l.1.2 (free_is c.args.e.now c.requires.free) c.args.self.now.heads c.requires.off.0
     c.requires.off.1 in
-    rw (c.write_link-2.ensures, c.write_link.ensures, c.class_of-class.ensures) (
+    rw (c.write_link-2.ensures, c.write_link.ensures, c.class_of-class.ensures, c.from.ensures) (
       λ lt. let h = f (omega arith) in
           let room = h.room in (omega arith, h.unlent),
       omega arith,
@@ -36,19 +36,19 @@ write_link-requires-3 c =
 pub returns-clause-laid : goal.returns-clause-laid
 returns-clause-laid c =
     let l = c.requires.laid in
-    rw (c.write_link-3.ensures, c.write_link-2.ensures, c.write_link.ensures, c.class_of-class.ensures)
+    rw (c.write_link-3.ensures, c.write_link-2.ensures, c.write_link.ensures, c.class_of-class.ensures, c.from.ensures)
     (entered_laid c.args.region.now l.0 l.1.0 c.args.e.now l.1.1 l.1.2 (free_is c.args.e.now c.requires.free) c.args.self.now.heads c.requires.off.0
     c.requires.off.1).0
 
 pub returns-clause-same : goal.returns-clause-same
 returns-clause-same c =
     let l = c.requires.laid in
-    rw (c.write_link-3.ensures, c.write_link-2.ensures, c.write_link.ensures, c.class_of-class.ensures)
+    rw (c.write_link-3.ensures, c.write_link-2.ensures, c.write_link.ensures, c.class_of-class.ensures, c.from.ensures)
     (entered_laid c.args.region.now l.0 l.1.0 c.args.e.now l.1.1 l.1.2 (free_is c.args.e.now c.requires.free) c.args.self.now.heads c.requires.off.0
     c.requires.off.1).1
 
 pub returns-clause-listed : goal.returns-clause-listed
 returns-clause-listed c off w =
     let l = c.requires.laid in
-    rw (c.write_link-3.ensures, c.write_link-2.ensures, c.write_link.ensures, c.class_of-class.ensures)
+    rw (c.write_link-3.ensures, c.write_link-2.ensures, c.write_link.ensures, c.class_of-class.ensures, c.from.ensures)
     (entered c.args.region.now l.0 l.1.0 c.args.e.now l.1.1 l.1.2 (free_is c.args.e.now c.requires.free) c.args.self.now.heads off w)

@@ -3,7 +3,7 @@ use Rattle.dp_heap.proofs.Walk.{past_begins, past_more, past_all}
 use Rattle.dp_heap.proofs.lists.Lists.find.Goals as goal
 
 pub loop-class-init : goal.loop-class-init
-loop-class-init c = rw c.class_of-class.ensures (past_begins c.args.region.now.bytes c.args.len c.args.align)
+loop-class-init c = rw (c.class_of-class.ensures, c.from.ensures) (past_begins c.args.region.now.bytes c.args.len c.args.align)
 
 pub loop-class-preserved : goal.loop-class-preserved
 loop-class-preserved c = past_more c.args.region.now.bytes c.args.len c.args.align c.loop-class.class c.loop-class.invariant c.loop-class-test.true

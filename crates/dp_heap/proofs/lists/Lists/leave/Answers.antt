@@ -57,7 +57,7 @@ returns-then-before-clause-same c =
 pub returns-then-before-clause-off : goal.returns-then-before-clause-off
 returns-then-before-clause-off c off w none =
     let l = c.requires.laid in let is = sym c.load_u32-before.ensures ∙ c.if-before.true in
-    rw (c.write_link-2.ensures, c.write_link.ensures, c.load_u32-before.ensures, c.load_u32-next.ensures, c.class_of.ensures)
+    rw (c.write_link-2.ensures, c.write_link.ensures, c.load_u32-before.ensures, c.load_u32-next.ensures, c.class_of.ensures, c.from.ensures)
     (left_first c.args.region.now l.0 l.1.0 c.args.e.now l.1.1 l.1.2 (free_is c.args.e.now c.requires.free) c.args.self.now.heads off w none is)
 
 pub returns-else-before-clause-laid : goal.returns-else-before-clause-laid
