@@ -48,7 +48,7 @@ impl Table {
     {
         let entry = self.first[ip as usize / GROUP_ENTRIES].entry();
         match entry {
-            Entry::Group(group) => self.cells[group as usize * GROUP_ENTRIES
+            Entry::Group(group) => self.cells[usize::from(group) * GROUP_ENTRIES
                 + ip as usize % GROUP_ENTRIES].entry(),
             _ => entry,
         }
@@ -67,7 +67,7 @@ impl Table {
     {
         match self.first[first].entry() {
             Entry::Group(group) => {
-                let from = group as usize * GROUP_ENTRIES + low;
+                let from = usize::from(group) * GROUP_ENTRIES + low;
                 settle(&mut self.cells, from, from + count, depth, to);
             }
             _ => settle(&mut self.first, first, first + 1, depth, to),
@@ -109,7 +109,7 @@ impl Table {
     {
         let cell = self.first[first];
         if let Entry::Group(group) = cell.entry() {
-            self.counts[group as usize] += 1;
+            self.counts[usize::from(group)] += 1;
             return true;
         }
         let Some(group) = free_group(&self.counts) else {
@@ -130,7 +130,7 @@ impl Table {
         ensures { Closed first self.old self.new }
     {
         if let Entry::Group(group) = self.first[first].entry() {
-            let group = group as usize;
+            let group = usize::from(group);
             self.counts[group] -= 1;
             if self.counts[group] == 0 {
                 self.first[first] = self.cells[group * GROUP_ENTRIES];

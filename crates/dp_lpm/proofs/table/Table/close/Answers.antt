@@ -13,14 +13,14 @@ use Rattle.dp_lpm.proofs.table.Table.close.Goals as goal
 pub returns-then-index-eq0 : goal.returns-then-index-eq0
 returns-then-index-eq0 c =
     let old = c.args.self.now in
-    let g = c.in-Group.group in
+    let g = c.from-group.result in
     let new : Table = record {
       first = with_item old.first c.args.first c.index-then-index-eq0.result.now;
       cells = old.cells;
       counts = with_item old.counts g (c.index_mut.result.now - 1);
     } in
     let within = group_there old.first.items c.args.first c.requires.can.group c.requires.can.named in
-    let named = grouped_by old c.args.first g c.index.result.now within c.index.ensures c.in-Group.ensures in
+    let named = grouped_by old c.args.first g c.index.result.now within c.index.ensures (rw c.from-group.ensures c.in-Group.ensures) in
     let there = c.requires.table.named c.args.first g named in
     let some = c.requires.table.used c.args.first g named in
     let is = number_at old.counts.items g c.index_mut.result.now there c.index_mut.ensures.value in
@@ -40,10 +40,10 @@ returns-then-index-eq0 c =
 pub returns-else-index-eq0 : goal.returns-else-index-eq0
 returns-else-index-eq0 c =
     let old = c.args.self.now in
-    let g = c.in-Group.group in
+    let g = c.from-group.result in
     let new : Table = record old { counts = with_item old.counts g (c.index_mut.result.now - 1) } in
     let within = group_there old.first.items c.args.first c.requires.can.group c.requires.can.named in
-    let named = grouped_by old c.args.first g c.index.result.now within c.index.ensures c.in-Group.ensures in
+    let named = grouped_by old c.args.first g c.index.result.now within c.index.ensures (rw c.from-group.ensures c.in-Group.ensures) in
     let there = c.requires.table.named c.args.first g named in
     let is = number_at old.counts.items g c.index_mut.result.now there c.index_mut.ensures.value in
     let len = length-set old.counts.items g (c.index_mut.result.now - 1) in

@@ -19,19 +19,20 @@ index_mut-requires c =
 
 pub overflow_add-index_mut : goal.overflow_add-index_mut
 overflow_add-index_mut c =
-    let named = grouped_by c.args.self.now c.args.first c.in-Group.group c.index-cell.result.now (omega arith) c.index-cell.ensures c.in-Group.ensures in
-    let there = c.requires.table.named c.args.first c.in-Group.group named in
-    let is = number_at c.args.self.now.counts.items c.in-Group.group c.index_mut.result.now there c.index_mut.ensures.value in
-    omega (arith, is, c.requires.room c.in-Group.group named)
+    let old = c.args.self.now in let g = c.from.result in
+    let named = grouped_by old c.args.first g c.index-cell.result.now (omega arith) c.index-cell.ensures (rw c.from.ensures c.in-Group.ensures) in
+    let there = c.requires.table.named c.args.first g named in
+    let is = number_at old.counts.items g c.index_mut.result.now there c.index_mut.ensures.value in
+    omega (arith, is, c.requires.room g named)
 
 pub returns-in-Group : goal.returns-in-Group
 returns-in-Group c =
-    let old = c.args.self.now in
-    let new : Table = record old { counts = with_item old.counts c.in-Group.group (c.index_mut.result.now + 1) } in
-    let named = grouped_by old c.args.first c.in-Group.group c.index-cell.result.now (omega arith) c.index-cell.ensures c.in-Group.ensures in
-    let there = c.requires.table.named c.args.first c.in-Group.group named in
-    opened_more old new c.args.first c.in-Group.group c.index_mut.result.now c.requires.table named refl refl
-    (number_at old.counts.items c.in-Group.group c.index_mut.result.now there c.index_mut.ensures.value) refl
+    let old = c.args.self.now in let g = c.from.result in
+    let new : Table = record old { counts = with_item old.counts g (c.index_mut.result.now + 1) } in
+    let named = grouped_by old c.args.first g c.index-cell.result.now (omega arith) c.index-cell.ensures (rw c.from.ensures c.in-Group.ensures) in
+    let there = c.requires.table.named c.args.first g named in
+    opened_more old new c.args.first g c.index_mut.result.now c.requires.table named refl refl
+    (number_at old.counts.items g c.index_mut.result.now there c.index_mut.ensures.value) refl
 
 pub returns : goal.returns
 returns c =

@@ -13,15 +13,15 @@ pub returns-in-Group : goal.returns-in-Group
 returns-in-Group c =
     let old = c.args.self.now in
     let new : Table = record old { cells = with_items old.cells c.settle.new.cells } in
-    let from = c.in-Group.group * 256 + c.args.low in
+    let g = c.from.result in let from = g * 256 + c.args.low in
     let first = entry_at old.first.items c.args.first c.index.result.now (omega arith) c.index.ensures in
     let is = sym c.in-Group.is ∙ (c.entry.ensures ∙ sym first) in
     let now = with_items_is old.cells c.settle.new.cells (c.settle.ensures.len ∙ c.deref_mut.ensures.len) in
     let so : SettledUpTo from (from + c.args.count) c.args.depth (entry_in c.args.to) c.deref_mut.result.now c.settle.new.cells =
     record { inside = c.settle.ensures.inside; below = c.settle.ensures.below; above = c.settle.ensures.above } in
-    settled_group old new c.args.first c.args.low c.args.count c.args.depth c.in-Group.group (entry_in c.args.to) c.requires.table c.requires.order
+    settled_group old new c.args.first c.args.low c.args.count c.args.depth g (entry_in c.args.to) c.requires.table c.requires.order
     c.requires.to
-    (named_group _ c.in-Group.group is) refl refl (ap length now ∙ (c.settle.ensures.len ∙ ap length c.deref_mut.ensures.value))
+    (named_group _ g (rw c.from.ensures is)) refl refl (ap length now ∙ (c.settle.ensures.len ∙ ap length c.deref_mut.ensures.value))
     (settled_between from (from + c.args.count) c.args.depth (entry_in c.args.to) _ _ _ _ c.deref_mut.ensures.value (sym now) so)
 
 pub returns-in_default : goal.returns-in_default
