@@ -82,18 +82,18 @@ waits_there rings result is = subst (λ o. IfSome o (λ k. k < length rings)
 -- ---- a struct's slots
 
 module _ (slots : List (Option RingView)) (rings : List RingView) (same : rings_in slots ≡ rings) (inv : (length slots ≡ 8) × RingsFirst slots) where
-  pub listed : (k : ℕ) → k < length rings → (k < length slots) × (k < 8)
-  listed k there =
+  pub listed : (j k : ℕ) → j ≡ k → k < length rings → (j < length slots) × (j < 8)
+  listed j k at there =
       let b : length (rings_in slots) ≤ length slots = rings_below slots in
       let e : length (rings_in slots) ≡ length rings = ap length same in
-      (omega (arith, b, e, there), omega (arith, b, e, there, inv.0))
+      (omega (arith, at, b, e, there), omega (arith, at, b, e, there, inv.0))
 
-  filled_at : (k : ℕ) (d : Option RingView) → k < length rings → get_or slots k d ≡ Some (ring_at rings k)
-  filled_at k d there =
-      subst (λ rs. get_or slots k d ≡ Some (ring_at rs k)) same (ring_there slots k d (subst (λ rs. k < length rs) (sym same) there))
+  filled_at : (j k : ℕ) (d : Option RingView) → j ≡ k → k < length rings → get_or slots j d ≡ Some (ring_at rings k)
+  filled_at j k d at there = ap (λ i. get_or slots i d) at
+      ∙ subst (λ rs. get_or slots k d ≡ Some (ring_at rs k)) same (ring_there slots k d (subst (λ rs. k < length rs) (sym same) there))
 
-  pub has_ring : (k : ℕ) (d : Option RingView) → k < length rings → IsSome (get_or slots k d)
-  has_ring k d there = subst IsSome (sym (filled_at k d there)) refl
+  pub has_ring : (j k : ℕ) (d : Option RingView) → j ≡ k → k < length rings → IsSome (get_or slots j d)
+  has_ring j k d at there = subst IsSome (sym (filled_at j k d at there)) refl
 
   pub counted : unwrap_or (position is_none slots) 8 ≡ length rings
   counted =
@@ -106,15 +106,16 @@ module _ (slots : List (Option RingView)) (rings : List RingView) (same : rings_
   at_most = omega (arith, rings_below slots, ap length same, inv.0)
 
   -- the ring of a slot is the one of that number
-  pub ring_is : (k : ℕ) (d : Option RingView) → k < length rings → ring_of (get_or slots k d) ≡ ring_at rings k
-  ring_is k d there = ap ring_of (filled_at k d there)
+  pub ring_is : (j k : ℕ) (d : Option RingView) → j ≡ k → k < length rings → ring_of (get_or slots j d) ≡ ring_at rings k
+  ring_is j k d at there = ap ring_of (filled_at j k d at there)
 
   -- what is left of the rings where one of them has changed
-  pub changed : (k : ℕ) (d o : Option RingView) (f : RingView → RingView) → k < length rings → o ≡ Some (f (ring_of (get_or slots k d))) →
-      ((length (set slots k o) ≡ 8) × RingsFirst (set slots k o)) × (rings_in (set slots k o) ≡ set rings k (f (ring_at rings k)))
-  changed k d o f there is =
+  pub changed : (j k : ℕ) (d o : Option RingView) (f : RingView → RingView) → j ≡ k → k < length rings → o ≡ Some (f (ring_of (get_or slots j d))) →
+      ((length (set slots j o) ≡ 8) × RingsFirst (set slots j o)) × (rings_in (set slots j o) ≡ set rings k (f (ring_at rings k)))
+  changed j k d o f at there is =
       let inside : k < length (rings_in slots) = subst (λ rs. k < length rs) (sym same) there in
-      let now : o ≡ Some (f (ring_at rings k)) = is ∙ ap (λ r. Some (f r)) (ring_is k d there) in (
+      let now : o ≡ Some (f (ring_at rings k)) = is ∙ ap (λ r. Some (f r)) (ring_is j k d at there) in
+      rw at (
         (
           length-set slots k o ∙ inv.0,
           subst (λ x. RingsFirst (set slots k x)) (sym now) (first_set slots k (f (ring_at rings k)) inv.1 inside),
@@ -124,12 +125,12 @@ module _ (slots : List (Option RingView)) (rings : List RingView) (same : rings_
       )
 
   -- where one of them has changed, the number of the first that waits is another
-  pub renewed : (k : ℕ) (d o : Option RingView) (f : RingView → RingView) (count first : ℕ) → k < length rings → o ≡ Some (f (ring_of (get_or slots k d)))
-      → count ≡ length (rings_in slots) → first ≡ first_slot (set rings k (f (ring_at rings k)))
-      → ((length (set slots k o) ≡ 8) × RingsFirst (set slots k o)) × (count ≡ length (rings_in (set slots k o)))
-      × (first ≡ first_slot (rings_in (set slots k o)))
-  renewed k d o f count first there is count_is first_is =
-      let now = changed k d o f there is in
-      let many : length (rings_in (set slots k o)) ≡ length rings = ap length now.1 ∙ length-set rings k (f (ring_at rings k)) in
+  pub renewed : (j k : ℕ) (d o : Option RingView) (f : RingView → RingView) (count first : ℕ) → j ≡ k → k < length rings
+      → o ≡ Some (f (ring_of (get_or slots j d))) → count ≡ length (rings_in slots) → first ≡ first_slot (set rings k (f (ring_at rings k)))
+      → ((length (set slots j o) ≡ 8) × RingsFirst (set slots j o)) × (count ≡ length (rings_in (set slots j o)))
+      × (first ≡ first_slot (rings_in (set slots j o)))
+  renewed j k d o f count first at there is count_is first_is =
+      let now = changed j k d o f at there is in
+      let many : length (rings_in (set slots j o)) ≡ length rings = ap length now.1 ∙ length-set rings k (f (ring_at rings k)) in
       let before : length (rings_in slots) ≡ length rings = ap length same in
       (now.0, omega (arith, many, before, count_is), first_is ∙ ap first_slot (sym now.1))

@@ -10,5 +10,5 @@ pub(crate) fn hop_in(tables: &[Lpm], table: u8, n: u64) -> Option<u32>
     requires { table < length tables.now }
     ensures { option_map (λ routes. hop_for routes (n % 2 ^ 32)) (slice_get (routes_of tables.now) table) ≡ Some result }
 {
-    tables[table as usize].lookup((n % 4294967296) as u32)
+    tables[usize::from(table)].lookup((n % 4294967296) as u32)
 }

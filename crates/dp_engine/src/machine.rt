@@ -131,7 +131,7 @@ impl Machine {
         match self.mbufs.receive(pool, bytes) {
             Some(packet) => {
                 self.registers = one_packet(packet.number());
-                self.numbers = [port as u64, 0, 0, 0, 0, 0, 0, 0];
+                self.numbers = [u64::from(port), 0, 0, 0, 0, 0, 0, 0];
                 self.jumps = 0;
                 true
             }
@@ -162,7 +162,7 @@ impl Machine {
     {
         let packet = handle_in(&self.registers, p);
         self.mbufs.free(packet);
-        self.registers[p.number() as usize] = Register::empty();
+        self.registers[usize::from(p.number())] = Register::empty();
     }
 
     // To the end of a port's transmit list, or not where that is full.
@@ -180,7 +180,7 @@ impl Machine {
         if !self.outboxes.push(port, packet.number()) {
             return false;
         }
-        self.registers[p.number() as usize] = Register::empty();
+        self.registers[usize::from(p.number())] = Register::empty();
         true
     }
 
@@ -199,20 +199,20 @@ impl Machine {
         if !self.rings.push(ring, packet.number()) {
             return false;
         }
-        self.registers[p.number() as usize] = Register::empty();
+        self.registers[usize::from(p.number())] = Register::empty();
         true
     }
 
     pub(crate) fn number(&self, r: NumberRegister) -> u64
         ensures { result ≡ slice_index self.now.state.numbers r }
     {
-        self.numbers[r.number() as usize]
+        self.numbers[usize::from(r.number())]
     }
 
     pub(crate) fn set(&mut self, r: NumberRegister, n: u64)
         ensures { self.new ≡ moved (with_number r n self.old.state) self.old }
     {
-        self.numbers[r.number() as usize] = n;
+        self.numbers[usize::from(r.number())] = n;
     }
 
     // The value of an operand.
@@ -232,7 +232,7 @@ impl Machine {
         requires { slice_index self.now.state.numbers index + offset < 2 ^ 64 }
         ensures { result ≡ slice_index self.now.state.numbers index + offset }
     {
-        self.number(index) + offset as u64
+        self.number(index) + u64::from(offset)
     }
 
     pub(crate) fn count_step(&mut self)
@@ -306,7 +306,7 @@ impl Machine {
         match self.rings.pop(ring) {
             Some(packet) => {
                 self.registers = one_packet(packet);
-                self.numbers = [ring as u64, 0, 0, 0, 0, 0, 0, 0];
+                self.numbers = [u64::from(ring), 0, 0, 0, 0, 0, 0, 0];
                 self.jumps = 0;
                 Some(ring)
             }

@@ -17,7 +17,7 @@ fn zone_bytes(len: u32) -> u64
     requires { len ≤ largest_region }
     ensures { result ≡ zone_bytes len }
 {
-    64 + (len as u64 + 63) / 64 * 64
+    64 + (u64::from(len) + 63) / 64 * 64
 }
 
 /// The least power of two above a number of buffers.

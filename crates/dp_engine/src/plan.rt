@@ -116,7 +116,7 @@ impl Plan {
         ensures same { slice_get self.now.nodes.ports port ≡ Some result.now }
         ensures program { IsProgram result.now }
     {
-        self.nodes[port as usize].program().instrs()
+        self.nodes[usize::from(port)].program().instrs()
     }
 
     // The program of a ring.
@@ -125,7 +125,7 @@ impl Plan {
         ensures same { slice_get self.now.nodes.rings ring ≡ Some result.now }
         ensures program { IsProgram result.now }
     {
-        let k = self.env.ports().len() + ring as usize;
+        let k = self.env.ports().len() + usize::from(ring);
         self.nodes[k].program().instrs()
     }
 

@@ -43,7 +43,7 @@ fn ring_in(rings: &[Option<Ring>; 8], k: u8) -> &Ring
     requires { k < length (rings_in rings.now) }
     ensures { result.now ≡ ring_at (rings_in rings.now) k }
 {
-    match &rings[k as usize] {
+    match &rings[usize::from(k)] {
         Some(ring) => ring,
         None => unreachable!(),
     }
@@ -107,7 +107,7 @@ impl Queues {
         ensures value { result ≡ length self.now }
         ensures bound { result ≤ 8 }
     {
-        self.count as usize
+        usize::from(self.count)
     }
 
     /// How many entries a ring has.
@@ -134,7 +134,7 @@ impl Queues {
         ensures rings { self.new ≡ (if nat_lt 0 (room_in (ring_at self.old k)) then slice_set self.old k (with_more (ring_at self.old k) (entry ∷ []))
             else self.old) }
     {
-        let is_taken = push_in(&mut self.rings[k as usize], entry);
+        let is_taken = push_in(&mut self.rings[usize::from(k)], entry);
         if is_taken && k < self.first {
             self.first = k;
         }
@@ -148,7 +148,7 @@ impl Queues {
         ensures rest { self.new ≡ slice_set self.old k (without_first (ring_at self.old k) 1) }
         ensures kept { IfNone result (self.new ≡ self.old) }
     {
-        let entry = pop_in(&mut self.rings[k as usize]);
+        let entry = pop_in(&mut self.rings[usize::from(k)]);
         if k <= self.first {
             self.first = first_from(&self.rings, k, self.count);
         }

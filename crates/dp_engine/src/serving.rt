@@ -60,7 +60,7 @@ pub(crate) fn arrive<W: Watch>(
     ensures safe { KeepsSafe plan.now.setting plan.now.nodes }
 {
     let env = plan.env();
-    let spec = env.ports()[port as usize];
+    let spec = env.ports()[usize::from(port)];
     if needed(env.pools(), spec.pool, bytes.len()) > spec.segs as usize {
         return (Outcome::Oversize, NO_RUN);
     }

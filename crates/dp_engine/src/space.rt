@@ -75,7 +75,7 @@ impl Space {
         ensures room { OnOk result (bytes_needed env.now ≤ length region.bytes) }
         ensures refused { IfErr result (λ r. (r ≡ region) × (length region.bytes < bytes_needed env.now)) }
     {
-        if (region.size() as u64) < need(env) {
+        if u64::from(region.size()) < need(env) {
             return Err(region);
         }
         Ok(lay_out(region, env))

@@ -39,11 +39,11 @@ impl Engine {
         self.machine.clear_sent(port);
         match outcome {
             Ok(sent) => {
-                self.tallies[port as usize].sent += sent as u64;
+                self.tallies[usize::from(port)].sent += u64::from(sent);
                 Ok(sent)
             }
             Err(sent) => {
-                self.tallies[port as usize].sent += sent as u64;
+                self.tallies[usize::from(port)].sent += u64::from(sent);
                 Err(WriteFault { sent })
             }
         }
@@ -54,7 +54,7 @@ impl Engine {
         requires { ring < length self.old.setting.env.rings }
         ensures { self.new ≡ left_at ring self.old }
     {
-        self.left[ring as usize] += self.machine.waiting(ring) as u64;
+        self.left[usize::from(ring)] += u64::from(self.machine.waiting(ring));
         self.machine.clear_left(ring);
     }
 

@@ -66,8 +66,8 @@ fn pool_reports(machine: &Machine, specs: &[PoolSpec]) -> ArrayVec<PoolReport, 8
     let mut pools = ArrayVec::new();
     for (k, spec) in specs.iter().enumerate() {
         pools.push(PoolReport {
-            free: machine.free_buffers(k as u32) as u64,
-            count: spec.count as u64,
+            free: u64::from(machine.free_buffers(k as u32)),
+            count: u64::from(spec.count),
         });
     }
     pools

@@ -18,9 +18,9 @@ fn count(tallies: &mut [Tallies; 8], port: u8, outcome: Outcome)
     ensures { tallies.new ≡ counted_at port (outcome_of outcome) tallies.old }
 {
     match outcome {
-        Outcome::Got => tallies[port as usize].received += 1,
-        Outcome::NoBuffer => tallies[port as usize].nobuf += 1,
-        Outcome::Oversize => tallies[port as usize].oversize += 1,
+        Outcome::Got => tallies[usize::from(port)].received += 1,
+        Outcome::NoBuffer => tallies[usize::from(port)].nobuf += 1,
+        Outcome::Oversize => tallies[usize::from(port)].oversize += 1,
     }
 }
 

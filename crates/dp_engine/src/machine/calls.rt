@@ -18,14 +18,14 @@ pub(super) fn handle_in(registers: &[Register; 8], p: PacketRegister) -> Handle
     requires { (h : ℕ) × (slice_get registers.now p ≡ Some (Some h)) }
     ensures { slice_get registers.now p ≡ Some (Some result) }
 {
-    Handle::of(registers[p.number() as usize].handle())
+    Handle::of(registers[usize::from(p.number())].handle())
 }
 
 // Whether a register holds a packet.
 pub(super) fn is_held_in(registers: &[Register; 8], p: PacketRegister) -> bool
     ensures { option_map is_some (slice_get registers.now p) ≡ Some result }
 {
-    registers[p.number() as usize].is_held()
+    registers[usize::from(p.number())].is_held()
 }
 
 impl Machine {
@@ -113,7 +113,7 @@ impl Machine {
         let head = handle_in(&self.registers, front);
         let tail = handle_in(&self.registers, back);
         self.mbufs.chain(&head, tail);
-        self.registers[back.number() as usize] = Register::empty();
+        self.registers[usize::from(back.number())] = Register::empty();
     }
 
     // A packet of one segment without bytes into an empty register; or the call is refused.
@@ -138,9 +138,9 @@ impl Machine {
         if is_listed(pattern, self.calls) {
             return false;
         }
-        match self.mbufs.alloc(pool as u32) {
+        match self.mbufs.alloc(u32::from(pool)) {
             Some(packet) => {
-                self.registers[into.number() as usize] = Register::of(packet.number());
+                self.registers[usize::from(into.number())] = Register::of(packet.number());
                 true
             }
             None => false,
@@ -173,9 +173,9 @@ impl Machine {
             return false;
         }
         let source = handle_in(&self.registers, from);
-        match self.mbufs.clone_of(&source, pool as u32) {
+        match self.mbufs.clone_of(&source, u32::from(pool)) {
             Some(packet) => {
-                self.registers[into.number() as usize] = Register::of(packet.number());
+                self.registers[usize::from(into.number())] = Register::of(packet.number());
                 true
             }
             None => false,

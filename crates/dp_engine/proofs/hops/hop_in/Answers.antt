@@ -6,5 +6,5 @@ use Rattle.dp_engine.proofs.hops.hop_in.Goals as goal
 
 pub returns : goal.returns
 returns c =
-    hop_at c.args.tables.now c.args.table c.index-tables-table.result (c.args.n % 2 ^ 32) c.lookup.result c.requires
-    (c.lookup.ensures.value ∙ ap (λ (t : RouteTable). hop_for t.routes (c.args.n % 2 ^ 32)) c.index-tables-table.is)
+    hop_at c.args.tables.now c.args.table c.index-tables-from.result (c.args.n % 2 ^ 32) c.lookup.result c.requires
+    (c.lookup.ensures.value ∙ ap (λ (t : RouteTable). hop_for t.routes (c.args.n % 2 ^ 32)) (rw c.from.ensures at c.index-tables-from.is))

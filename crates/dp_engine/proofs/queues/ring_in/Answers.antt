@@ -3,15 +3,15 @@ use Rattle.dp_engine.proofs.Slots.{rings_below, ring_there}
 use Rattle.dp_engine.proofs.queues.ring_in.Goals as goal
 
 pub listed : goal.listed
-listed c = omega (arith, c.requires, rings_below c.args.rings.now)
+listed c = omega (arith, c.from.ensures, c.requires, rings_below c.args.rings.now)
 
-pub bounds-rings-k : goal.bounds-rings-k
-bounds-rings-k c = omega (arith, c.requires, c.type_inv.rings, rings_below c.args.rings.now)
+pub bounds-rings-from : goal.bounds-rings-from
+bounds-rings-from c = omega (arith, c.from.ensures, c.requires, c.type_inv.rings, rings_below c.args.rings.now)
 
 pub unreachable-requires : goal.unreachable-requires
 unreachable-requires c =
-    let e = ring_there c.args.rings.now c.args.k c.index-rings-k.result c.requires in cc
+    let e = ring_there c.args.rings.now c.args.k c.index-rings-from.result c.requires in cc
 
 pub returns : goal.returns
 returns c =
-    let e = ring_there c.args.rings.now c.args.k c.index-rings-k.result c.requires in cc
+    let e = ring_there c.args.rings.now c.args.k c.index-rings-from.result c.requires in cc

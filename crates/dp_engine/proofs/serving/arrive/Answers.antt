@@ -11,35 +11,35 @@ use Rattle.dp_engine.specs.Handles.{Core}
 use Rattle.dp_engine.specs.Steps.{setting_of, FitsIn, CanRun, Runs}
 use Rattle.dp_engine.proofs.Served.{AtPort, Received, setting_is, at_port, received_with, received_is}
 use Rattle.dp_engine.proofs.serving.arrive.Goals as goal
-use Rattle.dp_engine.proofs.serving.arrive.Goals.{After-ports, After-pattern, After-tables, After-run}
+use Rattle.dp_engine.proofs.serving.arrive.Goals.{After-from, After-pattern, After-tables, After-run}
 
 -- the port of a number
 abbrev spec_of : List PortSpec → ℕ → PortSpec
 spec_of ports port = slice_index_or ports port (record { pool = 0; segs = 0; queue = 0 })
 
 -- the port
-there : (g : _) (c : After-ports g) → AtPort c.args.plan.now.setting c.args.plan.now.nodes c.args.port (spec_of c.ports.result.now c.args.port)
+there : (g : _) (c : After-from g) → AtPort c.args.plan.now.setting c.args.plan.now.nodes c.args.port (spec_of c.ports.result.now c.from.result)
 there g c =
     let p = c.args.plan.now in
-    at_port p.setting p.nodes c.ports.result.now c.args.port (record { pool = 0; segs = 0; queue = 0 }) c.env-env.ensures.pipeline
-    (c.ports.ensures ∙ ap (λ (x : Environment). x.ports) c.env-env.ensures.same) c.requires.exists
+    rw c.from.ensures (at_port p.setting p.nodes c.ports.result.now c.args.port (record { pool = 0; segs = 0; queue = 0 }) c.env-env.ensures.pipeline
+    (c.ports.ensures ∙ ap (λ (x : Environment). x.ports) c.env-env.ensures.same) c.requires.exists)
 
 -- the record has room in its segments
-fits : (g : _) (c : After-pattern g) → segments_needed c.args.plan.now.setting.env.pools (spec_of c.ports.result.now c.args.port).pool
-    (length c.args.bytes.now) ≤ (spec_of c.ports.result.now c.args.port).segs
+fits : (g : _) (c : After-pattern g) → segments_needed c.args.plan.now.setting.env.pools (spec_of c.ports.result.now c.from.result).pool
+    (length c.args.bytes.now) ≤ (spec_of c.ports.result.now c.from.result).segs
 fits g c =
     let pools = c.pools.ensures.same ∙ ap (λ (x : Environment). x.pools) c.env-env.ensures.same in
     omega (arith, rw pools at c.needed.ensures, c.if-needed-spec.false)
 
 -- what is received, and that the port's program can run on it
-came : (g : _) (c : After-tables g) → AtPort c.args.plan.now.setting c.args.plan.now.nodes c.args.port (spec_of c.ports.result.now c.args.port)
-    → segments_needed c.args.plan.now.setting.env.pools (spec_of c.ports.result.now c.args.port).pool (length c.args.bytes.now)
-    ≤ (spec_of c.ports.result.now c.args.port).segs
-    → Received c.args.plan.now.setting c.port_program-program.result.now c.args.port (spec_of c.ports.result.now c.args.port) c.args.bytes.now
+came : (g : _) (c : After-tables g) → AtPort c.args.plan.now.setting c.args.plan.now.nodes c.args.port (spec_of c.ports.result.now c.from.result)
+    → segments_needed c.args.plan.now.setting.env.pools (spec_of c.ports.result.now c.from.result).pool (length c.args.bytes.now)
+    ≤ (spec_of c.ports.result.now c.from.result).segs
+    → Received c.args.plan.now.setting c.port_program-program.result.now c.args.port (spec_of c.ports.result.now c.from.result) c.args.bytes.now
     c.args.m.now.state.world c.receive.new.self.state
 came g c at fits =
     let p = c.args.plan.now in
-    let spec = spec_of c.ports.result.now c.args.port in
+    let spec = spec_of c.ports.result.now c.from.result in
     let bytes = c.args.bytes.now in
     let w = c.args.m.now.state.world in
     let s = c.receive.new.self.state in
@@ -51,9 +51,9 @@ came g c at fits =
     c.port_program-program.ensures.same c.requires.rests.rest fits (sym denied) got
 
 -- what its run made
-went : (g : _) (c : After-run g) → Received c.args.plan.now.setting c.port_program-program.result.now c.args.port (spec_of c.ports.result.now c.args.port)
+went : (g : _) (c : After-run g) → Received c.args.plan.now.setting c.port_program-program.result.now c.args.port (spec_of c.ports.result.now c.from.result)
     c.args.bytes.now c.args.m.now.state.world c.receive.new.self.state
-    → (answers : List Bool) × Receives c.args.plan.now.setting c.port_program-program.result.now c.args.port (spec_of c.ports.result.now c.args.port)
+    → (answers : List Bool) × Receives c.args.plan.now.setting c.port_program-program.result.now c.args.port (spec_of c.ports.result.now c.from.result)
     c.args.bytes.now c.args.m.now.state.world answers c.run.new.m.state.world
 went g c r =
     let setting = setting_is c.args.plan.now.setting c.env-env.result.now c.tables.result.now c.pattern-2.result.now c.env-env.ensures.same c.tables.ensures
@@ -63,31 +63,31 @@ went g c r =
 
 pub returns-then-needed-spec-clause-arrives : goal.returns-then-needed-spec-clause-arrives
 returns-then-needed-spec-clause-arrives g c =
-    let at = there g (goal.at.returns-then-needed-spec-clause-arrives g c).After-ports in
+    let at = there g (goal.at.returns-then-needed-spec-clause-arrives g c).After-from in
     let pools = c.pools.ensures.same ∙ ap (λ (x : Environment). x.pools) c.env-env.ensures.same in
-    let need : c.needed.result ≡ segments_needed c.args.plan.now.setting.env.pools (spec_of c.ports.result.now c.args.port).pool (length c.args.bytes.now)
+    let need : c.needed.result ≡ segments_needed c.args.plan.now.setting.env.pools (spec_of c.ports.result.now c.from.result).pool (length c.args.bytes.now)
     = rw pools at c.needed.ensures in
-    ([], (spec_of c.ports.result.now c.args.port, at.program, at.spec_is, at.program_is, (omega (arith, need, c.if-needed-spec.true), refl, refl)))
+    ([], (spec_of c.ports.result.now c.from.result, at.program, at.spec_is, at.program_is, (omega (arith, need, c.if-needed-spec.true), refl, refl)))
 
 pub receive-requires-clause-has_room : goal.receive-requires-clause-has_room
 receive-requires-clause-has_room g c =
-    subst (λ (e : Environment). 129 ≤ room_at e.pools (spec_of c.ports.result.now c.args.port).pool) (sym c.env-env.ensures.same)
-    (there g (goal.at.receive-requires-clause-has_room g c).After-ports).room
+    subst (λ (e : Environment). 129 ≤ room_at e.pools (spec_of c.ports.result.now c.from.result).pool) (sym c.env-env.ensures.same)
+    (there g (goal.at.receive-requires-clause-has_room g c).After-from).room
 
 pub receive-requires-clause-fits : goal.receive-requires-clause-fits
 receive-requires-clause-fits g c =
-    let need : c.needed.result ≡ segments_needed c.env-env.result.now.pools (spec_of c.ports.result.now c.args.port).pool (length c.args.bytes.now) =
+    let need : c.needed.result ≡ segments_needed c.env-env.result.now.pools (spec_of c.ports.result.now c.from.result).pool (length c.args.bytes.now) =
     rw c.pools.ensures.same at c.needed.ensures in
-    omega (arith, need, c.if-needed-spec.false, (there g (goal.at.receive-requires-clause-fits g c).After-ports).segs)
+    omega (arith, need, c.if-needed-spec.false, (there g (goal.at.receive-requires-clause-fits g c).After-from).segs)
 
 pub returns-then-not-receive-clause-arrives : goal.returns-then-not-receive-clause-arrives
 returns-then-not-receive-clause-arrives g c =
     let here = goal.at.returns-then-not-receive-clause-arrives g c in
-    let at = there g here.After-ports in
+    let at = there g here.After-from in
     let denied = rw (c.env-env.ensures.same, c.pattern.ensures) at c.if-not-receive.ensures.denied in
     let world = ap (λ (x : Core). x.state.world) (c.if-not-receive.ensures.refused refl) in (
       false ∷ [],
-      (spec_of c.ports.result.now c.args.port, at.program, at.spec_is, at.program_is, (fits g here.After-pattern, sym denied, refl, world)),
+      (spec_of c.ports.result.now c.from.result, at.program, at.spec_is, at.program_is, (fits g here.After-pattern, sym denied, refl, world)),
     )
 
 pub run-requires-clause-sound : goal.run-requires-clause-sound
@@ -96,16 +96,16 @@ run-requires-clause-sound g c =
     let setting = setting_is c.args.plan.now.setting c.env-env.result.now c.tables.result.now c.pattern-2.result.now c.env-env.ensures.same c.tables.ensures
     c.pattern-2.ensures in
     subst (λ (x : Setting). CanRun x c.port_program-program.result.now c.receive.new.self.state) (sym setting)
-    (came g here.After-tables (there g here.After-ports) (fits g here.After-pattern)).can_run
+    (came g here.After-tables (there g here.After-from) (fits g here.After-pattern)).can_run
 
 pub returns-clause-arrives : goal.returns-clause-arrives
 returns-clause-arrives g c =
     let here = goal.at.returns-clause-arrives g c in
-    let at = there g here.After-ports in
+    let at = there g here.After-from in
     let (answers, receives) = went g c (came g here.After-tables at (fits g here.After-pattern)) in (
       answers,
       (
-        spec_of c.ports.result.now c.args.port,
+        spec_of c.ports.result.now c.from.result,
         c.port_program-program.result.now,
         at.spec_is,
         c.port_program-program.ensures.same,
@@ -116,12 +116,12 @@ returns-clause-arrives g c =
 pub returns-clause-rests : goal.returns-clause-rests
 returns-clause-rests g c =
     let here = goal.at.returns-clause-rests g c in
-    let at = there g here.After-ports in
+    let at = there g here.After-from in
     let (answers, receives) = went g c (came g here.After-tables at (fits g here.After-pattern)) in
     record {
       idle = c.run.ensures.idle;
       pools = c.run.ensures.pools ∙ (c.receive.ensures.pools ∙ c.requires.rests.pools);
       fits = subst (FitsIn c.args.plan.now.setting.env) (sym (c.run.ensures.frames ∙ c.receive.ensures.frames)) c.requires.rests.fits;
-      rest = c.env-env.ensures.safe.arrives c.port_program-program.result.now c.args.port (spec_of c.ports.result.now c.args.port) c.args.bytes.now
+      rest = c.env-env.ensures.safe.arrives c.port_program-program.result.now c.args.port (spec_of c.ports.result.now c.from.result) c.args.bytes.now
           c.args.m.now.state.world c.run.new.m.state.world Got answers c.port_program-program.ensures.same at.spec_is c.requires.rests.rest receives;
     }

@@ -22,32 +22,28 @@ pub overflow_add-self : goal.overflow_add-self
 overflow_add-self g c =
     let e = c.self.inside in
     let (lt, (packets, box)) = its_list g (goal.at.overflow_add-self g c).After-put_all-outcome in
-    omega (
-      arith,
-      sent_fits e.plan e.machine e.space e.turns e.tallies e.left c.self.invariant c.args.port c.in-Ok.sent packets lt box
-          (c.in-Ok.ensures.most packets box),
-    )
+    let few = sent_fits e.plan e.machine e.space e.turns e.tallies e.left c.self.invariant c.args.port c.in-Ok.sent packets lt box
+    (c.in-Ok.ensures.most packets box) in
+    rw c.from-in-Ok.ensures (omega (arith, c.from.ensures, few))
 
 pub overflow_add-self-in-Err : goal.overflow_add-self-in-Err
 overflow_add-self-in-Err g c =
     let e = c.self.inside in
     let (lt, (packets, box)) = its_list g (goal.at.overflow_add-self-in-Err g c).After-put_all-outcome in
-    omega (
-      arith,
-      sent_fits e.plan e.machine e.space e.turns e.tallies e.left c.self.invariant c.args.port c.in-Err.sent packets lt box
-          (c.in-Err.ensures.most packets box),
-    )
+    let few = sent_fits e.plan e.machine e.space e.turns e.tallies e.left c.self.invariant c.args.port c.in-Err.sent packets lt box
+    (c.in-Err.ensures.most packets box) in
+    rw c.from-in-Err-2.ensures (omega (arith, c.from-in-Err.ensures, few))
 
 pub invariant_of-self : goal.invariant_of-self
 invariant_of-self g c =
     let e = c.self.inside in
     let (lt, (packets, box)) = its_list g (goal.at.invariant_of-self g c).After-put_all-outcome in
-    rw c.clear_sent.ensures (sent_kept e.plan e.machine e.space e.turns e.tallies e.left c.self.invariant c.args.port c.in-Ok.sent packets lt box
-    (c.in-Ok.ensures.most packets box))
+    rw (c.clear_sent.ensures, c.from.ensures, c.from-in-Ok.ensures) (sent_kept e.plan e.machine e.space e.turns e.tallies e.left c.self.invariant
+    c.args.port c.in-Ok.sent packets lt box (c.in-Ok.ensures.most packets box))
 
 pub invariant_of-self-in-Err : goal.invariant_of-self-in-Err
 invariant_of-self-in-Err g c =
     let e = c.self.inside in
     let (lt, (packets, box)) = its_list g (goal.at.invariant_of-self-in-Err g c).After-put_all-outcome in
-    rw c.clear_sent.ensures (sent_kept e.plan e.machine e.space e.turns e.tallies e.left c.self.invariant c.args.port c.in-Err.sent packets lt box
-    (c.in-Err.ensures.most packets box))
+    rw (c.clear_sent.ensures, c.from-in-Err.ensures, c.from-in-Err-2.ensures) (sent_kept e.plan e.machine e.space e.turns e.tallies e.left
+    c.self.invariant c.args.port c.in-Err.sent packets lt box (c.in-Err.ensures.most packets box))

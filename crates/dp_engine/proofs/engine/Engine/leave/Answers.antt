@@ -7,7 +7,8 @@ pub overflow_add-self : goal.overflow_add-self
 overflow_add-self c =
     let e = c.self.inside in
     let (packets, there, count) = c.waiting.ensures.list in
-    omega (arith, count, left_fits e.plan e.machine e.space e.turns e.tallies e.left c.self.invariant c.args.ring packets there)
+    let few = left_fits e.plan e.machine e.space e.turns e.tallies e.left c.self.invariant c.args.ring packets there in
+    rw c.from-2.ensures (omega (arith, c.from.ensures, count, few))
 
 pub invariant_of-self : goal.invariant_of-self
 invariant_of-self c =
@@ -15,11 +16,12 @@ invariant_of-self c =
     let (packets, there, count) = c.waiting.ensures.list in
     let long = ap (λ (x : EngineState). length x.setting.env.rings) c.self.view_is in
     let lt = ring_within e.plan e.machine e.space e.turns e.tallies e.left c.self.invariant c.args.ring (omega (arith, c.requires, long)) in
-    rw (c.clear_left.ensures, count) (left_kept e.plan e.machine e.space e.turns e.tallies e.left c.self.invariant c.args.ring packets lt there)
+    rw (c.clear_left.ensures, c.from.ensures, c.from-2.ensures, count)
+    (left_kept e.plan e.machine e.space e.turns e.tallies e.left c.self.invariant c.args.ring packets lt there)
 
 pub returns : goal.returns
 returns c =
     let e = c.self.inside in
     let (packets, there, count) = c.waiting.ensures.list in
-    leaves e.plan e.machine c.clear_left.new.self e.space e.turns e.tallies e.left c.args.self.now c.args.ring c.waiting.result packets
-    c.self.view_is c.clear_left.ensures there count
+    rw (c.from.ensures, c.from-2.ensures) (leaves e.plan e.machine c.clear_left.new.self e.space e.turns e.tallies e.left c.args.self.now c.args.ring
+    c.waiting.result packets c.self.view_is c.clear_left.ensures there count)

@@ -16,12 +16,13 @@ given : (c : In-Some) → Taken (setting_of c.args.env.now [] c.args.pattern.now
 given c =
     allocated_taken (setting_of c.args.env.now [] c.args.pattern.now) _ _ _ c.self.inside.registers c.self.inside.numbers
     (lists_of c.self.inside.rings c.self.inside.outboxes) c.self.inside.calls (ran c.self.inside.steps.count c.self.inside.cuts c.self.inside.jumps)
-    c.args.self.now c.args.into c.args.pool c.in-Some.packet c.self.view_is c.self.invariant c.requires.empty c.requires.pools c.in-Some.ensures.packets
+    c.args.self.now c.args.into c.args.pool c.in-Some.packet c.self.view_is c.self.invariant c.requires.empty c.requires.pools
+    (rw c.from.ensures at c.in-Some.ensures.packets)
 
 pub invariant_of-self-in-Some : goal.invariant_of-self-in-Some
 invariant_of-self-in-Some c =
     let t = given (goal.at.invariant_of-self-in-Some c).In-Some in
-    rw (c.of.ensures, c.number.ensures, c.number-in-Some.ensures.same) t.stand
+    rw (c.of.ensures, c.number.ensures, c.from-in-Some.ensures, c.number-in-Some.ensures.same) t.stand
 
 pub returns-in-Some-clause-denied : goal.returns-in-Some-clause-denied
 returns-in-Some-clause-denied c =
@@ -31,11 +32,12 @@ returns-in-Some-clause-denied c =
 pub returns-in-Some-clause-given : goal.returns-in-Some-clause-given
 returns-in-Some-clause-given c _ =
     let t = given (goal.at.returns-in-Some-clause-given c).In-Some in
-    rw (c.of.ensures, c.number.ensures, c.number-in-Some.ensures.same, c.alloc.ensures.zones) (t.ns, t.buffers, t.fresh, t.changes, t.state)
+    rw (c.of.ensures, c.number.ensures, c.from-in-Some.ensures, c.number-in-Some.ensures.same, c.alloc.ensures.zones)
+    (t.ns, t.buffers, t.fresh, t.changes, t.state)
 
 pub returns-in-None-clause-denied : goal.returns-in-None-clause-denied
 returns-in-None-clause-denied c =
     sym (too_few (setting_of c.args.env.now [] c.args.pattern.now) _ _ _ c.self.inside.registers c.self.inside.numbers
     (lists_of c.self.inside.rings c.self.inside.outboxes) c.self.inside.calls (ran c.self.inside.steps.count c.self.inside.cuts c.self.inside.jumps)
     c.args.self.now c.args.pool 1 (allocated (c.self.inside.mbufs.store).pools) ChangesOnly c.self.view_is c.self.invariant c.requires.pools
-    (sym c.if-is_listed.ensures) c.in-None.ensures.packets)
+    (sym c.if-is_listed.ensures) (rw c.from.ensures at c.in-None.ensures.packets))

@@ -40,11 +40,11 @@ pub invariant_of-self : goal.invariant_of-self
 invariant_of-self c =
     let (k, t, holds, holds', ne, _) = c.requires in
     let (front, back) = both (goal.at.invariant_of-self c).After-handle_in-tail k t holds holds' in
-    rw (c.number.ensures.same, c.empty.ensures) ((chained _ _ _ _ _ _ _ _ _ c.args.front c.args.back _ _ k t c.self.view_is c.self.invariant ne front back
-    c.chain.ensures.packets).stand)
+    rw (c.from.ensures, c.number.ensures.same, c.empty.ensures) ((chained _ _ _ _ _ _ _ _ _ c.args.front c.args.back _ _ k t c.self.view_is
+    c.self.invariant ne front back c.chain.ensures.packets).stand)
 
 pub returns : goal.returns
 returns c k t holds holds' =
     let (front, back) = both (goal.at.returns c).After-handle_in-tail k t holds holds' in
-    rw (c.number.ensures.same, c.empty.ensures, c.chain.ensures.zones)
+    rw (c.from.ensures, c.number.ensures.same, c.empty.ensures, c.chain.ensures.zones)
     ((chained _ _ _ _ _ _ _ _ _ c.args.front c.args.back _ _ k t c.self.view_is c.self.invariant c.requires.4 front back c.chain.ensures.packets).state)

@@ -25,7 +25,7 @@ given c k h =
     taken (setting_of c.args.env.now [] c.args.pattern.now) _ _ _ c.self.inside.registers c.self.inside.numbers
     (lists_of c.self.inside.rings c.self.inside.outboxes) c.self.inside.calls (ran c.self.inside.steps.count c.self.inside.cuts c.self.inside.jumps)
     c.args.self.now c.args.into c.args.pool (length k) c.in-Some.packet (λ ns. cloned ns k) (λ ns old new. new ≡ old) c.self.view_is c.self.invariant
-    c.requires.empty c.requires.pools (c.in-Some.ensures.packets k h.has)
+    c.requires.empty c.requires.pools (rw c.from.ensures at (c.in-Some.ensures.packets k h.has))
 
 pub handle_in-source-requires : goal.handle_in-source-requires
 handle_in-source-requires c = handle _ _ _ _ _ _ _ _ c.args.from c.requires.holds.0 c.self.view_is c.requires.holds.1
@@ -39,7 +39,8 @@ pub invariant_of-self-in-Some : goal.invariant_of-self-in-Some
 invariant_of-self-in-Some c =
     let here = goal.at.invariant_of-self-in-Some c in
     let (k, holds) = c.requires.holds in
-    rw (c.of.ensures, c.number.ensures, c.number-in-Some.ensures.same) (given here.In-Some k (there here.After-handle_in-source k holds)).stand
+    rw (c.of.ensures, c.number.ensures, c.from-in-Some.ensures, c.number-in-Some.ensures.same)
+    (given here.In-Some k (there here.After-handle_in-source k holds)).stand
 
 pub invariant_of-self-in-None : goal.invariant_of-self-in-None
 invariant_of-self-in-None c =
@@ -56,7 +57,7 @@ pub returns-in-Some-clause-given : goal.returns-in-Some-clause-given
 returns-in-Some-clause-given c _ k holds =
     let here = goal.at.returns-in-Some-clause-given c in
     let t = given here.In-Some k (there here.After-handle_in-source k holds) in
-    rw (c.of.ensures, c.number.ensures, c.number-in-Some.ensures.same, c.clone_of.ensures.zones) (
+    rw (c.of.ensures, c.number.ensures, c.from-in-Some.ensures, c.number-in-Some.ensures.same, c.clone_of.ensures.zones) (
       t.ns,
       t.fresh,
       keeps_bytes _ _ _ _ _ t.changes t.state,
@@ -68,7 +69,7 @@ returns-in-None-clause-denied c k holds =
     sym (too_few (setting_of c.args.env.now [] c.args.pattern.now) _ _ _ c.self.inside.registers c.self.inside.numbers
     (lists_of c.self.inside.rings c.self.inside.outboxes) c.self.inside.calls (ran c.self.inside.steps.count c.self.inside.cuts c.self.inside.jumps)
     c.args.self.now c.args.pool (length k) (λ ns. cloned ns k) (λ ns old new. new
-    ≡ old) c.self.view_is c.self.invariant c.requires.pools (sym c.if-is_listed.ensures) (c.in-None.ensures.packets k h.has))
+    ≡ old) c.self.view_is c.self.invariant c.requires.pools (sym c.if-is_listed.ensures) (rw c.from.ensures at (c.in-None.ensures.packets k h.has)))
 
 pub returns-in-None-clause-refused : goal.returns-in-None-clause-refused
 returns-in-None-clause-refused c _ =

@@ -24,7 +24,7 @@ invariant_of-self-2 c =
     let at = entries_at c.self.inside.rings c.args.ring (ring_there _ _ _ _ _ _ _ _ _ c.self.view_is c.args.ring c.requires.there) in
     let more =
     pushed c.self.inside.rings c.push.new.self c.args.ring c.number.result _ c.push.ensures.rings (sym c.if-not-push.ensures.taken) in
-    rw (more.lists, c.number.ensures, c.number-2.ensures.same, c.empty.ensures)
+    rw (more.lists, c.number.ensures, c.from.ensures, c.number-2.ensures.same, c.empty.ensures)
     (stand_queued _ c.self.inside.registers lists c.args.p c.handle_in-packet.result c.args.ring _ there.here at c.self.invariant)
 
 pub returns-clause-taken : goal.returns-clause-taken
@@ -38,5 +38,5 @@ returns-clause-queued c _ k packets holds list =
     let at = entries_at c.self.inside.rings c.args.ring (ring_there _ _ _ _ _ _ _ _ _ c.self.view_is c.args.ring c.requires.there) in
     let more =
     pushed c.self.inside.rings c.push.new.self c.args.ring c.number.result _ c.push.ensures.rings (sym c.if-not-push.ensures.taken) in
-    rw (more.frames, more.lists, c.number.ensures, c.number-2.ensures.same, c.empty.ensures)
+    rw (more.frames, more.lists, c.number.ensures, c.from.ensures, c.number-2.ensures.same, c.empty.ensures)
     (queues _ _ _ _ lists _ _ _ c.args.p c.handle_in-packet.result c.args.ring _ k packets c.self.view_is at list there)

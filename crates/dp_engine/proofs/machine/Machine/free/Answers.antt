@@ -14,7 +14,7 @@ pub invariant_of-self : goal.invariant_of-self
 invariant_of-self c =
     let (k, holds) = c.requires in
     let there = held _ _ _ _ _ _ _ _ c.args.p c.handle_in-packet.result k c.self.view_is c.self.invariant c.handle_in-packet.ensures holds in
-    rw (c.free.ensures.packets, c.number.ensures.same, c.empty.ensures)
+    rw (c.free.ensures.packets, c.from.ensures, c.number.ensures.same, c.empty.ensures)
     (stand_freed _ c.self.inside.registers (lists_of c.self.inside.rings c.self.inside.outboxes) c.args.p c.handle_in-packet.result k there.has there.here
     c.self.invariant)
 
@@ -30,6 +30,7 @@ returns c =
     rw (
       c.free.ensures.packets,
       c.free.ensures.zones,
+      c.from.ensures,
       c.number.ensures.same,
       c.empty.ensures,
     ) (frees _ _ _ _ _ _ _ _ c.args.p c.handle_in-packet.result k c.self.view_is there)

@@ -26,7 +26,7 @@ returns-in-Some-clause-denied c = sym ((taken (goal.at.returns-in-Some-clause-de
 
 pub returns-in-Some-clause-received : goal.returns-in-Some-clause-received
 returns-in-Some-clause-received c _ =
-    rw (c.one_packet-self-inside.ensures, c.number.ensures) (taken (goal.at.returns-in-Some-clause-received c).In-Some).state
+    rw (c.one_packet-self-inside.ensures, c.number.ensures, c.from.ensures) (taken (goal.at.returns-in-Some-clause-received c).In-Some).state
 
 pub returns-in-None-clause-denied : goal.returns-in-None-clause-denied
 returns-in-None-clause-denied c =

@@ -30,5 +30,5 @@ returns c =
     let rest = popped c.self.inside.rings c.pop.new.self c.in_ok-ring.ring c.pop.ensures.rest in
     let first = found c.self.inside.mbufs.store.slots c.self.inside.rings c.in_ok-ring.ring (sym c.in_ok-ring.ensures.value) in
     let at = first_of (ring_at c.self.inside.rings c.in_ok-ring.ring).entries c.in-Some.packet c.in-Some.ensures.first in
-    rw (c.one_packet-self-inside.ensures, rest.frames, rest.lists)
+    rw (c.one_packet-self-inside.ensures, rest.frames, rest.lists, c.from.ensures)
     (starts_first _ _ _ _ c.self.inside.rings _ _ steps c.args.self.now c.in_ok-ring.ring c.in-Some.packet _ c.self.view_is first at)

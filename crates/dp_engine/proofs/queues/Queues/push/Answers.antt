@@ -11,7 +11,7 @@ use Rattle.dp_engine.proofs.queues.Queues.push.Goals.{else-is_taken-via-then-is_
 
 -- whether the entry is taken
 taken : (c : After-push_in-is_taken) → c.push_in-is_taken.result ≡ nat_lt 0 (room_in (ring_at c.args.self.now c.args.k))
-taken c = c.push_in-is_taken.ensures.taken ∙ ap (λ r. nat_lt 0 (room_in r)) (ring_is _ _ c.self.view_is c.self.invariant.0 c.args.k _ c.requires)
+taken c = c.push_in-is_taken.ensures.taken ∙ ap (λ r. nat_lt 0 (room_in r)) (ring_is _ _ c.self.view_is c.self.invariant.0 _ _ _ c.from.ensures c.requires)
 
 -- the number of the first ring that waits, before the entry and behind it
 first : (c : After-push_in-is_taken) → c.self.inside.first ≡ first_slot c.args.self.now
@@ -21,44 +21,42 @@ put : (c : After-push_in-is_taken) → IsPut c.args.self.now c.args.k c.args.ent
 put c = put_is c.args.self.now c.args.k c.args.entry c.push_in-is_taken.result c.requires (taken c)
 
 pub listed : goal.listed
-listed c = (ring_listed _ _ c.self.view_is c.self.invariant.0 c.args.k c.requires).0
+listed c = (ring_listed _ _ c.self.view_is c.self.invariant.0 _ _ c.from.ensures c.requires).0
 
-pub bounds-self-inside-k : goal.bounds-self-inside-k
-bounds-self-inside-k c = (ring_listed _ _ c.self.view_is c.self.invariant.0 c.args.k c.requires).1
+pub bounds-self-inside-from : goal.bounds-self-inside-from
+bounds-self-inside-from c = (ring_listed _ _ c.self.view_is c.self.invariant.0 _ _ c.from.ensures c.requires).1
 
 pub push_in-is_taken-requires : goal.push_in-is_taken-requires
-push_in-is_taken-requires c = has_ring _ _ c.self.view_is c.self.invariant.0 c.args.k _ c.requires
+push_in-is_taken-requires c = has_ring _ _ c.self.view_is c.self.invariant.0 _ _ _ c.from.ensures c.requires
 
 pub invariant_of-self : goal.invariant_of-self
 invariant_of-self c =
     let here = (goal.at.invariant_of-self c).After-push_in-is_taken in
-    renewed _ _ c.self.view_is c.self.invariant.0 c.args.k _ c.push_in-is_taken.new.slot
-    (λ (r : RingView). if nat_lt 0 (room_in r) then with_more r (c.args.entry ∷ []) else r)
-    c.self.inside.count c.args.k c.requires c.push_in-is_taken.ensures.ring c.self.invariant.1
+    renewed _ _ c.self.view_is c.self.invariant.0 _ _ _ _ (λ (r : RingView). if nat_lt 0 (room_in r) then with_more r (c.args.entry ∷ []) else r)
+    c.self.inside.count c.args.k c.from.ensures c.requires c.push_in-is_taken.ensures.ring c.self.invariant.1
     ((put here).earlier c.if-is_taken.true (omega (arith, first here, c.if-k-self.true)))
 
 pub invariant_of-self-else-k-self : goal.invariant_of-self-else-k-self
 invariant_of-self-else-k-self c =
     let here = (goal.at.invariant_of-self-else-k-self c).After-push_in-is_taken in
-    renewed _ _ c.self.view_is c.self.invariant.0 c.args.k _ c.push_in-is_taken.new.slot
-    (λ (r : RingView). if nat_lt 0 (room_in r) then with_more r (c.args.entry ∷ []) else r)
-    c.self.inside.count c.self.inside.first c.requires c.push_in-is_taken.ensures.ring c.self.invariant.1
+    renewed _ _ c.self.view_is c.self.invariant.0 _ _ _ _ (λ (r : RingView). if nat_lt 0 (room_in r) then with_more r (c.args.entry ∷ []) else r)
+    c.self.inside.count c.self.inside.first c.from.ensures c.requires c.push_in-is_taken.ensures.ring c.self.invariant.1
     (first here ∙ (put here).later c.if-is_taken.true (omega (arith, first here, c.if-k-self.false)))
 
 pub invariant_of-self-else-is_taken : goal.invariant_of-self-else-is_taken
 invariant_of-self-else-is_taken c =
     let here = (goal.at.invariant_of-self-else-is_taken c).After-push_in-is_taken in
-    renewed _ _ c.self.view_is c.self.invariant.0 c.args.k _ c.push_in-is_taken.new.slot
-    (λ (r : RingView). if nat_lt 0 (room_in r) then with_more r (c.args.entry ∷ []) else r)
-    c.self.inside.count c.self.inside.first c.requires c.push_in-is_taken.ensures.ring c.self.invariant.1 (first here ∙ (put here).full c.if-is_taken.false)
+    renewed _ _ c.self.view_is c.self.invariant.0 _ _ _ _ (λ (r : RingView). if nat_lt 0 (room_in r) then with_more r (c.args.entry ∷ []) else r)
+    c.self.inside.count c.self.inside.first c.from.ensures c.requires c.push_in-is_taken.ensures.ring c.self.invariant.1
+    (first here ∙ (put here).full c.if-is_taken.false)
 
 pub returns-then-k-self-clause-taken : goal.returns-then-k-self-clause-taken
 returns-then-k-self-clause-taken c = taken (goal.at.returns-then-k-self-clause-taken c).After-push_in-is_taken
 
 pub returns-then-k-self-clause-rings : goal.returns-then-k-self-clause-rings
 returns-then-k-self-clause-rings c =
-    (changed _ _ c.self.view_is c.self.invariant.0 c.args.k _ c.push_in-is_taken.new.slot
-    (λ r. if nat_lt 0 (room_in r) then with_more r (c.args.entry ∷ []) else r) c.requires c.push_in-is_taken.ensures.ring).1
+    (changed _ _ c.self.view_is c.self.invariant.0 _ _ _ _ (λ r. if nat_lt 0 (room_in r) then with_more r (c.args.entry ∷ []) else r)
+    c.from.ensures c.requires c.push_in-is_taken.ensures.ring).1
     ∙ set_where (nat_lt 0 (room_in (ring_at c.args.self.now c.args.k))) c.args.self.now c.args.k
     (with_more (ring_at c.args.self.now c.args.k) (c.args.entry ∷ []))
 
@@ -68,8 +66,8 @@ returns-else-is_taken-clause-taken c = taken (goal.at.returns-else-is_taken-clau
 pub returns-else-is_taken-clause-rings : goal.returns-else-is_taken-clause-rings
 returns-else-is_taken-clause-rings c =
     let now =
-    (changed _ _ c.self.view_is c.self.invariant.0 c.args.k _ c.push_in-is_taken.new.slot
-    (λ r. if nat_lt 0 (room_in r) then with_more r (c.args.entry ∷ []) else r) c.requires c.push_in-is_taken.ensures.ring).1
+    (changed _ _ c.self.view_is c.self.invariant.0 _ _ _ _ (λ r. if nat_lt 0 (room_in r) then with_more r (c.args.entry ∷ []) else r)
+    c.from.ensures c.requires c.push_in-is_taken.ensures.ring).1
     ∙ set_where (nat_lt 0 (room_in (ring_at c.args.self.now c.args.k))) c.args.self.now c.args.k
     (with_more (ring_at c.args.self.now c.args.k) (c.args.entry ∷ [])) in
     elim c.else-is_taken.branch [
