@@ -13,9 +13,9 @@ pub(crate) fn read_number(bytes: &[u8], width: Width) -> u64
     ensures { result ≡ spelled (take (bytes_in width) bytes.now) }
 {
     match width {
-        Width::One => bytes[0] as u64,
-        Width::Two => BigEndian::read_u16(bytes) as u64,
-        Width::Four => BigEndian::read_u32(bytes) as u64,
+        Width::One => u64::from(bytes[0]),
+        Width::Two => u64::from(BigEndian::read_u16(bytes)),
+        Width::Four => u64::from(BigEndian::read_u32(bytes)),
         Width::Eight => BigEndian::read_u64(bytes),
     }
 }

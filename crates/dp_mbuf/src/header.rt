@@ -83,7 +83,7 @@ pub(crate) fn read_header(object: &[u8]) -> Header
 {
     Header {
         segs: read_word(object, SEGS),
-        refs: read_word(object, REFS) as u32 + read_word(object, REFS + 2) as u32 * WORDS,
+        refs: u32::from(read_word(object, REFS)) + u32::from(read_word(object, REFS + 2)) * WORDS,
         offset: read_word(object, OFFSET),
         len: read_word(object, LEN),
         next: MbufNumber::new(read_word(object, NEXT), read_word(object, NEXT + 2)),

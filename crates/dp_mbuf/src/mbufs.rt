@@ -58,7 +58,7 @@ fn first_number(packet: &Packet) -> MbufNumber
 fn packet_of(mbuf: MbufNumber) -> Packet
     ensures { result ≡ handle mbuf }
 {
-    Packet::of(mbuf.pool() as u32 * POOL_HANDLES + mbuf.index() as u32)
+    Packet::of(u32::from(mbuf.pool()) * POOL_HANDLES + u32::from(mbuf.index()))
 }
 
 // The header of a packet's first mbuf.
@@ -85,7 +85,7 @@ fn count_needed(len: usize, full: u16) -> usize
     requires { 1 ≤ full }
     ensures { result ≡ max 1 ((len + (full - 1)) / full) }
 {
-    len.div_ceil(full as usize).max(1)
+    len.div_ceil(usize::from(full)).max(1)
 }
 
 // The number of a packet's `k`-th mbuf.
@@ -108,8 +108,8 @@ fn bytes_in_segment(objects: &Objects, header: Header) -> &[u8]
     ensures value { result.now ≡ slice_range (bytes_of (buffers_of objects.now) header.buffer) header.offset (header.offset + header.len) }
     ensures many { length result.now ≡ header.len }
 {
-    let from = header.offset as usize;
-    &objects.bytes(header.buffer)[from..from + header.len as usize]
+    let from = usize::from(header.offset);
+    &objects.bytes(header.buffer)[from..from + usize::from(header.len)]
 }
 
 impl Mbufs {
@@ -162,7 +162,7 @@ impl Mbufs {
         ensures { IsTrue result ↔ IsLive self.now.store packet.now }
     {
         let mbuf = first_number(packet);
-        (mbuf.index() as u32) < self.objects.count(mbuf.pool())
+        u32::from(mbuf.index()) < self.objects.count(mbuf.pool())
             && self.objects.header(mbuf).segs != 0
     }
 
@@ -190,7 +190,7 @@ impl Mbufs {
         requires { IsLive self.now.store packet.now }
         ensures { Of self.now.store packet.now (λ k. result ≡ length k) }
     {
-        first_header(&self.objects, packet).segs as u32
+        u32::from(first_header(&self.objects, packet).segs)
     }
 
     /// The length of the last segment.
@@ -293,7 +293,7 @@ impl Mbufs {
         ensures zones { self.new.zones ≡ self.old.zones }
     {
         let head = first_header(&self.objects, packet);
-        let at = head.offset as u32 + offset as u32;
+        let at = u32::from(head.offset) + offset as u32;
         self.objects.write_number(head.buffer, at, width, n);
     }
 
@@ -308,7 +308,8 @@ impl Mbufs {
         let offset = head.offset - n;
         self.objects
             .set_bounds(first_number(packet), offset, head.len + n);
-        self.objects.zero(head.buffer, offset as u32, n as u32);
+        self.objects
+            .zero(head.buffer, u32::from(offset), u32::from(n));
     }
 
     /// Makes the last segment `n` bytes longer; the new bytes are 0.
@@ -321,7 +322,8 @@ impl Mbufs {
         let last = first_header(&self.objects, packet).last;
         let tail = self.objects.header(last);
         self.objects.set_bounds(last, tail.offset, tail.len + n);
-        self.objects.zero(tail.buffer, tail.offset as u32 + tail.len as u32, n as u32);
+        let end = u32::from(tail.offset) + u32::from(tail.len);
+        self.objects.zero(tail.buffer, end, u32::from(n));
     }
 
     /// Puts the second packet's segments behind the first's.
@@ -353,7 +355,7 @@ impl Mbufs {
         ensures zones { self.new.zones ≡ self.old.zones }
     {
         let source = first_header(&self.objects, packet);
-        if self.objects.available(pool as u16) < source.segs as u32 {
+        if self.objects.available(pool as u16) < u32::from(source.segs) {
             return None;
         }
         let first = clone_segment(&mut self.objects, first_number(packet), pool as u16);
@@ -421,7 +423,7 @@ impl Mbufs {
         let mut total = 0u32;
         for i in 0..segs {
             let segment = self.objects.header(mbuf);
-            total += segment.len as u32;
+            total += u32::from(segment.len);
             mbuf = segment.next;
         }
         total
@@ -442,12 +444,12 @@ impl Mbufs {
         }
         let first = fill_segment(&mut self.objects, pool as u16, full, bytes);
         let mut last = first;
-        let mut rest = behind(bytes, full as usize);
+        let mut rest = behind(bytes, usize::from(full));
         for i in 1..need {
             let mbuf = fill_segment(&mut self.objects, pool as u16, full, rest);
             relink(&mut self.objects, last, mbuf);
             last = mbuf;
-            rest = behind(rest, full as usize);
+            rest = behind(rest, usize::from(full));
         }
         hook(&mut self.objects, first, need as u16, last);
         Some(packet_of(first))

@@ -47,7 +47,7 @@ fn pool_at(pools: &[Option<Pool>; MAX_POOLS], k: u16) -> &Pool
     ensures value { result.now ≡ pool_in (present pools.now) k }
     ensures rooms { HasRooms result.now }
 {
-    match &pools[k as usize] {
+    match &pools[usize::from(k)] {
         Some(pool) => pool,
         None => unreachable!(),
     }
@@ -61,7 +61,7 @@ fn write_in(slot: &mut Option<Pool>, index: u16, at: u32, bytes: &[u8])
     ensures small { (k : ℕ) → slice_index bytes.now k < 256 }
 {
     if let Some(pool) = slot {
-        pool.write(index as u32, at, bytes);
+        pool.write(u32::from(index), at, bytes);
     }
 }
 
@@ -72,7 +72,7 @@ fn write_words_in(slot: &mut Option<Pool>, index: u16, at: usize, x: u16, y: u16
     ensures { SlotBecomes (λ p. with_written p index at (then_word x (then_word y []))) slot.old slot.new }
 {
     if let Some(pool) = slot {
-        write_words(pool.object_mut(index as u32), at, x, y);
+        write_words(pool.object_mut(u32::from(index)), at, x, y);
     }
 }
 
@@ -84,7 +84,7 @@ fn write_hook_in(slot: &mut Option<Pool>, index: u16, segs: u16, last: MbufNumbe
     ensures small { (last.pool < WORDS) × (last.index < WORDS) }
 {
     if let Some(pool) = slot {
-        write_hook(pool.object_mut(index as u32), segs, last);
+        write_hook(pool.object_mut(u32::from(index)), segs, last);
     }
 }
 
@@ -95,7 +95,7 @@ fn write_number_in(slot: &mut Option<Pool>, index: u16, at: usize, width: Width,
     ensures { SlotBecomes (λ p. with_written p index at (big_endian (bytes_in width) n)) slot.old slot.new }
 {
     if let Some(pool) = slot {
-        write_number(pool.object_mut(index as u32), at, width, n);
+        write_number(pool.object_mut(u32::from(index)), at, width, n);
     }
 }
 
@@ -106,7 +106,7 @@ fn zero_in(slot: &mut Option<Pool>, index: u16, at: usize, len: usize)
     ensures { SlotBecomes (λ p. with_written p index at (replicate len 0)) slot.old slot.new }
 {
     if let Some(pool) = slot {
-        pool.object_mut(index as u32)[at..at + len].fill(0);
+        pool.object_mut(u32::from(index))[at..at + len].fill(0);
     }
 }
 
@@ -117,7 +117,7 @@ fn put_in(slot: &mut Option<Pool>, index: u16)
     ensures { SlotBecomes (λ p. put_back p index) slot.old slot.new }
 {
     if let Some(pool) = slot {
-        pool.put(index as u32);
+        pool.put(u32::from(index));
     }
 }
 
@@ -209,7 +209,7 @@ impl Objects {
         requires { HasObject self.now n }
         ensures { result ≡ header_at self.now n }
     {
-        read_header(pool_at(&self.pools, n.pool()).object(n.index() as u32))
+        read_header(pool_at(&self.pools, n.pool()).object(u32::from(n.index())))
     }
 
     /// How many objects a pool has; 0 where there is no such pool.
@@ -217,7 +217,7 @@ impl Objects {
         ensures { result ≡ length (pool_in self.now pool).objects }
     {
         let pools = &self.pools;
-        let k = pool as usize;
+        let k = usize::from(pool);
         if k >= MAX_POOLS {
             return 0;
         }
@@ -240,7 +240,7 @@ impl Objects {
         ensures value { result.now ≡ bytes_of (buffers_of self.now) n }
         ensures room { length result.now ≡ room_at (specs_of self.now) n.pool }
     {
-        &pool_at(&self.pools, n.pool()).object(n.index() as u32)[HEADER_SIZE as usize..]
+        &pool_at(&self.pools, n.pool()).object(u32::from(n.index()))[HEADER_SIZE as usize..]
     }
 
     /// How many objects of a pool are in.
@@ -267,7 +267,7 @@ impl Objects {
         ensures long { HEADER_SIZE ≤ length (object_in (pool_in self.old n.pool) n.index) }
         ensures written { HeaderSet self.old n (header_with self.old n at bytes.now) self.new }
     {
-        write_in(&mut self.pools[n.pool() as usize], n.index(), at, bytes);
+        write_in(&mut self.pools[usize::from(n.pool())], n.index(), at, bytes);
     }
 
     // Writes two numbers over some of an object's first bytes, one behind the other.
@@ -278,7 +278,7 @@ impl Objects {
         ensures long { HEADER_SIZE ≤ length (object_in (pool_in self.old n.pool) n.index) }
         ensures written { HeaderSet self.old n (header_with self.old n at (then_word x (then_word y []))) self.new }
     {
-        write_words_in(&mut self.pools[n.pool() as usize], n.index(), at, x, y);
+        write_words_in(&mut self.pools[usize::from(n.pool())], n.index(), at, x, y);
     }
 
     /// Writes a header.
@@ -333,7 +333,8 @@ impl Objects {
         requires { HasObject self.old n }
         ensures { HeaderSet self.old n (record (header_at self.old n) { segs = segs; last = last }) self.new }
     {
-        write_hook_in(&mut self.pools[n.pool() as usize], n.index(), segs, last);
+        let slot = &mut self.pools[usize::from(n.pool())];
+        write_hook_in(slot, n.index(), segs, last);
     }
 
     /// Writes bytes behind a header from an offset on.
@@ -344,7 +345,7 @@ impl Objects {
         ensures { RoomWritten self.old n at bytes.now self.new }
     {
         write_in(
-            &mut self.pools[n.pool() as usize],
+            &mut self.pools[usize::from(n.pool())],
             n.index(),
             HEADER_SIZE + at,
             bytes,
@@ -358,7 +359,7 @@ impl Objects {
         requires fits { at + bytes_in width ≤ room_at (specs_of self.old) n.pool }
         ensures { RoomWritten self.old n at (big_endian (bytes_in width) number) self.new }
     {
-        let slot = &mut self.pools[n.pool() as usize];
+        let slot = &mut self.pools[usize::from(n.pool())];
         let from = HEADER_SIZE as usize + at as usize;
         write_number_in(slot, n.index(), from, width, number);
     }
@@ -370,7 +371,7 @@ impl Objects {
         requires fits { at + len ≤ room_at (specs_of self.old) n.pool }
         ensures { RoomWritten self.old n at (replicate len 0) self.new }
     {
-        let slot = &mut self.pools[n.pool() as usize];
+        let slot = &mut self.pools[usize::from(n.pool())];
         let from = HEADER_SIZE as usize + at as usize;
         zero_in(slot, n.index(), from, len as usize);
     }
@@ -381,7 +382,7 @@ impl Objects {
         requires { pool < length self.old }
         ensures { MatchOption result ((count_in self.old pool ≡ 0) × (self.new ≡ self.old)) (λ n. (n.pool ≡ pool) × Taken self.old n self.new) }
     {
-        let index = get_in(&mut self.pools[pool as usize])?;
+        let index = get_in(&mut self.pools[usize::from(pool)])?;
         Some(MbufNumber::new(pool, index))
     }
 
@@ -391,7 +392,7 @@ impl Objects {
         requires { is_out self.old n ≡ true }
         ensures { Given self.old n self.new }
     {
-        put_in(&mut self.pools[n.pool() as usize], n.index());
+        put_in(&mut self.pools[usize::from(n.pool())], n.index());
     }
 
     /// The pools again.

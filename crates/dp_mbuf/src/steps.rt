@@ -158,11 +158,11 @@ pub(crate) fn fill_segment(objects: &mut Objects, pool: u16, full: u16, bytes: &
     ensures pool { result.pool ≡ pool }
     ensures filled { FilledBy objects.old result (take full bytes.now) objects.new }
 {
-    let count = bytes.len().min(full as usize);
+    let count = bytes.len().min(usize::from(full));
     let chunk = &bytes[..count];
     let n = take_one(objects, pool);
     let header = fresh_header(n, HEADROOM, chunk.len() as u16);
     objects.set_header(n, header);
-    objects.write(n, HEADROOM as u32, chunk);
+    objects.write(n, u32::from(HEADROOM), chunk);
     n
 }

@@ -7,19 +7,19 @@ use Rattle.dp_mbuf.proofs.objects.pool_at.Goals as goal
 pub listed : goal.listed
 listed c = omega (arith, c.requires.there, present_below c.args.pools.now)
 
-pub bounds-pools-k : goal.bounds-pools-k
-bounds-pools-k c = omega (arith, c.requires.there, c.type_inv.pools, present_below c.args.pools.now)
+pub bounds-pools-from : goal.bounds-pools-from
+bounds-pools-from c = omega (arith, c.requires.there, c.type_inv.pools, present_below c.args.pools.now)
 
 pub unreachable-requires : goal.unreachable-requires
 unreachable-requires c =
-    let e = present_at c.args.pools.now c.args.k c.index-pools-k.result c.requires.there in cc
+    let e = present_at c.args.pools.now c.args.k c.index-pools-from.result c.requires.there in cc
 
 pub returns-clause-value : goal.returns-clause-value
 returns-clause-value c =
-    let e = present_at c.args.pools.now c.args.k c.index-pools-k.result c.requires.there in cc
+    let e = present_at c.args.pools.now c.args.k c.index-pools-from.result c.requires.there in cc
 
 pub returns-clause-rooms : goal.returns-clause-rooms
 returns-clause-rooms c =
-    let some = present_at c.args.pools.now c.args.k c.index-pools-k.result c.requires.there in
+    let some = present_at c.args.pools.now c.args.k c.index-pools-from.result c.requires.there in
     let e : c.in-Some.pool ≡ pool_in (present c.args.pools.now) c.args.k = cc in
     subst HasRooms (sym e) (first_at c.args.pools.now c.args.k c.requires.first c.requires.there)

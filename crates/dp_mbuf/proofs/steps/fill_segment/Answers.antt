@@ -8,7 +8,7 @@ use Rattle.dp_mbuf.proofs.steps.fill_segment.Goals as goal
 pub returns-clause-filled : goal.returns-clause-filled
 returns-clause-filled c =
     let chunk : take c.min-count.result c.args.bytes.now ≡ take c.args.full c.args.bytes.now =
-    ap (λ n. take n c.args.bytes.now) (c.min-count.ensures ∙ same_min (length c.args.bytes.now) c.args.full)
+    ap (λ n. take n c.args.bytes.now) ((rw c.from.ensures at c.min-count.ensures) ∙ same_min (length c.args.bytes.now) c.args.full)
     ∙ take_min c.args.full c.args.bytes.now in
     subst (λ b. FilledBy c.args.objects.now c.take_one-n.result b c.write.new.self) chunk
     (record {
@@ -16,5 +16,5 @@ returns-clause-filled c =
       second = c.set_header.new.self;
       taken = c.take_one-n.ensures.taken;
       header = rw c.fresh_header-header.ensures at c.set_header.ensures;
-      bytes_in = c.write.ensures;
+      bytes_in = rw c.from-2.ensures at c.write.ensures;
     })

@@ -52,20 +52,22 @@ pub invariant_of-self : goal.invariant_of-self
 invariant_of-self c =
     let b = (free (goal.at.invariant_of-self c).After-header-tail).0 in
     let set = rw c.first_header-last.ensures at c.set_bounds.ensures in
+    let zeros = rw (c.from.ensures, c.from-2.ensures, c.from-3.ensures) at c.zero.ensures in
     (appended_done _ _ c.args.packet.now (same_store c.self.view_is) c.self.invariant _ _ _ c.args.n _
     (last (goal.at.invariant_of-self c).After-header-tail) (
       c.requires.0,
       c.requires.1,
       tt,
-    ) b refl set c.zero.ensures).0
+    ) b refl set zeros).0
 
 pub returns-clause-packets : goal.returns-clause-packets
 returns-clause-packets c =
     let b = (free (goal.at.returns-clause-packets c).After-header-tail).0 in
     let set = rw c.first_header-last.ensures at c.set_bounds.ensures in
+    let zeros = rw (c.from.ensures, c.from-2.ensures, c.from-3.ensures) at c.zero.ensures in
     (appended_done _ _ c.args.packet.now (same_store c.self.view_is) c.self.invariant _ _ _ c.args.n _
     (last (goal.at.returns-clause-packets c).After-header-tail) (
       c.requires.0,
       c.requires.1,
       tt,
-    ) b refl set c.zero.ensures).1
+    ) b refl set zeros).1

@@ -17,7 +17,7 @@ opening c p has =
     record {
       before = b;
       segs_are = segs ∙ b.segs;
-      enough = omega (arith, c.if-available-source.false, c.available.ensures, segs, b.segs, b.in_pool);
+      enough = omega (arith, c.if-available-from.false, c.available.ensures, segs, b.segs, b.in_pool);
     }
 
 -- the same, of the packet that there is
@@ -28,11 +28,11 @@ found c = opening c c.requires.live.0 c.requires.live.1
 pub first_header-source-requires : goal.first_header-source-requires
 first_header-source-requires c = live_object _ _ c.args.packet.now (same_store c.self.view_is) c.self.invariant c.requires.live
 
-pub returns-then-available-source-clause-packets : goal.returns-then-available-source-clause-packets
-returns-then-available-source-clause-packets c = λ k has.
+pub returns-then-available-from-clause-packets : goal.returns-then-available-from-clause-packets
+returns-then-available-from-clause-packets c = λ k has.
     let b = before _ _ c.args.packet.now c.args.pool (same_store c.self.view_is) c.self.invariant c.requires.exists k has in
     let segs = ap (λ x. x.segs) c.first_header-source.ensures in
-    (omega (arith, c.if-available-source.true, c.available.ensures, segs, b.segs, b.in_pool), refl)
+    (omega (arith, c.if-available-from.true, c.available.ensures, segs, b.segs, b.in_pool), refl)
 
 pub clone_segment-first-requires : goal.clone_segment-first-requires
 clone_segment-first-requires c =

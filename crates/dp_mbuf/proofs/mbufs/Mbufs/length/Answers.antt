@@ -31,7 +31,7 @@ loop-i-preserved c = λ p has.
     let segs = ap (λ h. h.segs) c.first_header-segs.ensures in
     let b : c.loop-i.i < length p = omega (arith, c.loop-i-test.true, many, segs) in
     let now = c.loop-i.invariant p has in
-    rw c.header-segment.ensures (
+    rw (c.from-total.ensures, c.header-segment.ensures) (
       walk_next (header_at c.self.inside.objects) c.loop-i.mbuf c.loop-i.i p b now.0,
       length_more _ _ c.args.packet.now (same_store c.self.view_is) c.self.invariant p _ c.loop-i.i c.loop-i.total has b now.0 now.1,
     )

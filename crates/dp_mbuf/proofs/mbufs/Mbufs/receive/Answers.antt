@@ -27,7 +27,7 @@ loop-i-init c = record {
   packets =
       let r = pool_ready (goal.at.loop-i-init c).After-fill_segment-first in
       receiving_start c.args.self.now.store c.args.pool (c.room-full.result - 128) c.args.bytes.now r.room r.some _ _ _ _ r.whole r.there
-      c.fill_segment-first.ensures.pool r.specs r.buffers r.in_pool c.fill_segment-first.ensures.filled c.behind-rest.ensures;
+      c.fill_segment-first.ensures.pool r.specs r.buffers r.in_pool c.fill_segment-first.ensures.filled (rw c.from.ensures at c.behind-rest.ensures);
   zones = filled_zones _ _ _ _ c.fill_segment-first.ensures.filled ∙ same_zones c.self.view_is;
 }
 
@@ -48,7 +48,7 @@ loop-i-preserved c = record {
   packets =
       let r = pool_ready (goal.at.loop-i-preserved c).After-fill_segment-first in
       fill_done c.args.self.now.store c.args.pool (c.room-full.result - 128) c.args.bytes.now r.room r.some _ _ _ _ _ c.loop-i.invariant.packets _ _ _ _
-      c.fill_segment-mbuf.ensures.pool c.fill_segment-mbuf.ensures.filled c.relink.ensures c.behind-rest-in-loop-i.ensures;
+      c.fill_segment-mbuf.ensures.pool c.fill_segment-mbuf.ensures.filled c.relink.ensures (rw c.from-in-loop-i.ensures at c.behind-rest-in-loop-i.ensures);
   zones = c.relink.ensures.zones ∙ (filled_zones _ _ _ _ c.fill_segment-mbuf.ensures.filled ∙ c.loop-i.invariant.zones);
 }
 

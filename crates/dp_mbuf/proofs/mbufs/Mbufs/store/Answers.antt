@@ -32,9 +32,9 @@ write_number-requires-clause-fits c =
 pub invariant_of-self : goal.invariant_of-self
 invariant_of-self c =
     (stored_done _ _ c.args.packet.now (same_store c.self.view_is) c.self.invariant _ _ c.args.offset (bytes_in c.args.width) c.args.n _ _
-    c.first_header-head.ensures (c.requires.0, c.requires.1, tt) refl refl c.write_number.ensures).0
+    c.first_header-head.ensures (c.requires.0, c.requires.1, tt) refl refl (rw c.from.ensures at c.write_number.ensures)).0
 
 pub returns-clause-packets : goal.returns-clause-packets
 returns-clause-packets c =
     (stored_done _ _ c.args.packet.now (same_store c.self.view_is) c.self.invariant _ _ c.args.offset (bytes_in c.args.width) c.args.n _ _
-    c.first_header-head.ensures (c.requires.0, c.requires.1, tt) refl refl c.write_number.ensures).1
+    c.first_header-head.ensures (c.requires.0, c.requires.1, tt) refl refl (rw c.from.ensures at c.write_number.ensures)).1

@@ -10,10 +10,10 @@ pub returns-clause-value : goal.returns-clause-value
 returns-clause-value c =
     let is : c.object.result.now ≡ object_in (pool_in c.args.self.now c.args.n.pool) c.args.n.index =
     c.object.ensures.value
-    ∙ (ap (λ p. object_in p c.index.result) c.pool_at.ensures.value
-    ∙ (ap (λ v. object_in (pool_in v c.pool.result) c.index.result) c.self.view_is
-    ∙ (ap (λ k. object_in (pool_in c.args.self.now k) c.index.result) c.pool.ensures
-    ∙ ap (object_in (pool_in c.args.self.now c.args.n.pool)) c.index.ensures))) in
+    ∙ (ap (λ p. object_in p c.from.result) c.pool_at.ensures.value
+    ∙ (ap (λ v. object_in (pool_in v c.pool.result) c.from.result) c.self.view_is
+    ∙ (ap (λ k. object_in (pool_in c.args.self.now k) c.from.result) c.pool.ensures
+    ∙ ap (object_in (pool_in c.args.self.now c.args.n.pool)) (c.from.ensures ∙ c.index.ensures)))) in
     take_all _ _ (omega (arith, length-drop 128 c.object.result.now)) ∙ (ap (drop 128) is ∙ sym (bytes_are c.args.self.now c.args.n))
 
 pub returns-clause-room : goal.returns-clause-room

@@ -1,11 +1,11 @@
 -- A pool has its count of objects, and where there is no pool there are none.
-use Rattle.std.proofs.Common.{refl, ◌∙◌, sym, arith}
+use Rattle.std.proofs.Common.{◌∙◌, sym, arith}
 use Rattle.dp_mbuf.proofs.ObjectCalls.{counted, counted_none}
 use Rattle.dp_mbuf.proofs.objects.Objects.count.Goals as goal
 
 pub returns : goal.returns
 returns c =
-    c.count_in_slot.ensures ∙ counted _ _ _ c.args.pool _ c.self.view_is c.self.invariant refl (omega (arith, c.if-k-ge-MAX_POOLS.false))
+    c.count_in_slot.ensures ∙ counted _ _ _ c.args.pool _ c.self.view_is c.self.invariant c.from-k.ensures (omega (arith, c.if-k-ge-MAX_POOLS.false))
 
 pub returns-then-k-ge-MAX_POOLS : goal.returns-then-k-ge-MAX_POOLS
 returns-then-k-ge-MAX_POOLS c = sym (counted_none _ _ c.args.pool c.self.view_is c.self.invariant (omega (arith, c.if-k-ge-MAX_POOLS.true)))

@@ -1,5 +1,5 @@
 -- The words that are written are the header's number of segments and last mbuf.
-use Rattle.std.proofs.Common.{arith}
+use Rattle.std.proofs.Common.{◌∙◌, arith}
 use Rattle.dp_mbuf.proofs.ObjectCalls.{listed as pool_listed, fits, front_fits}
 use Rattle.dp_mbuf.proofs.ObjectLemmas.{object_pool}
 use Rattle.dp_mbuf.proofs.Hooking.{hook_done}
@@ -8,21 +8,21 @@ use Rattle.dp_mbuf.proofs.objects.Objects.set_hook.Goals as goal
 pub listed : goal.listed
 listed c = omega (arith, c.pool.ensures, (pool_listed _ _ c.self.view_is c.self.invariant c.args.n.pool (object_pool _ _ c.requires)).0)
 
-pub bounds-self-inside-pool : goal.bounds-self-inside-pool
-bounds-self-inside-pool c =
+pub bounds-self-inside-from : goal.bounds-self-inside-from
+bounds-self-inside-from c =
     omega (arith, c.pool.ensures, (pool_listed _ _ c.self.view_is c.self.invariant c.args.n.pool (object_pool _ _ c.requires)).1)
 
 pub write_hook_in-requires : goal.write_hook_in-requires
 write_hook_in-requires c =
-    fits _ _ c.self.view_is c.self.invariant c.args.n _ _ _ _ c.pool.ensures c.index.ensures c.requires
+    fits _ _ c.self.view_is c.self.invariant c.args.n _ _ _ _ (c.from.ensures ∙ c.pool.ensures) c.index.ensures c.requires
     (front_fits _ _ c.self.view_is c.self.invariant c.args.n 0 128 c.requires (omega arith))
 
 pub invariant_of-self : goal.invariant_of-self
 invariant_of-self c =
-    (hook_done _ _ c.self.view_is c.self.invariant c.args.n _ _ c.args.segs c.args.last _ c.write_hook_in.new.slot c.pool.ensures c.index.ensures
-    c.ranges.segs.fits c.write_hook_in.ensures.small.0 c.write_hook_in.ensures.small.1 c.requires c.write_hook_in.ensures.becomes).0
+    (hook_done _ _ c.self.view_is c.self.invariant c.args.n _ _ c.args.segs c.args.last _ c.write_hook_in.new.slot (c.from.ensures ∙ c.pool.ensures)
+    c.index.ensures c.ranges.segs.fits c.write_hook_in.ensures.small.0 c.write_hook_in.ensures.small.1 c.requires c.write_hook_in.ensures.becomes).0
 
 pub returns : goal.returns
 returns c =
-    (hook_done _ _ c.self.view_is c.self.invariant c.args.n _ _ c.args.segs c.args.last _ c.write_hook_in.new.slot c.pool.ensures c.index.ensures
-    c.ranges.segs.fits c.write_hook_in.ensures.small.0 c.write_hook_in.ensures.small.1 c.requires c.write_hook_in.ensures.becomes).1
+    (hook_done _ _ c.self.view_is c.self.invariant c.args.n _ _ c.args.segs c.args.last _ c.write_hook_in.new.slot (c.from.ensures ∙ c.pool.ensures)
+    c.index.ensures c.ranges.segs.fits c.write_hook_in.ensures.small.0 c.write_hook_in.ensures.small.1 c.requires c.write_hook_in.ensures.becomes).1

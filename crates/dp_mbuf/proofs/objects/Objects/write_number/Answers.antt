@@ -1,5 +1,5 @@
 -- A number is written behind an object's header, the highest byte first.
-use Rattle.std.proofs.Common.{arith}
+use Rattle.std.proofs.Common.{◌∙◌, arith}
 use Rattle.dp_model.specs.Arithmetic.{bytes_in, big_endian}
 use Rattle.dp_mbuf.proofs.Spelled.{length_spelled, small_spelled}
 use Rattle.dp_mbuf.proofs.ObjectCalls.{listed as pool_listed, fits, room_fits, room_small, room_done}
@@ -9,8 +9,8 @@ use Rattle.dp_mbuf.proofs.objects.Objects.write_number.Goals as goal
 pub listed : goal.listed
 listed c = omega (arith, c.pool.ensures, (pool_listed _ _ c.self.view_is c.self.invariant c.args.n.pool (object_pool _ _ c.requires.object)).0)
 
-pub bounds-self-inside-pool : goal.bounds-self-inside-pool
-bounds-self-inside-pool c =
+pub bounds-self-inside-from : goal.bounds-self-inside-from
+bounds-self-inside-from c =
     omega (arith, c.pool.ensures, (pool_listed _ _ c.self.view_is c.self.invariant c.args.n.pool (object_pool _ _ c.requires.object)).1)
 
 pub overflow_add-from : goal.overflow_add-from
@@ -18,19 +18,19 @@ overflow_add-from c = omega (arith, c.requires.fits, room_small _ _ c.self.view_
 
 pub write_number_in-requires : goal.write_number_in-requires
 write_number_in-requires c =
-    fits _ _ c.self.view_is c.self.invariant c.args.n _ _ _ _ c.pool.ensures c.index.ensures c.requires.object
+    fits _ _ c.self.view_is c.self.invariant c.args.n _ _ _ _ (c.from.ensures ∙ c.pool.ensures) c.index.ensures c.requires.object
     (room_fits _ _ c.self.view_is c.self.invariant c.args.n c.args.at (bytes_in c.args.width) c.requires.object c.requires.fits)
 
 pub invariant_of-self : goal.invariant_of-self
 invariant_of-self c =
     let fit = room_fits _ _ c.self.view_is c.self.invariant c.args.n c.args.at (bytes_in c.args.width) c.requires.object c.requires.fits in
     (room_done _ _ c.self.view_is c.self.invariant c.args.n _ _ c.args.at (big_endian (bytes_in c.args.width) c.args.number) _ c.write_number_in.new.slot
-    c.pool.ensures c.index.ensures (small_spelled (bytes_in c.args.width) c.args.number) c.requires.object
+    (c.from.ensures ∙ c.pool.ensures) c.index.ensures (small_spelled (bytes_in c.args.width) c.args.number) c.requires.object
     (omega (arith, fit, length_spelled (bytes_in c.args.width) c.args.number)) c.write_number_in.ensures).0
 
 pub returns : goal.returns
 returns c =
     let fit = room_fits _ _ c.self.view_is c.self.invariant c.args.n c.args.at (bytes_in c.args.width) c.requires.object c.requires.fits in
     (room_done _ _ c.self.view_is c.self.invariant c.args.n _ _ c.args.at (big_endian (bytes_in c.args.width) c.args.number) _ c.write_number_in.new.slot
-    c.pool.ensures c.index.ensures (small_spelled (bytes_in c.args.width) c.args.number) c.requires.object
+    (c.from.ensures ∙ c.pool.ensures) c.index.ensures (small_spelled (bytes_in c.args.width) c.args.number) c.requires.object
     (omega (arith, fit, length_spelled (bytes_in c.args.width) c.args.number)) c.write_number_in.ensures).1

@@ -1,5 +1,5 @@
 -- Two words are written in an object's header.
-use Rattle.std.proofs.Common.{arith, []}
+use Rattle.std.proofs.Common.{◌∙◌, arith, []}
 use Rattle.dp_mbuf.specs.Headers.{then_word}
 use Rattle.dp_mbuf.proofs.HeaderFields.{small_words}
 use Rattle.dp_mbuf.proofs.ObjectCalls.{are, listed as pool_listed, fits, front_fits, front_done}
@@ -9,19 +9,19 @@ use Rattle.dp_mbuf.proofs.objects.Objects.write_pair.Goals as goal
 pub listed : goal.listed
 listed c = omega (arith, c.pool.ensures, (pool_listed _ _ c.self.view_is c.self.invariant c.args.n.pool (object_pool _ _ c.requires.object)).0)
 
-pub bounds-self-inside-pool : goal.bounds-self-inside-pool
-bounds-self-inside-pool c =
+pub bounds-self-inside-from : goal.bounds-self-inside-from
+bounds-self-inside-from c =
     omega (arith, c.pool.ensures, (pool_listed _ _ c.self.view_is c.self.invariant c.args.n.pool (object_pool _ _ c.requires.object)).1)
 
 pub write_words_in-requires : goal.write_words_in-requires
 write_words_in-requires c =
-    fits _ _ c.self.view_is c.self.invariant c.args.n _ _ _ _ c.pool.ensures c.index.ensures c.requires.object
+    fits _ _ c.self.view_is c.self.invariant c.args.n _ _ _ _ (c.from.ensures ∙ c.pool.ensures) c.index.ensures c.requires.object
     (front_fits _ _ c.self.view_is c.self.invariant c.args.n c.args.at 4 c.requires.object c.requires.front)
 
 pub invariant_of-self : goal.invariant_of-self
 invariant_of-self c =
     (front_done _ _ c.self.view_is c.self.invariant c.args.n _ _ c.args.at (then_word c.args.x (then_word c.args.y [])) _ c.write_words_in.new.slot
-    c.pool.ensures c.index.ensures (small_words c.args.x c.args.y c.ranges.x.fits c.ranges.y.fits) c.requires.object c.requires.front
+    (c.from.ensures ∙ c.pool.ensures) c.index.ensures (small_words c.args.x c.args.y c.ranges.x.fits c.ranges.y.fits) c.requires.object c.requires.front
     c.write_words_in.ensures).0
 
 pub returns-clause-long : goal.returns-clause-long
@@ -30,5 +30,5 @@ returns-clause-long c = object_long _ _ (are _ _ c.self.view_is c.self.invariant
 pub returns-clause-written : goal.returns-clause-written
 returns-clause-written c =
     (front_done _ _ c.self.view_is c.self.invariant c.args.n _ _ c.args.at (then_word c.args.x (then_word c.args.y [])) _ c.write_words_in.new.slot
-    c.pool.ensures c.index.ensures (small_words c.args.x c.args.y c.ranges.x.fits c.ranges.y.fits) c.requires.object c.requires.front
+    (c.from.ensures ∙ c.pool.ensures) c.index.ensures (small_words c.args.x c.args.y c.ranges.x.fits c.ranges.y.fits) c.requires.object c.requires.front
     c.write_words_in.ensures).1

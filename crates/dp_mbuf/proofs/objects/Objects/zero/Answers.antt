@@ -1,5 +1,5 @@
 -- Zeros are written behind an object's header, within its data room.
-use Rattle.std.proofs.Common.{ℕ, arith}
+use Rattle.std.proofs.Common.{ℕ, ◌∙◌, arith}
 use Rattle.std.specs.Prelude.{replicate}
 use Rattle.std.proofs.lemmas.List.{length-replicate}
 use Rattle.dp_mbuf.proofs.PoolLemmas.{small_zeros}
@@ -10,8 +10,8 @@ use Rattle.dp_mbuf.proofs.objects.Objects.zero.Goals as goal
 pub listed : goal.listed
 listed c = omega (arith, c.pool.ensures, (pool_listed _ _ c.self.view_is c.self.invariant c.args.n.pool (object_pool _ _ c.requires.object)).0)
 
-pub bounds-self-inside-pool : goal.bounds-self-inside-pool
-bounds-self-inside-pool c =
+pub bounds-self-inside-from : goal.bounds-self-inside-from
+bounds-self-inside-from c =
     omega (arith, c.pool.ensures, (pool_listed _ _ c.self.view_is c.self.invariant c.args.n.pool (object_pool _ _ c.requires.object)).1)
 
 pub overflow_add-from : goal.overflow_add-from
@@ -19,17 +19,17 @@ overflow_add-from c = omega (arith, c.requires.fits, room_small _ _ c.self.view_
 
 pub zero_in-requires : goal.zero_in-requires
 zero_in-requires c =
-    fits _ _ c.self.view_is c.self.invariant c.args.n _ _ _ _ c.pool.ensures c.index.ensures c.requires.object
+    fits _ _ c.self.view_is c.self.invariant c.args.n _ _ _ _ (c.from.ensures ∙ c.pool.ensures) c.index.ensures c.requires.object
     (room_fits _ _ c.self.view_is c.self.invariant c.args.n c.args.at c.args.len c.requires.object c.requires.fits)
 
 pub invariant_of-self : goal.invariant_of-self
 invariant_of-self c =
     let fit = room_fits _ _ c.self.view_is c.self.invariant c.args.n c.args.at c.args.len c.requires.object c.requires.fits in
-    (room_done _ _ c.self.view_is c.self.invariant c.args.n _ _ c.args.at (replicate c.args.len 0) _ c.zero_in.new.slot c.pool.ensures c.index.ensures
-    (small_zeros c.args.len) c.requires.object (omega (arith, fit, length-replicate {A = ℕ})) c.zero_in.ensures).0
+    (room_done _ _ c.self.view_is c.self.invariant c.args.n _ _ c.args.at (replicate c.args.len 0) _ c.zero_in.new.slot (c.from.ensures ∙ c.pool.ensures)
+    c.index.ensures (small_zeros c.args.len) c.requires.object (omega (arith, fit, length-replicate {A = ℕ})) c.zero_in.ensures).0
 
 pub returns : goal.returns
 returns c =
     let fit = room_fits _ _ c.self.view_is c.self.invariant c.args.n c.args.at c.args.len c.requires.object c.requires.fits in
-    (room_done _ _ c.self.view_is c.self.invariant c.args.n _ _ c.args.at (replicate c.args.len 0) _ c.zero_in.new.slot c.pool.ensures c.index.ensures
-    (small_zeros c.args.len) c.requires.object (omega (arith, fit, length-replicate {A = ℕ})) c.zero_in.ensures).1
+    (room_done _ _ c.self.view_is c.self.invariant c.args.n _ _ c.args.at (replicate c.args.len 0) _ c.zero_in.new.slot (c.from.ensures ∙ c.pool.ensures)
+    c.index.ensures (small_zeros c.args.len) c.requires.object (omega (arith, fit, length-replicate {A = ℕ})) c.zero_in.ensures).1
