@@ -22,9 +22,9 @@ index_code =
     (λ v. (v.cache, (v.cached, (v.out, (v.name, (v.home, (v.offset, v.len)))))))
     (λ p. record { cache = p.0; cached = p.1.0; out = p.1.1.0; name = p.1.1.1.0; home = p.1.1.1.1.0; offset = p.1.1.1.1.1.0; len = p.1.1.1.1.1.1 }) (λ _. refl)
 
--- the most indexes in a cache: half as many again as the largest is for
-abbrev pub most_cached : ℕ
-most_cached = 768
+-- the most indexes that stand in a cache at once: one and a half times as many as the largest is for
+abbrev pub most_in_cache : ℕ
+most_in_cache = 768
 
 -- how many indexes are in
 abbrev pub in_count : List Bool → ℕ

@@ -6,19 +6,20 @@ ghost use Rattle.std.specs.List.{list_any};
 ghost use Rattle.dp_pool.specs.Once.{upto};
 ghost use Rattle.dp_pool.specs.Pools.{most_objects, largest_cache, is_out_in};
 ghost use Rattle.dp_ring.specs.Rings.{room_in, with_more, without_first};
-ghost use Rattle.dp_pool.specs.Queues.{most_cached, in_count, taken, back, cached_after_get, cached_after_put, AreHanded, AreOut, all_returned};
+ghost use Rattle.dp_pool.specs.Queues.{most_in_cache, in_count, taken, back, cached_after_get, cached_after_put, AreHanded, AreOut, all_returned};
 
 use arrayvec::ArrayVec;
 use dp_ring::Ring;
 use std::marker::Model;
 
-/// The most indexes in a cache: half as many again as the largest is for, as DPDK flushes one at 1.5 times its size.
-const MOST_CACHED: usize = 768;
+/// The most indexes that stand in a cache at once: one that is for 512 (`LARGEST_CACHE`) is emptied down to that where it
+/// comes to one and a half times as many, as DPDK flushes one.
+const MOST_IN_CACHE: usize = 768;
 
 /// The indexes below a number, of which each is in or out. Those that are in stand in the queue or in the cache.
 pub(crate) struct Indexes {
     queue: Ring,
-    cached: ArrayVec<u32, MOST_CACHED>,
+    cached: ArrayVec<u32, MOST_IN_CACHE>,
     // How many the cache is for.
     cache: u32,
     // How many indexes there are.
@@ -28,7 +29,7 @@ pub(crate) struct Indexes {
 impl Model for Indexes {
     ghost use Rattle.std.specs.Prelude.{◌≡◌, ◌-◌, ◌<◌, ◌≤◌, ◌++◌, length};
     ghost use Rattle.dp_pool.specs.Pools.{most_objects, largest_cache};
-    ghost use Rattle.dp_pool.specs.Queues.{most_cached, IndexView, index_code};
+    ghost use Rattle.dp_pool.specs.Queues.{most_in_cache, IndexView, index_code};
     ghost use Rattle.dp_pool.specs.Once.{absent, AreOnce};
 
     ghost Value = { IndexView };
@@ -46,14 +47,14 @@ impl Model for Indexes {
     } };
 
     ghost invariant = { λ v. AreOnce v.count (v.cached.items ++ v.queue.entries) × (v.count < v.queue.count) × (v.cache ≤ largest_cache)
-        × (length v.cached.items ≤ most_cached - 1) × (v.cache ≡ 0 → length v.cached.items ≡ 0) × (v.count ≤ most_objects) };
+        × (length v.cached.items ≤ most_in_cache - 1) × (v.cache ≡ 0 → length v.cached.items ≡ 0) × (v.count ≤ most_objects) };
 }
 
 // Moves the first indexes of the queue to the end of the cache.
 #[inline(never)]
-fn move_in(queue: &mut Ring, cached: &mut ArrayVec<u32, MOST_CACHED>, number: u32)
+fn move_in(queue: &mut Ring, cached: &mut ArrayVec<u32, MOST_IN_CACHE>, number: u32)
     requires there { number ≤ length queue.old.entries }
-    requires room { length cached.old.items + number ≤ most_cached }
+    requires room { length cached.old.items + number ≤ most_in_cache }
     ensures cached { cached.new.items ≡ cached.old.items ++ take number queue.old.entries }
     ensures queue { queue.new ≡ without_first queue.old number }
 {
@@ -66,7 +67,7 @@ fn move_in(queue: &mut Ring, cached: &mut ArrayVec<u32, MOST_CACHED>, number: u3
 
 // Moves all that the cache holds beyond a number to the end of the queue.
 #[inline(never)]
-fn move_out(queue: &mut Ring, cached: &mut ArrayVec<u32, MOST_CACHED>, keep: usize)
+fn move_out(queue: &mut Ring, cached: &mut ArrayVec<u32, MOST_IN_CACHE>, keep: usize)
     requires some { keep ≤ length cached.old.items }
     requires room { length cached.old.items ≤ keep + room_in queue.old }
     ensures cached { cached.new.items ≡ take keep cached.old.items }
@@ -78,8 +79,8 @@ fn move_out(queue: &mut Ring, cached: &mut ArrayVec<u32, MOST_CACHED>, keep: usi
 
 // Puts indexes at the end of the cache.
 #[inline(always)]
-fn extend(cached: &mut ArrayVec<u32, MOST_CACHED>, indexes: &[u32])
-    requires { length cached.old.items + length indexes.now ≤ most_cached }
+fn extend(cached: &mut ArrayVec<u32, MOST_IN_CACHE>, indexes: &[u32])
+    requires { length cached.old.items + length indexes.now ≤ most_in_cache }
     ensures { cached.new.items ≡ cached.old.items ++ indexes.now }
 {
     let _ = cached.try_extend_from_slice(indexes);
@@ -284,6 +285,7 @@ impl Indexes {
             self.put_cached(index);
         }
     }
+
     // Whether so many indexes may join the cache without any going to the queue.
     #[inline(always)]
     fn has_room(&self, number: usize) -> bool
