@@ -1,7 +1,7 @@
 //! The indexes of a pool's objects: a queue of those that are in, and a cache in front of it.
 
 ghost use Rattle.std.specs.Prelude.{◌≡◌, ℕ, ◌+◌, ◌-◌, ◌*◌, ◌/◌, ◌<◌, ◌≤◌, ◌++◌, ◌∷◌, [], length, take, drop, min, not, true, false, IsNone, IfSome};
-ghost use Rattle.std.specs.Prelude.{MatchOption, Some, slice_get, slice_set, count_by, replicate, ◌==◌};
+ghost use Rattle.std.specs.Prelude.{MatchOption, Some, slice_get, slice_set, count_by, replicate, ◌==◌, ◌↔◌, IsTrue};
 ghost use Rattle.std.specs.List.{list_any};
 ghost use Rattle.dp_pool.specs.Once.{upto};
 ghost use Rattle.dp_pool.specs.Pools.{most_objects, largest_cache, is_out_in};
@@ -289,7 +289,7 @@ impl Indexes {
     // Whether so many indexes may join the cache without any going to the queue.
     #[inline(always)]
     fn has_room(&self, number: usize) -> bool
-        ensures { result ≡ true → (0 < self.now.cache) × (self.now.cached + number < 3 * self.now.cache / 2) }
+        ensures { IsTrue result ↔ ((0 < self.now.cache) × (self.now.cached + number < 3 * self.now.cache / 2)) }
     {
         let least = 3 * self.cache as usize / 2;
         number < least && self.cached.len() < least - number
