@@ -157,7 +157,8 @@ impl Pool {
         Ok(Pool::over(objects, queue, numbers))
     }
 
-    /// Gives the two zones of the pool back, whose objects should all be in.
+    /// Ends the pool, whatever is out: the names of its two zones go from the table, and their bytes back to the heap, which has to be
+    /// the one in which the pool was made.
     pub fn unmake(self, heap: &mut Heap, zones: &mut Zones)
         requires { self.zones.home ≡ heap.old.home }
         ensures table { zones.new ≡ without_name self.zones.object_name (without_name self.zones.queue_name zones.old) }
