@@ -2,7 +2,6 @@ pub mod Bulk
 pub mod Cached
 pub mod Effects
 pub mod Lent
-pub mod Moving
 pub mod Names
 pub mod Objects
 pub mod Once

@@ -16,6 +16,9 @@ use std::marker::Model;
 /// comes to one and a half times as many, as DPDK flushes one.
 const MOST_IN_CACHE: usize = 768;
 
+// What the cache's places hold before indexes are read into them.
+const BLANKS: [u32; MOST_IN_CACHE] = [0; MOST_IN_CACHE];
+
 /// The indexes below a number, of which each is in or out. Those that are in stand in the queue or in the cache.
 pub(crate) struct Indexes {
     queue: Ring,
@@ -50,7 +53,7 @@ impl Model for Indexes {
         × (length v.cached.items ≤ most_in_cache - 1) × (v.cache ≡ 0 → length v.cached.items ≡ 0) × (v.count ≤ most_objects) };
 }
 
-// Moves the first indexes of the queue to the end of the cache.
+// Moves the first indexes of the queue to the end of the cache, into which they are read at once.
 #[inline(never)]
 fn move_in(queue: &mut Ring, cached: &mut ArrayVec<u32, MOST_IN_CACHE>, number: u32)
     requires there { number ≤ length queue.old.entries }
@@ -58,11 +61,9 @@ fn move_in(queue: &mut Ring, cached: &mut ArrayVec<u32, MOST_IN_CACHE>, number: 
     ensures cached { cached.new.items ≡ cached.old.items ++ take number queue.old.entries }
     ensures queue { queue.new ≡ without_first queue.old number }
 {
-    for _ in 0..number {
-        if let Some(index) = queue.dequeue() {
-            cached.push(index);
-        }
-    }
+    let held = cached.len();
+    extend(cached, &BLANKS[..number as usize]);
+    queue.dequeue_bulk(&mut cached.as_mut_slice()[held..]);
 }
 
 // Moves all that the cache holds beyond a number to the end of the queue.

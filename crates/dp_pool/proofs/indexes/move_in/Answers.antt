@@ -1,28 +1,22 @@
--- The next index goes from the queue to the cache.
-use Rattle.std.proofs.Common.{◌≡◌, suc, ◌+◌, ◌∷◌, [], ◌++◌, take, drop, slice_get, sym, ap, ◌∙◌, arith, append_assoc}
-use Rattle.dp_ring.specs.Rings.{without_first}
-use Rattle.dp_pool.proofs.Moving.{take_next, next_there, left_next}
-use Rattle.dp_pool.proofs.indexes.move_in.Goals.{in-Some, in_default}
+-- The first of the queue stand over the blanks behind the others.
+use Rattle.std.proofs.Common.{rules, ◌≡◌, ◌-◌, ◌++◌, [], length, take, ap, ap₂, ◌∙◌}
+use Rattle.std.proofs.Math.Seq.{take-append_seam}
+use Rattle.std.proofs.lemmas.List.{places, append-nil}
+use Rattle.arrayvec.proofs.ArrayVecLemmas.{items-with_items}
+use borrow.Rule.Slice.PartMut.{put_mid, post_of}
 use Rattle.dp_pool.proofs.indexes.move_in.Goals as goal
 
-pub loop-preserved : goal.loop-preserved
-loop-preserved c =
-    let i = c.loop.counter in
-    let from = c.args.queue.now.entries in
-    let held = c.args.cached.now.items in
-    let one_more : suc i ≡ i + 1 = omega arith in
-    let first : c.dequeue.result ≡ slice_get (drop i from) 0 = c.dequeue.ensures.first ∙ ap (λ q. slice_get q.entries 0) c.loop.invariant.1 in (
-      elim c.match-dequeue.branch [
-        | in-Some w ↦
-            ap (λ v. v.items) w.cached-is
-            ∙ (w.push.ensures.items
-            ∙ (ap (λ xs. xs ++ w.in-Some.index ∷ []) c.loop.invariant.0
-            ∙ (append_assoc held (take i from) (w.in-Some.index ∷ [])
-            ∙ ap (λ xs. held ++ xs) (take_next from i w.in-Some.index (sym first ∙ w.in-Some.is) ∙ ap (λ n. take n from) one_more))))
-        | in_default w ↦ next_there from i (omega (arith, c.loop-test.true, c.loop.auto.counter-end, c.requires.there)) (sym first ∙ w.in_default.is)
-      ],
-      c.dequeue.ensures.rest
-          ∙ (ap (λ q. without_first q 1) c.loop.invariant.1
-          ∙ (ap (λ es. record c.args.queue.now { entries = es }) (left_next from i)
-          ∙ ap (λ n. without_first c.args.queue.now n) one_more)),
-    )
+pub returns-clause-cached : goal.returns-clause-cached
+returns-clause-cached c =
+    let all = c.as_mut_slice.result.now in
+    let held = c.len-held.result in
+    let got = c.dequeue_bulk.new.values in
+    let after = put_mid held (length all - held) all got in
+    let long : length after ≡ length c.extend.new.cached.items = search (rules, places) in
+    let front : take held all ≡ c.args.cached.now.items =
+    ap₂ take c.len-held.ensures.value (c.as_mut_slice.ensures.value ∙ c.extend.ensures) ∙ take-append_seam c.args.cached.now.items _ in
+    let many : length got ≡ c.args.number = search (rules, places) in
+    let is : got ≡ take c.args.number c.args.queue.now.entries = search (rules, places) in
+    let none : post_of held (length all - held) all ≡ [] = search (rules, places) in
+    items-with_items c.extend.new.cached after long
+    ∙ ((λ i. front i ++ (is i ++ none i)) ∙ ap (λ xs. c.args.cached.now.items ++ xs) (append-nil (take c.args.number c.args.queue.now.entries)))

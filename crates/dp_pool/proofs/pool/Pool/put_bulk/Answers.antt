@@ -1,6 +1,6 @@
 -- What comes back to the indexes comes back.
-use Rattle.std.proofs.Common.{◌≡◌, ◌∙◌, ◌≤◌, ◌*◌, length, ap, subst, sym}
-use Rattle.dp_pool.specs.Queues.{AreOut, all_returned}
+use Rattle.std.proofs.Common.{◌∙◌, ◌≤◌, ◌*◌, length, ap, subst, sym}
+use Rattle.dp_pool.specs.Queues.{AreOut}
 use Rattle.dp_pool.specs.Pools.{all_back}
 use Rattle.dp_pool.proofs.Pools.{pool_of}
 use Rattle.dp_pool.proofs.Bulk.{back_keeps, returned_back, returned_keeps}
