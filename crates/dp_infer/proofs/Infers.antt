@@ -1,7 +1,7 @@
 -- The rows that are found pass where some rows do.
 use Rattle.std.proofs.Common.{◌≡◌, ℕ, zero, suc, ◌+◌, ◌<◌, ◌≤◌, Bool, true, false, not, ◌||◌, List, length, set, Option, Some, None, refl, sym, ap, ◌∙◌}
-use Rattle.std.proofs.Common.{subst, inr, arith}
-use Rattle.std.specs.Prelude.{nat_lt, slice_get, replicate, IsTrue, ◌⊎◌, Result, Ok, Err, IfOk, IfErr}
+use Rattle.std.proofs.Common.{subst, inl, inr, arith}
+use Rattle.std.specs.Prelude.{nat_lt, slice_get, replicate, IsTrue, ◌⊎◌, Result, Ok, Err, IfOk, IfErr, IfSome, IfNone}
 use Rattle.std.specs.List.{list_all}
 use Rattle.std.specs.Option.{option_map_or}
 use Rattle.std.proofs.lemmas.Bool.{and_parts, eq-eqb}
@@ -16,11 +16,10 @@ use Rattle.dp_model.specs.Jumps.{IsForward}
 use Rattle.dp_model.specs.Rows.{entails, leads, entry_row, is_well_formed_row}
 use Rattle.dp_model.specs.Rules.{Question, row_passes, holds, holds_at, uses, indices_exist, later_rules, IsAccepted, IsRefused}
 use Rattle.dp_cert.specs.Spelling.{Certificate, certificate_of}
-use Rattle.dp_check.specs.Faults.{question, IsChecked, IsRefusedWith}
+use Rattle.dp_check.specs.Faults.{question, IsRefusedWith}
 use Rattle.dp_infer.specs.Joins.{joined, dead_row, begun, found_rows}
 use Rattle.dp_infer.specs.Inference.{Certifies, HasNone, SaysMost, IsWithout}
 use Rattle.dp_infer.specs.declared.inferring.InferError.{InferError}
-use Rattle.dp_infer.specs.declared.inferring.InferError.TheVariants.{Memory, NoCert}
 use Rattle.dp_infer.proofs.Stronger.{both_are}
 use Rattle.dp_infer.proofs.Changes.{AreWellFormed}
 use Rattle.dp_infer.proofs.PacketTests.{all_held_keeps}
@@ -160,42 +159,35 @@ begun_well_formed rows None n e = rw e (dead_well_formed n)
 begun_well_formed rows (Some row) n e = rw e (all_set is_well_formed_row (replicate n dead_row) 0 (joined row row) (dead_well_formed n)
     (joined_well_formed row row))
 
--- where a forward program is accepted with no rows, none say more
-pub none_but : (program : List Instr) (env : Environment) (entry : Entry) (result : Result Certificate InferError) →
-    (IsForward program → (rows : List Row) → ¬ Certifies program env entry rows) → IfErr result (λ e. IsWithout program env entry e)
-none_but program env entry (Ok cert) never = tt
-none_but program env entry (Err Memory) never = tt
-none_but program env entry (Err (NoCert label rule)) never = never
+-- where a forward program is accepted with no rows, any say most
+pub most_anyway : (program : List Instr) (env : Environment) (entry : Entry) (found : List Row) → HasNone program env entry → SaysMost program env entry found
+most_anyway program env entry found never = λ forward rows h. absurd (never forward rows h)
 
-pub best_anyway : {E : Type 0} → (program : List Instr) (env : Environment) (entry : Entry) (result : Result Certificate E) → HasNone program env entry →
-    IfOk result (λ cert. Certifies program env entry cert.rows ⊎ HasNone program env entry)
-best_anyway program env entry (Ok cert) never = inr never
-best_anyway program env entry (Err e) never = tt
+-- what holds in any case
+pub if_any : {A : Type 0} {P : Type 0} → (o : Option A) → P → IfSome o (λ x. P)
+if_any (Some x) is = is
+if_any None is = tt
 
-pub most_anyway : (program : List Instr) (env : Environment) (entry : Entry) (result : Result Certificate InferError) →
-    IfOk result (λ cert. Certifies program env entry cert.rows) → (IsForward program → (rows : List Row) → ¬ Certifies program env entry rows) →
-    IfOk result (λ cert. SaysMost program env entry cert.rows)
-most_anyway program env entry (Ok cert) is never = λ forward. absurd (never forward cert.rows is)
-most_anyway program env entry (Err e) is never = tt
+-- one thing holds where there is none, another where there is some
+pub one_or_other : {A : Type 0} → (o : Option A) (P Q : Type 0) → IfNone o P → IfSome o (λ x. Q) → P ⊎ Q
+one_or_other (Some x) P Q none some = inr some
+one_or_other None P Q none some = inl none
 
 -- where what is found is refused, a forward program is accepted with no rows
 pub none_refused : (program : List Instr) (env : Environment) (entry : Entry) (cert : Certificate) (label number : ℕ) → 1 ≤ length program →
     cert ≡ certificate_of (found_rows program env entry) → IsRefusedWith (question program cert env entry) label number → HasNone program env entry
 none_refused program env entry cert label number some e (rule, same, refused) = none_of program env entry cert label rule some e refused
 
-pub none_checked : (program : List Instr) (env : Environment) (entry : Entry) (result : Result Question InferError) → HasNone program env entry →
-    IfErr result (λ e. IsWithout program env entry e)
-none_checked program env entry (Ok q) never = tt
-none_checked program env entry (Err Memory) never = tt
-none_checked program env entry (Err (NoCert label rule)) never = never
+-- what is owed of another name of the program is owed of the program
+pub without_back : (program back : List Instr) (env : Environment) (entry : Entry) (result : Result Question InferError) → back ≡ program →
+    IfErr result (λ e. IsWithout back env entry e) → IfErr result (λ e. IsWithout program env entry e)
+without_back program back env entry result same h = subst (λ (p : List Instr). IfErr result (λ e. IsWithout p env entry e)) same h
 
-pub most_checked : (program back : List Instr) (env : Environment) (entry : Entry) (result : Result Question InferError) → back ≡ program →
-    IfOk result (λ q. q ≡ question back (certificate_of q.rows) env entry) → IfOk result (λ q. IsChecked q) → HasNone program env entry →
+-- any certificate says most where there is none for a forward program
+pub most_checked : (program : List Instr) (env : Environment) (entry : Entry) (result : Result Question InferError) → HasNone program env entry →
     IfOk result (λ q. SaysMost program env entry q.rows)
-most_checked program back env entry (Ok q) same is checked never =
-    let asked : q ≡ question program (certificate_of q.rows) env entry = is ∙ ap (λ (p : List Instr). question p (certificate_of q.rows) env entry) same in
-    λ forward. absurd (never forward q.rows (checked.well_formed, subst (λ (q : Question). IsAccepted q) asked checked.accepted))
-most_checked program back env entry (Err e) same is checked never = tt
+most_checked program env entry (Ok q) never = most_anyway program env entry q.rows never
+most_checked program env entry (Err e) never = tt
 
 begun_long : (entry : Option Row) (n : ℕ) → length (begun entry n) ≡ n
 begun_long None n = dead_long n

@@ -1,19 +1,20 @@
 //! Certificates inferred from programs.
 
-ghost use Rattle.std.specs.Prelude.{◌≡◌, ◌⊎◌, ◌<◌, ◌≤◌, length, IsTrue, IfOk, IfErr};
+ghost use Rattle.std.specs.Prelude.{◌≡◌, ◌⊎◌, ◌<◌, ◌≤◌, length, IsTrue, IfOk, IfErr, IfSome, IfNone};
 ghost use Rattle.std.specs.List.{list_all};
 ghost use Rattle.dp_model.specs.Rows.{is_well_formed_row};
+ghost use Rattle.dp_model.specs.Rules.{number_of};
 ghost use Rattle.dp_cert.specs.Spelling.{version_for, certificate_of};
 ghost use Rattle.dp_check.specs.Faults.{question, IsChecked};
 ghost use Rattle.dp_infer.specs.Joins as spec;
-ghost use Rattle.dp_infer.specs.Inference.{Certifies, HasNone, SaysMost, IsWithout};
+ghost use Rattle.dp_infer.specs.Inference.{Certifies, HasNone, SaysMost, AreRefused, AreTried, IsWithout};
 
 use crate::join::{joined, pass_on};
 use crate::settling::settle;
 use dp_cert::Cert;
 use dp_check::{Checked, Refused, check, fault_of, leads_of};
 use dp_lang::Program;
-use dp_model::{Entry, Env, Fact, Instr, Row};
+use dp_model::{Entry, Env, Fact, Instr, Row, Rule};
 use std::alloc::{AllocError, Global};
 use thiserror::Error;
 
@@ -23,7 +24,8 @@ pub enum InferError {
     /// The memory for the rows was refused.
     #[error("out of memory")]
     Memory,
-    /// The program is accepted with no certificate: at this label, from 0, this rule fails for the best rows.
+    /// No certificate is found. With the last that was tried this is the least label, from 0, at which a rule fails, and the number
+    /// of the first that fails there, 2 to 11. A forward program is accepted with no certificate then.
     #[error("not inferred at {label} by J{rule}")]
     NoCert { label: u16, rule: u8 },
 }
@@ -118,39 +120,50 @@ fn found(alloc: Global, program: &Program, env: &Env, entry: Entry) -> Result<Ce
     Ok(Cert::new(found_rows(alloc, program.instrs(), env, entry)?))
 }
 
-/// The rows of a program that comes back to labels, weakened until they stay.
+/// The rows of a program that comes back to labels, weakened pass by pass.
 fn settled_rows(
     alloc: Global,
     program: &Program,
     env: &Env,
     entry: Entry,
 ) -> Result<Cert, AllocError>
+    ensures long { IfOk result (λ cert. length cert.rows ≡ length program.now) }
     ensures well_formed { IfOk result (λ cert. IsTrue (list_all is_well_formed_row cert.rows)) }
-    ensures version { IfOk result (λ cert. cert.version ≡ version_for cert.rows) }
+    ensures is { IfOk result (λ cert. cert ≡ certificate_of cert.rows) }
 {
     let mut rows = found_rows(alloc, program.instrs(), env, entry)?;
     settle(&mut rows, program.instrs(), env);
     Ok(Cert::new(rows))
 }
 
-/// A certificate of a program that comes back to labels, if the rows that are found serve.
-fn settled(alloc: Global, program: &Program, env: &Env, entry: Entry) -> Result<Cert, InferError>
-    ensures accepted { IfOk result (λ cert. Certifies program.now env.now entry cert.rows) }
-    ensures version { IfOk result (λ cert. cert.version ≡ version_for cert.rows) }
+/// The certificate with which inference ends; and, where the program is refused with it, the least label at which a rule fails, with
+/// the first rule that fails there.
+fn last_tried(
+    alloc: Global,
+    program: &Program,
+    env: &Env,
+    entry: Entry,
+) -> Result<(Cert, Option<(u16, Rule)>), AllocError>
+    ensures accepted { IfOk result (λ b. IfNone b.1 (Certifies program.now env.now entry b.0.rows)) }
+    ensures most { IfOk result (λ b. SaysMost program.now env.now entry b.0.rows) }
+    ensures version { IfOk result (λ b. b.0.version ≡ version_for b.0.rows) }
+    ensures none { IfOk result (λ b. IfSome b.1 (λ f. HasNone program.now env.now entry)) }
+    ensures refused { IfOk result (λ b. IfSome b.1 (λ f. AreRefused program.now env.now entry b.0.rows f.0 (number_of f.1))) }
 {
-    let cert = settled_rows(alloc, program, env, entry)?;
+    let cert = found(alloc, program, env, entry)?;
     match fault_of(program, &cert, env, entry) {
-        Some((label, rule)) => Err(InferError::NoCert {
-            label,
-            rule: rule.number(),
-        }),
-        None => Ok(cert),
+        None => Ok((cert, None)),
+        Some(_) => {
+            let settled = settled_rows(alloc, program, env, entry)?;
+            let fault = fault_of(program, &settled, env, entry);
+            Ok((settled, fault))
+        }
     }
 }
 
 /// The certificate of a program for an environment and an entry. For a forward program, in which each label that is
 /// named is behind its instruction, each row is as strong as can be, and each instruction is looked at once. In other
-/// programs control may come back to a label; what is known there is weakened until it stays.
+/// programs control may come back to a label; what is known there is weakened until it stays, or 4,096 times.
 ///
 /// # Errors
 /// `InferError::Memory` where the memory for the rows is refused, else `InferError::NoCert` where no certificate was
@@ -162,13 +175,17 @@ pub fn infer(alloc: Global, program: &Program, env: &Env, entry: Entry) -> Resul
     ensures most { IfOk result (λ cert. SaysMost program.now env.now entry cert.rows) }
     // It has version 1 exactly where no row has a group.
     ensures version { IfOk result (λ cert. cert.version ≡ version_for cert.rows) }
-    // There is none for a forward program where none is answered, unless memory ran out.
+    // Unless memory ran out, there is none for a forward program where none is answered, and the program was refused at that
+    // label by that rule with a certificate that was tried.
     ensures none { IfErr result (λ e. IsWithout program.now env.now entry e) }
 {
-    let cert = found(alloc, program, env, entry)?;
-    match fault_of(program, &cert, env, entry) {
-        Some(_) => settled(alloc, program, env, entry),
+    let (cert, fault) = last_tried(alloc, program, env, entry)?;
+    match fault {
         None => Ok(cert),
+        Some((label, rule)) => Err(InferError::NoCert {
+            label,
+            rule: rule.number(),
+        }),
     }
 }
 
@@ -179,8 +196,10 @@ fn settled_checked(
     env: &Env,
     entry: Entry,
 ) -> Result<Checked, InferError>
+    requires none { HasNone program env.now entry }
     ensures same { IfOk result (λ q. q ≡ question program (certificate_of q.rows) env.now entry) }
     ensures checked { IfOk result (λ q. IsChecked q) }
+    ensures none { IfErr result (λ e. IsWithout program env.now entry e) }
 {
     let cert = settled_rows(alloc, &program, env, entry)?;
     match check(program, cert, env, entry) {
@@ -208,7 +227,8 @@ pub fn infer_checked(
     ensures checked { IfOk result (λ q. IsChecked q) }
     // No certificate of a forward program says more.
     ensures most { IfOk result (λ q. SaysMost program env.now entry q.rows) }
-    // There is none for a forward program where none is found, unless memory ran out.
+    // Unless memory ran out, there is none for a forward program where none is found, and the program was refused at that
+    // label by that rule with a certificate that was tried.
     ensures none { IfErr result (λ e. IsWithout program env.now entry e) }
 {
     let cert = found(alloc, &program, env, entry)?;
@@ -221,8 +241,8 @@ pub fn infer_checked(
     }
 }
 
-/// The certificate with which [`infer`] ends: the one that it answers, or, where it answers none, the one with which the
-/// program is refused, so that one can ask why.
+/// The certificate with which [`infer`] ends: the one that it answers, or, where it answers none, the last that was tried, so that
+/// one can ask why the program is refused with it.
 ///
 /// # Errors
 /// `AllocError` where the memory for the rows is refused.
@@ -234,12 +254,13 @@ pub fn attempt(
 ) -> Result<Cert, AllocError>
     // A forward program that is accepted with any certificate is accepted with this one.
     ensures best { IfOk result (λ cert. Certifies program.now env.now entry cert.rows ⊎ HasNone program.now env.now entry) }
+    // The program is accepted with it, or refused, and it has a row for each instruction.
+    ensures tried { IfOk result (λ cert. AreTried program.now env.now entry cert.rows) }
+    // No certificate of a forward program says more.
+    ensures most { IfOk result (λ cert. SaysMost program.now env.now entry cert.rows) }
     // It has version 1 exactly where no row has a group.
     ensures version { IfOk result (λ cert. cert.version ≡ version_for cert.rows) }
 {
-    let cert = found(alloc, program, env, entry)?;
-    match fault_of(program, &cert, env, entry) {
-        Some(_) => settled_rows(alloc, program, env, entry),
-        None => Ok(cert),
-    }
+    let (cert, _) = last_tried(alloc, program, env, entry)?;
+    Ok(cert)
 }

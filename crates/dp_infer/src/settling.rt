@@ -1,5 +1,6 @@
-//! Rows of programs that come back to labels. They are weakened until they stay; each step goes to a constant of the
-//! program, and after many passes at once to what says nothing. Whether they serve is for the checker to say.
+//! Rows of programs that come back to labels. They are weakened until they stay, or for as many passes as are made at most; each
+//! step goes to a constant of the program, and after many passes at once to what says nothing. This is a heuristic: nothing is
+//! proved but that rows stay as many and well formed. Whether they serve is for the checker to say.
 
 ghost use Rattle.std.specs.Prelude.{◌≡◌, ◌<◌, ◌≤◌, length, IsTrue};
 ghost use Rattle.std.specs.List.{list_all};
@@ -209,12 +210,14 @@ fn spread_again(rows: &mut [Row], program: &[Instr], env: &Env, slow: bool) -> b
     changed
 }
 
-/// Weakens rows until control that passes on changes none of them.
+/// Weakens rows, pass by pass, until a pass changes none of them, or 4,096 passes are made. It is not promised that they serve
+/// then, nor that a pass would change none of them.
 pub(crate) fn settle(rows: &mut [Row], program: &[Instr], env: &Env)
     requires same_length { length rows.old ≡ length program.now }
     requires at_most { length program.now ≤ 1024 }
     requires well_formed { IsTrue (list_all is_well_formed_row rows.old) }
-    ensures { IsTrue (list_all is_well_formed_row rows.new) }
+    ensures long { length rows.new ≡ length rows.old }
+    ensures well_formed { IsTrue (list_all is_well_formed_row rows.new) }
 {
     for pass in 0..MOST_PASSES {
         if !spread_again(rows, program, env, pass < SLOW_PASSES) {

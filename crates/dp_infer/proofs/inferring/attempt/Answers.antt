@@ -1,8 +1,9 @@
--- Where what is found first fails, all do.
-use Rattle.dp_infer.proofs.Infers.{best_anyway, none_of}
+-- Where the last certificate fails, all do.
+use Rattle.dp_infer.specs.Inference.{Certifies, HasNone}
+use Rattle.dp_infer.proofs.Infers.{one_or_other}
 use Rattle.dp_infer.proofs.inferring.attempt.Goals as goal
 
-pub returns-in-Some-clause-best : goal.returns-in-Some-clause-best
-returns-in-Some-clause-best c =
-    best_anyway c.args.program.now c.args.env.now c.args.entry c.settled_rows.result
-    (none_of c.args.program.now c.args.env.now c.args.entry c.in_ok-cert.cert _ _ c.in_ok-cert.ensures.some c.in_ok-cert.ensures.found c.in-Some.ensures.some)
+pub returns-clause-best : goal.returns-clause-best
+returns-clause-best c =
+    one_or_other c.in_ok-cert.field-0-1 (Certifies c.args.program.now c.args.env.now c.args.entry c.in_ok-cert.cert.rows)
+    (HasNone c.args.program.now c.args.env.now c.args.entry) c.in_ok-cert.ensures.accepted c.in_ok-cert.ensures.none

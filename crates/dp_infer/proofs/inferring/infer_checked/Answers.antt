@@ -1,20 +1,28 @@
 -- What is found says most, and where it is refused, all are.
-use Rattle.std.proofs.Common.{ap, ◌∙◌}
+use Rattle.std.proofs.Common.{ap, sym, subst, ◌∙◌, List}
+use Rattle.dp_model.specs.declared.instr.Instr.{Instr}
 use Rattle.dp_model.specs.Rules.{Question}
 use Rattle.dp_cert.specs.Spelling.{Certificate}
-use Rattle.dp_infer.proofs.Infers.{most_of, none_refused, none_checked, most_checked}
+use Rattle.dp_infer.specs.Inference.{HasNone}
+use Rattle.dp_infer.proofs.Infers.{most_of, none_refused, most_checked, without_back}
 use Rattle.dp_infer.proofs.inferring.infer_checked.Goals as goal
+
+pub settled_checked-requires : goal.settled_checked-requires
+settled_checked-requires c =
+    record {
+      none = subst (λ (p : List Instr). HasNone p c.args.env.now c.args.entry) (sym c.in-Err.ensures.program_back)
+          (none_refused c.args.program c.args.env.now c.args.entry c.in_ok-cert.cert _ _ c.in_ok-cert.ensures.some c.in_ok-cert.ensures.found
+          c.in-Err.ensures.refused);
+    }
 
 pub returns-in-Err-clause-none : goal.returns-in-Err-clause-none
 returns-in-Err-clause-none c =
-    none_checked c.args.program c.args.env.now c.args.entry c.settled_checked.result
-    (none_refused c.args.program c.args.env.now c.args.entry c.in_ok-cert.cert _ _ c.in_ok-cert.ensures.some c.in_ok-cert.ensures.found
-    c.in-Err.ensures.refused)
+    without_back c.args.program c.in-Err.refused.program c.args.env.now c.args.entry c.settled_checked.result c.in-Err.ensures.program_back
+    c.settled_checked.ensures.none
 
 pub returns-in-Err-clause-most : goal.returns-in-Err-clause-most
 returns-in-Err-clause-most c =
-    most_checked c.args.program c.in-Err.refused.program c.args.env.now c.args.entry c.settled_checked.result c.in-Err.ensures.program_back
-    c.settled_checked.ensures.same c.settled_checked.ensures.checked
+    most_checked c.args.program c.args.env.now c.args.entry c.settled_checked.result
     (none_refused c.args.program c.args.env.now c.args.entry c.in_ok-cert.cert _ _ c.in_ok-cert.ensures.some c.in_ok-cert.ensures.found
     c.in-Err.ensures.refused)
 
