@@ -1,4 +1,4 @@
-// What follows from facts and rows, and what instructions leave of them, on known values.
+//! What follows from facts and rows, and what instructions leave of them, on known values.
 
 use dp_check::{Leads, entails, fact_entails, leads_of, owns_head, reshared, shares_group};
 use dp_model::{

@@ -1,4 +1,4 @@
-// The check of a program with its certificate.
+//! The check of a program with its certificate.
 
 ghost use Rattle.std.specs.Prelude.{◌≡◌, ◌≤◌, length, IsTrue, IfSome, IfNone, IfOk, IfErr};
 ghost use Rattle.std.specs.List.{list_all};

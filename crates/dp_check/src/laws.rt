@@ -1,4 +1,4 @@
-// What holds of all checks, as a contract of a function that does nothing.
+//! What holds of all checks, as a contract of a function that does nothing.
 
 ghost use Rattle.std.specs.Prelude.{◌↔◌, ℕ, List};
 ghost use Rattle.dp_model.specs.declared.env.Entry.{Entry};

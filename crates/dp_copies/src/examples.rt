@@ -1,4 +1,4 @@
-// A run that is computed by the definitions in both machines.
+//! A run that is computed by the definitions in both machines.
 
 ghost use Rattle.std.specs.Prelude.{ℕ, [], ◌∷◌};
 ghost use Rattle.dp_model.specs.Machine.{World};

@@ -1,4 +1,4 @@
-// Clones are copies, as contracts of functions that do nothing. Another crate's proof calls one, or cites its lemma.
+//! Clones are copies, as contracts of functions that do nothing. Another crate's proof calls one, or cites its lemma.
 
 ghost use Rattle.std.specs.Prelude.{◌≡◌, ℕ, List, Bool, None};
 ghost use Rattle.dp_model.specs.declared.env.PortSpec.{PortSpec};

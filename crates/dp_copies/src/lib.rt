@@ -1,4 +1,4 @@
-// Clones are copies: runs over shared buffers write what a machine without shared buffers writes.
+//! Clones are copies: runs over shared buffers write what a machine without shared buffers writes.
 #![tactic(auto)]
 
 mod examples;

@@ -128,17 +128,4 @@ impl Plan {
         let k = self.env.ports().len() + usize::from(ring);
         self.nodes[k].program().instrs()
     }
-
-    // The tables and the programs again.
-    pub(crate) fn into_parts(self) -> (Vec<Lpm>, Vec<Checked>)
-        ensures tables { routes_of result.0.items ≡ self.setting.tables }
-    {
-        let Plan {
-            env: _,
-            tables,
-            nodes,
-            pattern: _,
-        } = self;
-        (tables, nodes)
-    }
 }

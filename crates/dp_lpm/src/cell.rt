@@ -1,4 +1,4 @@
-// The entries of a table, of four bytes each.
+//! The entries of a table, of four bytes each.
 
 ghost use Rattle.std.specs.Prelude.{◌≡◌, ℕ, ◌/◌, ◌<◌, ◌≤◌, length, slice_index_or};
 ghost use Rattle.dp_lpm.specs.Cells.{entry_in, IsStorable, at, settled};

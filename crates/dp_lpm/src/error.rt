@@ -1,4 +1,4 @@
-// Why a table is not made, or refuses.
+//! Why a table is not made, or refuses.
 
 use thiserror::Error;
 

@@ -1,4 +1,4 @@
-// Longest prefix: a table of rules, and look-ups of two reads at most.
+//! Longest prefix: a table of rules, and look-ups of two reads at most.
 #![tactic(auto)]
 
 mod cell;

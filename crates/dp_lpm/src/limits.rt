@@ -1,4 +1,4 @@
-// The sizes of a table, each named once. Two levels, of 24 bits and of 8, as in DPDK's `rte_lpm.h`.
+//! The sizes of a table, each named once. Two levels, of 24 bits and of 8, as in DPDK's `rte_lpm.h`.
 
 /// The bits of an address that choose one of the first entries: the depth above which a rule needs a group.
 pub const FIRST_BITS: u8 = 24;

@@ -1,4 +1,4 @@
-// A table for longest prefixes.
+//! A table for longest prefixes.
 
 ghost use Rattle.std.specs.Prelude.{◌≡◌, ◌≤◌, [], length, IsTrue, ◌↔◌, None, Some, IfOk, IfSome, OnOk, OnErr, IfErr};
 ghost use Rattle.dp_model.specs.Prefixes.{hop_for, LooksUp};

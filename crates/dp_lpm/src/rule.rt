@@ -1,4 +1,4 @@
-// The rules of a table, in order of depth, and of prefix where the depth is the same.
+//! The rules of a table, in order of depth, and of prefix where the depth is the same.
 
 ghost use Rattle.std.specs.Prelude.{◌≡◌, ℕ, suc, ◌+◌, ◌*◌, ◌/◌, ◌-◌, ◌^◌, ◌<◌, ◌≤◌, List, ◌∷◌, ◌++◌, length, take, drop, nat_lt, vec_capacity, IfOk, IfErr};
 ghost use Rattle.std.specs.List.{copy_within};

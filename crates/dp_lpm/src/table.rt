@@ -1,4 +1,4 @@
-// Entries for all addresses: one for the first 24 bits of each, and groups of 256 for the addresses that share them.
+//! Entries for all addresses: one for the first 24 bits of each, and groups of 256 for the addresses that share them.
 
 ghost use Rattle.std.specs.Prelude.{◌≡◌, ℕ, ◌+◌, ◌*◌, ◌/◌, ◌==◌, ◌<◌, ◌≤◌, length, slice_index, position, IfOk, MatchBool};
 ghost use Rattle.dp_lpm.specs.Cells.{entry_in, group_in};

@@ -1,4 +1,4 @@
-// Numbers as bytes, the highest first.
+//! Numbers as bytes, the highest first.
 
 ghost use Rattle.std.specs.Prelude.{◌≡◌, ◌≤◌, ◌+◌, length, take};
 ghost use Rattle.dp_model.specs.Arithmetic.{bytes_in, spelled, big_endian};

@@ -1,4 +1,4 @@
-// What stands in the first bytes of each object.
+//! What stands in the first bytes of each object.
 
 ghost use Rattle.std.specs.Prelude.{◌≡◌, ◌<◌, ◌≤◌, ◌+◌, ◌/◌, ◌%◌, [], length};
 ghost use Rattle.dp_model.specs.Buffers.{same_number, overwritten};

@@ -1,4 +1,4 @@
-// Mbufs as the layer of packets that an engine stands on.
+//! Mbufs as the layer of packets that an engine stands on.
 
 ghost use Rattle.std.specs.Prelude.{◌≡◌, List};
 ghost use Rattle.dp_pool.specs.Pools.{PoolZones};

@@ -1,4 +1,4 @@
-// The sizes of mbufs, each named once, with their names in DPDK's `rte_mbuf.h` and `rte_mbuf_core.h`.
+//! The sizes of mbufs, each named once, with their names in DPDK's `rte_mbuf.h` and `rte_mbuf_core.h`.
 
 /// Bytes of an object in front of its data room, where its header stands (`sizeof(struct rte_mbuf)`).
 pub const HEADER_SIZE: u32 = 128;

@@ -1,4 +1,4 @@
-// Packets over the objects of pools.
+//! Packets over the objects of pools.
 
 ghost use Rattle.std.specs.Prelude.{◌≡◌, ◌≢◌, ℕ, ◌+◌, ◌*◌, ◌<◌, ◌≤◌, [], None, length, drop, slice_get, slice_range, IsTrue, ◌↔◌, List, Some, max, ◌-◌, ◌/◌};
 ghost use Rattle.std.specs.Prelude.{◌^◌};

@@ -1,4 +1,4 @@
-// The objects of all pools, each with a header and with bytes behind it.
+//! The objects of all pools, each with a header and with bytes behind it.
 
 ghost use Rattle.std.specs.Prelude.{◌≡◌, ℕ, ◌<◌, ◌≤◌, ◌+◌, [], true, false, length, slice_index, replicate, MatchOption, IfSome};
 ghost use Rattle.std.specs.Prelude.{IsTrue, ◌↔◌};

@@ -1,4 +1,4 @@
-// The small steps that calls are made of.
+//! The small steps that calls are made of.
 
 ghost use Rattle.std.specs.Prelude.{◌≡◌, ◌+◌, ◌<◌, ◌≤◌, true, length, take, drop};
 ghost use Rattle.dp_model.specs.Environments.{room_at};

@@ -1,4 +1,4 @@
-// What is proved of the definitions themselves, as contracts of functions that do nothing.
+//! What is proved of the definitions themselves, as contracts of functions that do nothing.
 
 ghost use Rattle.std.specs.Prelude.{◌≡◌, ◌≢◌, ◌↔◌, ◌⊎◌, ℕ, ◌+◌, ◌*◌, ◌%◌, ◌^◌, ◌<◌, ◌≤◌, Bool, true, List, [], ◌∷◌, length, Option, Some, None, slice_index_or};
 ghost use Rattle.dp_model.specs.Arithmetic.{all_ones, big_endian, spelled};

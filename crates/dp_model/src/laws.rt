@@ -1,4 +1,4 @@
-// What is proved of accepted programs, as contracts of functions that do nothing.
+//! What is proved of accepted programs, as contracts of functions that do nothing.
 
 ghost use Rattle.std.specs.Prelude.{◌≡◌, ◌+◌, ◌*◌, ◌<◌, ◌≤◌, ℕ, List, Bool, Some, length, slice_get};
 ghost use Rattle.std.specs.List.{AllByRecursion};

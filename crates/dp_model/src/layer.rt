@@ -1,4 +1,4 @@
-// The layer of packets that an engine stands on: what each call on packets does, whoever keeps them.
+//! The layer of packets that an engine stands on: what each call on packets does, whoever keeps them.
 
 ghost use Rattle.std.specs.Prelude.{◌≡◌, ◌≢◌, ℕ, ◌+◌, ◌*◌, ◌^◌, ◌<◌, ◌≤◌, Bool, true, ◌↔◌, length, IsTrue, slice_index, slice_get, Some, None};
 ghost use Rattle.dp_model.specs.Arithmetic.{bytes_in};

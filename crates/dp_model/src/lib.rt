@@ -1,5 +1,5 @@
-// The words of the packet forwarder: its instructions, the facts about packets, the rows of certificates
-// and the environments of programs.
+//! The words of the packet forwarder: its instructions, the facts about packets, the rows of certificates
+//! and the environments of programs.
 #![tactic(auto)]
 
 mod definition_laws;

@@ -1,4 +1,4 @@
-// The limits and sizes that definitions name, as constants.
+//! The limits and sizes that definitions name, as constants.
 
 /// The most buffers of a pool, and of all pools together: what 16 bits number.
 pub const MOST_BUFFERS: u32 = 65_535;

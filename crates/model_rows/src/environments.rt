@@ -1,4 +1,4 @@
-// Environments: which there are, and why there is none.
+//! Environments: which there are, and why there is none.
 
 use dp_model::{Entry, Env, EnvError, Fact, PoolSpec, PortSpec, RingSpec, Row};
 use std::test::Fail;

@@ -1,4 +1,4 @@
-// Facts and rows that tests begin with.
+//! Facts and rows that tests begin with.
 
 use dp_model::{Fact, Row};
 

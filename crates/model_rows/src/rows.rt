@@ -1,4 +1,4 @@
-// Facts, rows and registers, on known values.
+//! Facts, rows and registers, on known values.
 
 use crate::known::{at_port, dead, single, with_shares};
 use dp_model::{

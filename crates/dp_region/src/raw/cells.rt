@@ -1,5 +1,5 @@
-// The bytes of a region while parts of them are lent, and the rights to give those back.
-// Neither takes any memory.
+//! The bytes of a region while parts of them are lent, and the rights to give those back.
+//! Neither takes any memory.
 ghost use Rattle.std.specs.Prelude.{◌≡◌, ℕ, ◌+◌, ◌^◌, ◌<◌, ◌≤◌, true, List, [], length};
 ghost use Rattle.dp_region.specs.Spans.{Span, listed, IsUnlent, with_span, without_span, Spaced, bytes_in, with_bytes};
 ghost use Rattle.dp_region.specs.Ownership.{Home, ptr_at, ticket, cells_own, cells_shared};
