@@ -96,9 +96,9 @@ read_set olds news inputs n i b read here now q j old new at a c = go (split q n
         rw (← x, ← z) (now old (ap (slice_get olds) (sym same) ∙ a))
     go (inr other) = read q j old new at a (sym (get_set_other news n q b other) ∙ c)
 
--- what a refusal leaves of the bytes
+-- what a fault says of the bytes
 refuses_of : (error : PcapError) (s s' : Standing) (unit : TimeUnit) (records : List PacketRecord) (bytes rest buf : List ℕ) → s.unit ≡ unit →
-    ReadsOn bytes records s s' rest buf (Err error) → Refuses unit records error bytes
+    ReadsOn bytes records s s' rest buf (Err error) → Refuses unit records error bytes rest
 refuses_of BadMagic s s' unit records bytes rest buf same has = rw (← same) has
 refuses_of BadVersion s s' unit records bytes rest buf same has = rw (← same) has
 refuses_of BadLink s s' unit records bytes rest buf same has = rw (← same) has
@@ -106,7 +106,7 @@ refuses_of BadTime s s' unit records bytes rest buf same has = rw (← same) has
 refuses_of TooLong s s' unit records bytes rest buf same has = rw (← same) has
 refuses_of ShortHeader s s' unit records bytes rest buf same has = rw (← same) has
 refuses_of TooMany s s' unit records bytes rest buf same has = rw (← same) has
-refuses_of Read s s' unit records bytes rest buf same has = tt
+refuses_of Read s s' unit records bytes rest buf same has = (s, same, has)
 refuses_of error s s' unit records bytes rest buf same has = rw (← same) has
 
 -- an input that is open, whose source answers, in a run that goes along
@@ -202,8 +202,8 @@ module _ (unit : TimeUnit) (e0 e : EngineState) (olds news held mids : List (Opt
       input_is = i_here;
       is_open = i_open;
       fault = λ old new at c.
-          subst (λ x. WhereKnown old x (λ bytes rest. Refuses i.unit i.records error bytes)) (set_here news port b new c)
-          (left_of (λ bytes rest. Refuses i.unit i.records error bytes) buf (Err error) more
+          subst (λ x. WhereKnown old x (Refuses i.unit i.records error)) (set_here news port b new c)
+          (left_of (Refuses i.unit i.records error) buf (Err error) more
           (λ bytes left rest read now. refuses_of error p.source p'.source i.unit i.records bytes rest buf i_stands.unit now) old at);
     },
   )

@@ -13,7 +13,7 @@ use Rattle.dp_pcap.specs.declared.error.PcapError.TheVariants.{Read}
 use Rattle.dp_pcap.specs.Standing.{Standing}
 use Rattle.dp_pcap.specs.Capture.{PacketRecord, IsCapture}
 use Rattle.dp_pcap.specs.Capture as capture
-use Rattle.dp_pcap.specs.Source.{WhereKnown, HasRead, Continues, IsInRange, Moves}
+use Rattle.dp_pcap.specs.Source.{WhereKnown, HasRead, FailsBehind, Continues, IsInRange, Moves}
 use Rattle.dp_pcap.specs.declared.source.Next.{Next}
 use Rattle.dp_pcap.specs.declared.source.Next.TheVariants.{Record, End}
 use Rattle.dp_pcap.specs.declared.source.Next.TheVariants as next
@@ -55,10 +55,14 @@ AreRead olds news inputs =
     (port : ℕ) (i : Input) (old new : Option (List ℕ)) → slice_get inputs port ≡ Some i → slice_get olds port ≡ Some old → slice_get news port ≡ Some new
     → WhereKnown old new (λ bytes rest. Gives i.state i.unit i.records bytes)
 
--- of these bytes a header and these records were read, and then comes a fault; a reader that fails may do so anywhere
-abbrev pub Refuses : TimeUnit → List PacketRecord → PcapError → List ℕ → Type 0
-Refuses unit records Read bytes = ⊤
-Refuses unit records error bytes = IsCapture bytes unit records (capture.Ending.Refused error)
+-- of these bytes a header and these records were read; then less than a whole record came, and the rest is left
+abbrev pub BreaksOff : TimeUnit → List PacketRecord → List ℕ → List ℕ → Type 0
+BreaksOff unit records bytes rest = (s : Standing) × (s.unit ≡ unit) × FailsBehind bytes s records rest
+
+-- of these bytes a header and these records were read, and then comes a fault: the reader failed inside what follows, or that is refused
+abbrev pub Refuses : TimeUnit → List PacketRecord → PcapError → List ℕ → List ℕ → Type 0
+Refuses unit records Read bytes rest = BreaksOff unit records bytes rest
+Refuses unit records error bytes rest = IsCapture bytes unit records (capture.Ending.Refused error)
 
 -- nanoseconds if any input has them, else microseconds
 abbrev pub is_nano : TimeUnit → Bool
@@ -158,7 +162,7 @@ pub record HasFault (olds news : List (Option (List ℕ))) (inputs : List Input)
   pub input_is : slice_get inputs port ≡ Some input
   pub is_open : input.state ≡ Open
   pub fault : (old new : Option (List ℕ)) → slice_get olds port ≡ Some old → slice_get news port ≡ Some new
-      → WhereKnown old new (λ bytes rest. Refuses input.unit input.records error bytes)
+      → WhereKnown old new (λ bytes rest. Refuses input.unit input.records error bytes rest)
 
 abbrev pub is_over : InputState → Bool
 is_over Open = false
