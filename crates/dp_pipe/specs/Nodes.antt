@@ -1,7 +1,6 @@
 -- What is loaded for the nodes of a pipeline.
 use Rattle.std.specs.Prelude.{◌≡◌, ℕ, ◌+◌, ◌⊎◌, List, [], ◌∷◌, ◌++◌, length, Option, Some, None, Result, Ok, Err}
 use Rattle.std.specs.List.{AllZip}
-use Rattle.dp_model.specs.declared.row.Row.{Row}
 use Rattle.dp_model.specs.declared.instr.Instr.{Instr}
 use Rattle.dp_model.specs.declared.env.Entry.{Entry}
 use Rattle.dp_model.specs.declared.env.Entry.TheVariants.{Port, Ring}
@@ -13,8 +12,7 @@ use Rattle.dp_cert.specs.declared.error.Fault.{Fault as CertFault}
 use Rattle.dp_cert.specs.Spelling.{Certificate, certificate_of, CertText}
 use Rattle.dp_cert.specs.Reading.{cert_of}
 use Rattle.dp_check.specs.Faults.{question, IsWith, IsChecked, IsRefusedWith}
-use Rattle.dp_model.specs.Jumps.{IsForward}
-use Rattle.dp_infer.specs.Inference.{Certifies, SaysMost}
+use Rattle.dp_infer.specs.Inference.{SaysMost, IsNotInferred}
 use Rattle.dp_pipe.specs.declared.nodes.How.{How}
 use Rattle.dp_pipe.specs.declared.nodes.How.TheVariants.{Given, Inferred}
 use Rattle.dp_pipe.specs.declared.error.PipeError.{PipeError}
@@ -109,12 +107,12 @@ pub record IsRefusedBy (known : Option FileMap) (env : Environment) (entry : Ent
   pub spelled : IsCertOf known name (length program) cert
   pub refused : IsRefusedWith (question program cert env entry) label rule
 
--- no certificate is found; if the program is forward, it is accepted with none
+-- no certificate is found: a forward program has none, and with one that was tried the program is refused at the label by the rule
 pub record IsWithoutCert (env : Environment) (entry : Entry) (program : List Instr) (e : PipeError) : Type 0 where
   pub label : ℕ
   pub rule : ℕ
   pub is : e ≡ errors.NotInferred entry label rule
-  pub none : IsForward program → (rows : List Row) → ¬ Certifies program env entry rows
+  pub none : IsNotInferred program env entry label rule
 
 -- why there is no program: its file, or its text
 abbrev pub HasNoProgram : Option FileMap → Entry → List ℕ → PipeError → Type 0

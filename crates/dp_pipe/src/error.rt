@@ -77,18 +77,18 @@ pub enum PipeError {
     NotInferred {
         /// The node.
         node: Entry,
-        /// The label, from 0.
+        /// The least label, from 0, at which a rule fails with the last certificate that was tried.
         label: u16,
-        /// The number of the rule, 1 to 12.
+        /// The number of the first rule that fails there, 2 to 11: each certificate that is tried has a row for each instruction.
         rule: u8,
     },
     /// A node's program is refused with its certificate.
     Refused {
         /// The node.
         node: Entry,
-        /// The least label that fails, from 0.
+        /// The least label, from 0, at which a rule fails.
         label: u16,
-        /// The number of its first rule that fails, 1 to 12.
+        /// The number of the first rule that fails there, 2 to 11: a certificate that is read has a row for each instruction.
         rule: u8,
     },
 }

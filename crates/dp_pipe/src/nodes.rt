@@ -172,7 +172,7 @@ fn cert_read(how: How, names: &NodeNames) -> Option<&str>
 /// In this order: [`PipeError::File`] where the program file cannot be fetched or is longer than 1,048,576 bytes, and
 /// [`PipeError::Asm`]; where a certificate is named, and not all are inferred, [`PipeError::File`] for its file,
 /// [`PipeError::BadCert`] and [`PipeError::Refused`]; else [`PipeError::NotInferred`], for a forward program exactly where it
-/// is accepted with no certificate. [`PipeError::Memory`] may come at any time.
+/// is accepted with no certificate, with the label and the rule of one that was tried. [`PipeError::Memory`] may come at any time.
 pub(crate) fn load_node<F: Files>(
     alloc: Global,
     files: &mut F,
