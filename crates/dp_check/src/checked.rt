@@ -57,6 +57,20 @@ impl Checked {
         &self.cert
     }
 
+    /// The program alone, for one who has no more use for the certificate.
+    pub fn into_program(self) -> Program
+        ensures same { result ≡ self.program }
+        ensures checked { IsChecked self }
+    {
+        let Checked {
+            program,
+            cert: _,
+            env: _,
+            entry: _,
+        } = self;
+        program
+    }
+
     /// The environment that it is accepted for.
     pub fn env(&self) -> &Env
         ensures { result.now ≡ self.now.env }

@@ -23,6 +23,7 @@ pub mod Waits
 pub mod Closing
 pub mod Idling
 pub mod Opening
+pub mod Parting
 pub mod Parts
 mod Examples
 pub mod GivingUp
@@ -34,6 +35,5 @@ pub mod Writing
 pub mod Resting
 pub mod Emptied
 pub mod Reporting
-pub mod Pipelines
 pub mod Served
 pub mod Turning

@@ -1,6 +1,6 @@
 -- What tables answer.
-use Rattle.std.proofs.Common.{◌≡◌, ℕ, zero, suc, ◌%◌, ◌^◌, ◌<◌, List, [], ◌∷◌, length, Option, Some, refl, sym, ◌∙◌, ap, subst, arith}
-use Rattle.std.specs.Prelude.{slice_get, slice_index, slice_index_or, option_map}
+use Rattle.std.proofs.Common.{◌≡◌, ℕ, zero, suc, ◌%◌, ◌^◌, ◌<◌, List, [], ◌∷◌, length, Option, Some, subst, arith}
+use Rattle.std.specs.Prelude.{slice_get, slice_index, option_map}
 use Rattle.std.proofs.lemmas.Option.{none-some}
 use Rattle.dp_model.specs.declared.instr.Instr.{Instr}
 use Rattle.dp_model.specs.declared.instr.Instr.TheVariants.{Lookup}
@@ -9,16 +9,12 @@ use Rattle.dp_model.specs.Machine.{Setting, State, Move, Acts, finds}
 use Rattle.dp_lpm.specs.Routes.{RouteTable}
 use Rattle.dp_engine.specs.Steps.{routes_of}
 
--- the routes of a table
-pub routes_at : (tables : List RouteTable) (k : ℕ) (d : RouteTable) → k < length tables
-    → slice_get (routes_of tables) k ≡ Some (slice_index_or tables k d).routes
-routes_at [] k d lt = absurd (omega (arith, lt))
-routes_at (t ∷ tables) zero d lt = refl
-routes_at (t ∷ tables) (suc k) d lt = routes_at tables k d (omega (arith, lt))
-
-pub hop_at : (tables : List RouteTable) (k : ℕ) (d : RouteTable) (ip : ℕ) (hop : Option ℕ) → k < length tables
-    → hop ≡ hop_for (slice_index_or tables k d).routes ip → option_map (λ routes. hop_for routes ip) (slice_get (routes_of tables) k) ≡ Some hop
-hop_at tables k d ip hop lt is = ap (option_map (λ routes. hop_for routes ip)) (routes_at tables k d lt) ∙ ap Some (sym is)
+-- what a table answers is what its routes answer
+pub hop_at : (tables : List RouteTable) (k ip : ℕ) (hop : Option ℕ) → option_map (λ (t : RouteTable). hop_for t.routes ip) (slice_get tables k) ≡ Some hop
+    → option_map (λ routes. hop_for routes ip) (slice_get (routes_of tables) k) ≡ Some hop
+hop_at [] k ip hop is = absurd (none-some hop is)
+hop_at (t ∷ tables) zero ip hop is = is
+hop_at (t ∷ tables) (suc k) ip hop is = hop_at tables k ip hop is
 
 -- an instruction that looks up in a table has one
 finds_in : (tables : List RouteTable) (k ip label r l : ℕ) (xs : List ℕ) (after : ℕ × List ℕ) → finds (slice_get (routes_of tables) k) ip label r l xs

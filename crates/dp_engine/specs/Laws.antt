@@ -19,10 +19,11 @@ use Rattle.dp_ring.specs.Rings.{IsCount}
 use Rattle.dp_engine.specs.Needs.{ring_counts, list_counts}
 use Rattle.dp_model.specs.Prefixes.{Route}
 use Rattle.dp_model.specs.Rules.{Question}
+use Rattle.dp_lang.specs.Programs.{IsProgram}
 use Rattle.dp_lpm.specs.Routes.{RouteTable}
 use Rattle.dp_check.specs.Faults.{IsChecked}
 use Rattle.dp_engine.specs.Steps.{setting_of, routes_of}
-use Rattle.dp_engine.specs.Schemes.{programs_of, nodes_of, AreNodes, IsPlan}
+use Rattle.dp_engine.specs.Schemes.{programs_of, nodes_of, scheme_of, AreNodes, IsPlan}
 use Rattle.dp_model.specs.Laws.{Checked, AreChecked}
 use Rattle.dp_model.specs.Laws.Limits.{if_none, or_none, map_none, not_false, ports_have_room}
 use Rattle.dp_model.specs.Laws.Lists.{each_at}
@@ -63,6 +64,7 @@ count_fits n h =
 -- the numbers of an environment, and that each pool, ring and list is within the limits
 pub record IsKnown (e : Environment) : Type 0 where
   pub pools : (1 ≤ length e.pools) × (length e.pools ≤ 8)
+  pub tables : e.tables ≤ 4
   pub rings : length e.rings ≤ 8
   pub ports : (1 ≤ length e.ports) × (length e.ports ≤ 8)
   pub pools_fit : AllByRecursion (λ s. pool_fits s ≡ true) e.pools
@@ -101,6 +103,7 @@ known e h =
     let three = or_none _ _ two.1 in
     record {
       pools = (leb-true 1 (length e.pools) some, leb-true (length e.pools) 8 pools);
+      tables = leb-true e.tables 4 tables;
       rings = leb-true (length e.rings) 8 rings;
       ports = (leb-true 1 (length e.ports) port, leb-true (length e.ports) 8 ports);
       pools_fit = all_pass pool_fits e.pools (map_none BadPool _ one.0);
@@ -181,12 +184,10 @@ are_checked env tables questions pattern limits nodes checked = record {
 pub plan_of : (env : Environment) (tables : List RouteTable) (questions : List Question) (pattern : List ℕ) → fault_of env ≡ None → AreNodes env questions
     → length tables ≡ env.tables → ((k : ℕ) (q : Question) → slice_get questions k ≡ Some q → IsChecked q)
     → ((k : ℕ) (t : RouteTable) → slice_get tables k ≡ Some t → AllByRecursion (λ (route : Route). route.hop ≤ largest_hop) t.routes)
-    → IsPlan env tables questions pattern
+    → IsPlan (scheme_of env tables questions pattern)
 plan_of env tables questions pattern limits nodes many checked hops =
     let all : length (programs_of questions) ≡ length env.ports + length env.rings = length-map questions (λ (q : Question). q.program) ∙ nodes.many in
     record {
-      nodes = nodes;
-      many = many;
       pipeline = record {
         limits = limits;
         checked = are_checked env tables questions pattern limits nodes checked;
@@ -199,4 +200,13 @@ plan_of env tables questions pattern limits nodes many checked hops =
             let (t, is_t, is_routes) = get_map (λ (t : RouteTable). t.routes) tables k routes h in
             subst (AllByRecursion (λ (route : Route). route.hop ≤ largest_hop)) is_routes (hops k t is_t));
       };
+      ports = each_slot IsProgram (take (length env.ports) (programs_of questions)) (λ k program h.
+          are_programs k program (get_take (length env.ports) (programs_of questions) k program h).1);
+      rings = each_slot IsProgram (drop (length env.ports) (programs_of questions)) (λ k program h.
+          are_programs (length env.ports + k) program (sym (get_drop (length env.ports) (programs_of questions) k) ∙ h));
     }
+  where
+    are_programs : (k : ℕ) (program : List Instr) → slice_get (programs_of questions) k ≡ Some program → IsProgram program
+    are_programs k program h =
+        let (q, is_q, is_program) = get_map (λ (q : Question). q.program) questions k program h in
+        subst IsProgram is_program (checked k q is_q).program

@@ -3,12 +3,12 @@ ghost use Rattle.std.specs.Prelude.{◌≡◌, ◌%◌, ◌^◌, ◌<◌, Some, 
 ghost use Rattle.dp_model.specs.Prefixes.{hop_for};
 ghost use Rattle.dp_engine.specs.Steps.{routes_of};
 
-use dp_lpm::Lpm;
+use dp_lpm::Tables;
 
 // The hop that a table has for the address in the low 32 bits of a number.
-pub(crate) fn hop_in(tables: &[Lpm], table: u8, n: u64) -> Option<u32>
+pub(crate) fn hop_in(tables: &Tables, table: u8, n: u64) -> Option<u32>
     requires { table < length tables.now }
     ensures { option_map (λ routes. hop_for routes (n % 2 ^ 32)) (slice_get (routes_of tables.now) table) ≡ Some result }
 {
-    tables[usize::from(table)].lookup((n % 4294967296) as u32)
+    tables.lookup(table, (n % 4294967296) as u32)
 }

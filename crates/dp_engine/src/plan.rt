@@ -1,59 +1,64 @@
 //! What node runs rest on: an environment, its tables, a checked program for each port and each ring, and a pattern of refusals.
-ghost use Rattle.std.specs.Prelude.{◌≡◌, ◌<◌, ◌≤◌, [], length, slice_get, Some, ℕ};
-ghost use Rattle.dp_model.specs.Rules.{Question};
+ghost use Rattle.std.specs.Prelude.{◌≡◌, ◌+◌, ◌<◌, ◌≤◌, [], drop, length, map, slice_get, take, Some};
 ghost use Rattle.std.specs.List.{AllByRecursion};
-ghost use Rattle.dp_model.specs.Limits.{largest_hop};
-ghost use Rattle.dp_model.specs.Prefixes.{Route};
-ghost use Rattle.dp_lpm.specs.Routes.{RouteTable};
 ghost use Rattle.dp_check.specs.Faults.{IsChecked};
 ghost use Rattle.dp_lang.specs.Programs.{IsProgram};
 ghost use Rattle.dp_model.specs.Safety.{IsPipeline, KeepsSafe};
 ghost use Rattle.dp_model.specs.Meaning.{TablesFit};
-ghost use Rattle.dp_engine.specs.Steps.{setting_of, routes_of};
-ghost use Rattle.dp_engine.specs.Schemes.{scheme_of, AreNodes};
+ghost use Rattle.dp_engine.specs.Steps.{routes_of};
+ghost use Rattle.dp_engine.specs.Schemes.{scheme_of, programs_of, AreNodes};
 
+use arrayvec::ArrayVec;
 use dp_check::Checked;
-use dp_lpm::Lpm;
+use dp_lpm::{Lpm, Tables};
 use dp_model::{Env, Instr, pipelines_keep_safe};
+use std::alloc::Global;
 use std::marker::Model;
+
+// The programs of the ports or of the rings.
+type Programs = ArrayVec<Vec<Instr>, 8, Global>;
 
 /// What node runs rest on.
 #[derive(Drop)]
 pub(crate) struct Plan {
     env: Env,
-    tables: Vec<Lpm>,
-    // Those of the ports, then those of the rings.
-    nodes: Vec<Checked>,
-    pattern: Option<Vec<u64>>,
+    tables: Tables,
+    ports: Programs,
+    rings: Programs,
+    pattern: Vec<u64>,
 }
 
 impl Model for Plan {
-    ghost use Rattle.std.specs.Prelude.{option_map};
-    ghost use Rattle.dp_engine.specs.Schemes.{Scheme, scheme_of, pattern_of, IsPlan};
+    ghost use Rattle.std.specs.Prelude.{map};
+    ghost use Rattle.dp_engine.specs.Schemes.{Scheme, scheme_in, IsPlan};
 
     ghost Value = { Scheme };
 
-    ghost view = { λ p. scheme_of p.env p.tables.items p.nodes.items (pattern_of (option_map (λ v. v.items) p.pattern)) };
+    ghost view = { λ p. scheme_in p.env p.tables (map (λ v. v.items) p.ports.items) (map (λ v. v.items) p.rings.items) p.pattern.items };
 
-    ghost invariant = { λ p. IsPlan p.env p.tables.items p.nodes.items (pattern_of (option_map (λ v. v.items) p.pattern)) };
+    ghost invariant = { λ p. IsPlan (scheme_in p.env p.tables (map (λ v. v.items) p.ports.items) (map (λ v. v.items) p.rings.items) p.pattern.items) };
 }
 
-// What every table is known to keep: no hop is above the largest.
-fn tell_hops(tables: &[Lpm])
-    ensures { (k : ℕ) (t : RouteTable) → slice_get tables.now k ≡ Some t → AllByRecursion (λ (route : Route). route.hop ≤ largest_hop) t.routes }
+// The programs of the ports, and those of the rings, which come behind them.
+fn parted(nodes: Vec<Checked>, ports: usize) -> (Programs, Programs)
+    requires ports { ports ≤ 8 }
+    requires rings { length nodes.items ≤ ports + 8 }
+    ensures ports { map (λ v. v.items) result.0.items ≡ take ports (programs_of nodes.items) }
+    ensures rings { map (λ v. v.items) result.1.items ≡ drop ports (programs_of nodes.items) }
+    ensures checked { AllByRecursion IsChecked nodes.items }
 {
-    for table in tables {
-        let _rules = table.len();
-    }
-}
-
-// What is known of every checked program: no rule fails, and its certificate is well formed.
-fn tell_checked(nodes: &[Checked])
-    ensures { (k : ℕ) (q : Question) → slice_get nodes.now k ≡ Some q → IsChecked q }
-{
+    let alloc = *nodes.allocator();
+    let mut of_ports = ArrayVec::new_in(alloc);
+    let mut of_rings = ArrayVec::new_in(alloc);
     for node in nodes {
-        let _program = node.program();
+        let instrs = node.into_program().into_instrs();
+        if of_ports.len() < ports {
+            of_ports.push(instrs);
+        } else {
+            of_rings.push(instrs);
+        }
     }
+    (of_ports, of_rings)
 }
 
 impl Plan {
@@ -65,13 +70,15 @@ impl Plan {
         ensures pipeline { IsPipeline result.setting result.nodes }
         ensures tables { TablesFit result.setting }
     {
-        tell_hops(tables.as_slice());
-        tell_checked(nodes.as_slice());
+        let env = env.copy();
+        let pattern = Vec::new(*nodes.allocator());
+        let (ports, rings) = parted(nodes, env.ports().len());
         Plan {
-            env: env.copy(),
-            tables,
-            nodes,
-            pattern: None,
+            env,
+            tables: Tables::of(tables),
+            ports,
+            rings,
+            pattern,
         }
     }
 
@@ -79,7 +86,7 @@ impl Plan {
     pub(crate) fn refuse(&mut self, pattern: Vec<u64>)
         ensures { self.new ≡ record self.old { setting = record self.old.setting { pattern = pattern.items } } }
     {
-        self.pattern = Some(pattern);
+        self.pattern = pattern;
     }
 
     // The environment. What is true of every plan is said here.
@@ -94,20 +101,17 @@ impl Plan {
     }
 
     // The tables.
-    pub(crate) fn tables(&self) -> &[Lpm]
+    pub(crate) fn tables(&self) -> &Tables
         ensures { routes_of result.now ≡ self.now.setting.tables }
     {
-        self.tables.as_slice()
+        &self.tables
     }
 
     // The numbers of the calls that are refused.
     pub(crate) fn pattern(&self) -> &[u64]
         ensures { result.now ≡ self.now.setting.pattern }
     {
-        match &self.pattern {
-            Some(pattern) => pattern.as_slice(),
-            None => &[],
-        }
+        self.pattern.as_slice()
     }
 
     // The program of a port.
@@ -116,7 +120,7 @@ impl Plan {
         ensures same { slice_get self.now.nodes.ports port ≡ Some result.now }
         ensures program { IsProgram result.now }
     {
-        self.nodes[usize::from(port)].program().instrs()
+        &self.ports[usize::from(port)]
     }
 
     // The program of a ring.
@@ -125,7 +129,6 @@ impl Plan {
         ensures same { slice_get self.now.nodes.rings ring ≡ Some result.now }
         ensures program { IsProgram result.now }
     {
-        let k = self.env.ports().len() + usize::from(ring);
-        self.nodes[k].program().instrs()
+        &self.rings[usize::from(ring)]
     }
 }

@@ -47,4 +47,12 @@ impl Program {
     {
         &self.instrs
     }
+    /// The instructions, for one who keeps them.
+    pub fn into_instrs(self) -> Vec<Instr>
+        ensures same { result.items ≡ self }
+        ensures program { IsProgram result.items }
+    {
+        let Program { instrs } = self;
+        instrs
+    }
 }

@@ -1,5 +1,5 @@
 -- The deepest route that is at most so deep is the deepest of those that match.
-use Rattle.std.proofs.Common.{◌≡◌, ℕ, zero, suc, ◌-◌, ◌/◌, ◌^◌, ◌≤◌, Bool, true, false, cond, ◌&&◌, ◌||◌, List, [], ◌∷◌, Option, Some, None, refl, sym, ◌∙◌}
+use Rattle.std.proofs.Common.{◌≡◌, ℕ, zero, suc, ◌-◌, ◌/◌, ◌^◌, ◌≤◌, Bool, true, false, cond, ◌&&◌, ◌||◌, List, [], ◌∷◌, map, Option, Some, None, refl, sym, ◌∙◌}
 use Rattle.std.proofs.Common.{ap, subst, arith, ⊎_elim}
 use Rattle.std.specs.Prelude.{◌==◌, Contains, option_map, IfSome}
 use Rattle.std.specs.List.{list_any, AllByRecursion}
@@ -8,11 +8,11 @@ use Rattle.std.proofs.lemmas.Bool.{eq-eqb, eqb-true, cases_eq, cases_Bool}
 use Rattle.std.proofs.lemmas.Option.{same_Some}
 use Rattle.dp_model.specs.Prefixes.{Route, is_match, hop_for, LooksUp}
 use Rattle.dp_lpm.specs.declared.rule.Rule.{Rule}
-use Rattle.dp_lpm.specs.Routes.{prefix_of, is_at, route_at, deepest_within, IsRoute, AreOnce, IsTableOfRoutes}
+use Rattle.dp_lpm.specs.Routes.{prefix_of, is_at, route_at, deepest_within, HasSmallHops, IsRoute, AreOnce, IsTableOfRoutes}
 use Rattle.dp_lpm.specs.Rules.{rank, route_of, routes_of, IsOrdered}
 use Rattle.dp_lpm.proofs.Within.{within_zero, within_suc}
 use Rattle.dp_lpm.specs.declared.ruled_table.RuledTable.{RuledTable}
-use Rattle.dp_lpm.specs.Kept.{shown, IsKept}
+use Rattle.dp_lpm.specs.Kept.{routes_in, shown, IsKept}
 use Rattle.std.proofs.lemmas.List.{length-map}
 use Rattle.dp_lpm.proofs.Counting.{used_few}
 use Rattle.dp_lpm.proofs.Deepest.{route_is}
@@ -144,6 +144,11 @@ is_table s kept = record {
 pub low_hops : (routes : List Route) → AllByRecursion IsRoute routes → AllByRecursion (λ route. route.hop ≤ 16777215) routes
 low_hops [] all = tt
 low_hops (r ∷ routes) all = (all.0.hop, low_hops routes all.1)
+
+-- nor in any of several tables
+pub small_hops : (tables : List RuledTable) → AllByRecursion IsKept tables → AllByRecursion HasSmallHops (map shown tables)
+small_hops [] all = tt
+small_hops (s ∷ tables) all = (low_hops (routes_in s) all.0.each, small_hops tables all.1)
 
 -- what a look-up answers is no greater
 pub low_hop : (routes : List Route) (ip : ℕ) → AllByRecursion IsRoute routes → IfSome (hop_for routes ip) (λ hop. hop ≤ 16777215)

@@ -79,3 +79,7 @@ pub record IsTableOfRoutes (t : RouteTable) : Type 0 where
   pub once : AreOnce t.routes
   pub few : length t.routes ≤ t.max_rules
   pub groups : groups_needed t.routes ≤ t.groups
+
+-- no hop of the table is above the greatest
+abbrev pub HasSmallHops : RouteTable → Type 0
+HasSmallHops t = AllByRecursion (λ (route : Route). route.hop ≤ MAX_HOP) t.routes

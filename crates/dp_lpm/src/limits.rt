@@ -32,3 +32,6 @@ pub const GROUP_DEPTH: u32 = 255;
 
 /// How many addresses there are.
 pub const ADDRESSES: u64 = 0x1_0000_0000;
+
+/// The most tables that stand together.
+pub const MAX_TABLES: usize = 4;

@@ -2,8 +2,7 @@
 
 ghost use Rattle.std.specs.Prelude.{◌≡◌, ◌≤◌, [], length, IsTrue, ◌↔◌, None, Some, IfOk, IfSome, OnOk, OnErr, IfErr};
 ghost use Rattle.dp_model.specs.Prefixes.{hop_for, LooksUp};
-ghost use Rattle.dp_lpm.specs.Routes.{prefix_of, IsTableOfRoutes, Puts, Drops};
-ghost use Rattle.std.specs.List.{AllByRecursion};
+ghost use Rattle.dp_lpm.specs.Routes.{prefix_of, IsTableOfRoutes, HasSmallHops, Puts, Drops};
 ghost use Rattle.dp_lpm.specs.Faults.{added, add_fault, delete_fault};
 
 use crate::error::{LpmError, Memory};
@@ -32,13 +31,15 @@ impl Model for Lpm {
 }
 
 impl Lpm {
+    ghost use Rattle.dp_lpm.specs.Kept.{IsKept, shown};
+
     /// A table without rules, for at most so many rules and so many prefixes of 24 bits with rules deeper than 24.
     pub fn new(alloc: Global, max_rules: u32, groups: u32) -> Result<Lpm, Memory>
         requires rules { max_rules ≤ MAX_RULES }
         requires groups { groups ≤ MAX_GROUPS }
         ensures empty { IfOk result (λ t. t ≡ record { routes = []; max_rules = max_rules; groups = groups }) }
         ensures table { IfOk result IsTableOfRoutes }
-        ensures hops { IfOk result (λ t. AllByRecursion (λ route. route.hop ≤ MAX_HOP) t.routes) }
+        ensures hops { IfOk result HasSmallHops }
     {
         Ok(Lpm {
             ruled: RuledTable::new(alloc, max_rules, groups)?,
@@ -53,7 +54,7 @@ impl Lpm {
         ensures fault { IfErr result (λ e. add_fault self.old ip depth hop ≡ Some e) }
         ensures err { OnErr result (self.new ≡ self.old) }
         ensures table { IsTableOfRoutes self.new }
-        ensures hops { AllByRecursion (λ route. route.hop ≤ MAX_HOP) self.new.routes }
+        ensures hops { HasSmallHops self.new }
     {
         self.ruled.add(ip, depth, hop)
     }
@@ -65,7 +66,7 @@ impl Lpm {
         ensures fault { IfErr result (λ e. delete_fault self.old ip depth ≡ Some e) }
         ensures err { OnErr result (self.new ≡ self.old) }
         ensures table { IsTableOfRoutes self.new }
-        ensures hops { AllByRecursion (λ route. route.hop ≤ MAX_HOP) self.new.routes }
+        ensures hops { HasSmallHops self.new }
     {
         self.ruled.delete(ip, depth)
     }
@@ -83,9 +84,18 @@ impl Lpm {
     pub fn len(&self) -> usize
         ensures len { result ≡ length self.now.routes }
         ensures table { IsTableOfRoutes self.now }
-        ensures hops { AllByRecursion (λ route. route.hop ≤ MAX_HOP) self.now.routes }
+        ensures hops { HasSmallHops self.now }
     {
         self.ruled.len()
+    }
+
+    // Its rules and entries, for several tables.
+    pub(crate) fn into_ruled(self) -> RuledTable
+        ensures kept { IsKept result }
+        ensures shown { shown result ≡ self }
+    {
+        let Lpm { ruled } = self;
+        ruled
     }
 
     /// Whether there is no rule.

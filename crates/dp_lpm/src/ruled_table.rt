@@ -10,6 +10,7 @@ use crate::limits::{FIRST_BITS, GROUP_ENTRIES, MAX_DEPTH, MAX_GROUPS, MAX_HOP, M
 use crate::rule::{Rule, entry_within, insert, prefix_of, remove, search};
 use crate::table::Table;
 use std::alloc::Global;
+use std::default::MadeWith;
 
 /// The rules in their order, and the entries that go by them.
 #[derive(Drop)]
@@ -17,6 +18,17 @@ pub struct RuledTable {
     pub rules: Vec<Rule>,
     pub table: Table,
     pub max_rules: u32,
+}
+
+impl MadeWith<Global> for RuledTable {
+    // What stands for a table in a free place: no rules, and no entries.
+    fn made_with(alloc: Global) -> RuledTable {
+        RuledTable {
+            rules: Vec::new(alloc),
+            table: Table::made_with(alloc),
+            max_rules: 0,
+        }
+    }
 }
 
 impl RuledTable {

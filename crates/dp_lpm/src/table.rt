@@ -7,6 +7,7 @@ use crate::cell::{Cell, Entry, fill, settle};
 use crate::error::Memory;
 use crate::limits::{FIRST_ENTRIES, GROUP_ENTRIES, MAX_DEPTH, MAX_GROUPS, MAX_RULES};
 use std::alloc::Global;
+use std::default::MadeWith;
 
 /// The entries of a table, and of each group how many rules are deeper than 24 bits in it: a group with none is free.
 #[derive(Drop)]
@@ -14,6 +15,17 @@ pub struct Table {
     pub first: Vec<Cell>,
     pub cells: Vec<Cell>,
     pub counts: Vec<u32>,
+}
+
+impl MadeWith<Global> for Table {
+    // What stands for a table in a free place: no entries.
+    fn made_with(alloc: Global) -> Table {
+        Table {
+            first: Vec::new(alloc),
+            cells: Vec::new(alloc),
+            counts: Vec::new(alloc),
+        }
+    }
 }
 
 impl Table {

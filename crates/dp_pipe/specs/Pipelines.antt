@@ -1,14 +1,11 @@
 -- What a pipeline is.
-use Rattle.std.specs.Prelude.{◌≡◌, ℕ, ◌+◌, ◌<◌, ◌≤◌, List, length, map, Some, None, slice_get, string_bytes}
-use Rattle.std.specs.List.{AllByRecursion}
+use Rattle.std.specs.Prelude.{◌≡◌, ℕ, ◌+◌, ◌<◌, List, length, map, Some, None, slice_get, string_bytes}
 use Rattle.dp_model.specs.declared.env.Entry.{Entry}
 use Rattle.dp_model.specs.declared.env.Entry.TheVariants.{Port, Ring}
 use Rattle.dp_model.specs.Environments.{Environment, fault_of}
-use Rattle.dp_model.specs.Prefixes.{Route}
 use Rattle.dp_model.specs.Rules.{Question}
 use Rattle.dp_region.specs.Region.{IsRegionSize}
-use Rattle.dp_lpm.specs.declared.limits.TheConstants.{MAX_HOP}
-use Rattle.dp_lpm.specs.Routes.{RouteTable}
+use Rattle.dp_lpm.specs.Routes.{RouteTable, HasSmallHops}
 use Rattle.dp_check.specs.Faults.{IsChecked}
 use Rattle.dp_pipe.specs.declared.file_names.PortNames.{PortNames}
 
@@ -33,10 +30,6 @@ pub record HasNodes (env : Environment) (nodes : List Question) : Type 0 where
   pub count : length nodes ≡ length env.ports + length env.rings
   pub ports : (port : ℕ) (q : Question) → port < length env.ports → slice_get nodes port ≡ Some q → IsFor env (Port port) q
   pub rings : (ring : ℕ) (q : Question) → slice_get nodes (length env.ports + ring) ≡ Some q → IsFor env (Ring ring) q
-
--- no hop of the table is above the greatest
-abbrev pub HasSmallHops : RouteTable → Type 0
-HasSmallHops t = AllByRecursion (λ (route : Route). route.hop ≤ MAX_HOP) t.routes
 
 -- the environment and the hops of the tables are within the limits, and the parts of a pipeline fit together
 pub record IsPlan (p : Plan) : Type 0 where

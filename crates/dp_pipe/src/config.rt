@@ -4,7 +4,7 @@ ghost use Rattle.std.specs.Prelude.{◌≡◌, map, option_map, string_bytes, If
 ghost use Rattle.std.specs.List.{All};
 ghost use Rattle.toml.specs.View.{table_view};
 ghost use Rattle.dp_pipe.specs.Config as spec;
-ghost use Rattle.dp_pipe.specs.Pipelines.{HasSmallHops};
+ghost use Rattle.dp_lpm.specs.Routes.{HasSmallHops};
 ghost use Rattle.dp_pipe.specs.Views as view;
 
 use crate::error::PipeError;

@@ -4,8 +4,8 @@ ghost use Rattle.std.specs.Prelude.{◌≡◌, ℕ, ◌+◌, ◌<◌, length, So
 ghost use Rattle.dp_model.specs.declared.env.Entry.TheVariants.{Port, Ring};
 ghost use Rattle.dp_model.specs.Environments.{fault_of};
 ghost use Rattle.dp_region.specs.Region.{IsRegionSize};
-ghost use Rattle.dp_lpm.specs.Routes.{RouteTable};
-ghost use Rattle.dp_pipe.specs.Pipelines.{HasNodes, HasSmallHops, IsFor, IsPlan, plan_of};
+ghost use Rattle.dp_lpm.specs.Routes.{RouteTable, HasSmallHops};
+ghost use Rattle.dp_pipe.specs.Pipelines.{HasNodes, IsFor, IsPlan, plan_of};
 
 use crate::file_names::PortNames;
 use dp_check::Checked;

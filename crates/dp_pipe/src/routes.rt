@@ -4,7 +4,7 @@ ghost use Rattle.std.specs.Prelude.{◌≡◌, ◌≤◌, ◌<◌, ◌^◌, ◌=
 ghost use Rattle.std.specs.Char.{is_ascii_digit};
 ghost use Rattle.std.specs.List.{list_all};
 ghost use Rattle.toml.specs.View.{view};
-ghost use Rattle.dp_pipe.specs.Pipelines.{HasSmallHops};
+ghost use Rattle.dp_lpm.specs.Routes.{HasSmallHops};
 ghost use Rattle.dp_pipe.specs.Routes as spec;
 ghost use Rattle.dp_pipe.specs.Views.{values};
 

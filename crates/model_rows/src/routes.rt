@@ -2,7 +2,7 @@
 
 mod plain;
 
-use dp_lpm::{Lpm, LpmError, Memory};
+use dp_lpm::{Lpm, LpmError, Memory, Tables};
 use plain::Plain;
 use std::test::Fail;
 
@@ -268,5 +268,28 @@ fn rules_are_counted(rt: HostRuntime) -> Result<(), Fail> {
     assert_eq!(rt; table.add(ip(10, 1, 2, 255), 24, 7), Ok(()));
     assert_eq!(rt; table.len(), 2);
     assert!(rt; !table.is_empty());
+    Ok(())
+}
+
+/// A table that sends what begins with so many bits of an address to a hop.
+fn one_rule(rt: &HostRuntime, ip: u32, depth: u8, hop: u32) -> Result<Lpm, Fail> {
+    let mut table = Lpm::new(rt.alloc(), 1, 0)?;
+    table.add(ip, depth, hop)?;
+    Ok(table)
+}
+
+#[test]
+fn tables_answer_by_their_numbers(rt: HostRuntime) -> Result<(), Fail> {
+    let list = [
+        one_rule(&rt, ip(10, 0, 0, 0), 8, 5)?,
+        one_rule(&rt, ip(11, 0, 0, 0), 8, 6)?,
+        one_rule(&rt, ip(10, 1, 0, 0), 16, 7)?,
+    ];
+    let tables = Tables::of(Vec::from_array(rt.alloc(), list)?);
+    assert_eq!(rt; tables.lookup(0, ip(10, 1, 2, 3)), Some(5));
+    assert_eq!(rt; tables.lookup(1, ip(10, 1, 2, 3)), None);
+    assert_eq!(rt; tables.lookup(1, ip(11, 1, 2, 3)), Some(6));
+    assert_eq!(rt; tables.lookup(2, ip(10, 1, 2, 3)), Some(7));
+    assert_eq!(rt; tables.lookup(2, ip(10, 2, 2, 3)), None);
     Ok(())
 }

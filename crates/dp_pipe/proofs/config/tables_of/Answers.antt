@@ -2,7 +2,7 @@
 use Rattle.std.proofs.Common.{sym}
 use Rattle.std.proofs.lemmas.List.Elements.{All-push}
 use Rattle.std.proofs.lemmas.Result.{err_from_is_err_and}
-use Rattle.dp_pipe.specs.Pipelines.{HasSmallHops}
+use Rattle.dp_lpm.specs.Routes.{HasSmallHops}
 use Rattle.dp_pipe.proofs.Taking.{table_more, table_fault}
 use Rattle.dp_pipe.proofs.config.tables_of.Goals as goal
 

@@ -2,7 +2,7 @@
 use Rattle.std.proofs.Common.{take, map}
 use Rattle.std.specs.List.{All}
 use Rattle.dp_pipe.specs.Config.{HoldAll}
-use Rattle.dp_pipe.specs.Pipelines.{HasSmallHops}
+use Rattle.dp_lpm.specs.Routes.{HasSmallHops}
 use Rattle.dp_pipe.specs.Views.{table_part}
 use Rattle.dp_pipe.proofs.config.tables_of.Given as goal
 

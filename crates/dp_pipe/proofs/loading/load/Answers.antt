@@ -3,7 +3,8 @@ use Rattle.std.proofs.Common.{◌≡◌, ◌≤◌, length, sym, subst, arith}
 use Rattle.std.proofs.lemmas.List.Elements.{All-get_or}
 use Rattle.std.proofs.lemmas.Option.{get_or_from_slice_get, slice_get_within}
 use Rattle.std.proofs.lemmas.Result.{err_from_is_err_and}
-use Rattle.dp_pipe.specs.Pipelines.{Plan, HasSmallHops}
+use Rattle.dp_lpm.specs.Routes.{HasSmallHops}
+use Rattle.dp_pipe.specs.Pipelines.{Plan}
 use Rattle.dp_pipe.specs.Loads.{IsLoadedFrom}
 use Rattle.dp_pipe.proofs.Loaded.{few, limits_of, ports_of, rings_of, tables_of, fit_nodes, loaded_from, bad_node}
 use Rattle.dp_region.specs.Region.{IsRegionSize}

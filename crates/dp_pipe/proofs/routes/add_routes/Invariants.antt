@@ -1,6 +1,6 @@
 -- `add_routes`: the table took the routes so far, and where no hop was too great before, none is now.
 use Rattle.std.proofs.Common.{take}
-use Rattle.dp_pipe.specs.Pipelines.{HasSmallHops}
+use Rattle.dp_lpm.specs.Routes.{HasSmallHops}
 use Rattle.dp_pipe.specs.Routes.{TakesAll}
 use Rattle.dp_pipe.specs.Views.{values}
 use Rattle.dp_pipe.proofs.routes.add_routes.Given as goal

@@ -1,30 +1,20 @@
 -- A new plan: that it is one is settled once.
-use Rattle.std.proofs.Common.{[], ◌≡◌, ◌≤◌, ℕ, List, Some, subst, sym}
-use Rattle.std.specs.Prelude.{slice_get}
-use Rattle.std.specs.List.{AllByRecursion}
-use Rattle.dp_model.specs.Prefixes.{Route}
-use Rattle.dp_model.specs.Rules.{Question}
-use Rattle.dp_lpm.specs.Routes.{RouteTable}
+use Rattle.std.proofs.Common.{[], length, ◌∙◌, ap}
+use Rattle.dp_model.specs.Laws.Lists.{each_at}
+use Rattle.dp_lpm.specs.Routes.{HasSmallHops}
 use Rattle.dp_check.specs.Faults.{IsChecked}
-use Rattle.dp_engine.specs.Schemes.{IsPlan}
 use Rattle.dp_engine.specs.Laws.{plan_of}
 use Rattle.dp_engine.proofs.plan.Plan.new.Goals as goal
-use Rattle.dp_engine.proofs.plan.Plan.new.Goals.{After-copy}
-
--- it is a plan
-planned : (c : After-copy) → IsPlan c.copy.result c.args.tables.items c.args.nodes.items []
-planned c =
-    subst (λ env. IsPlan env c.args.tables.items c.args.nodes.items []) (sym c.copy.ensures.same)
-    (plan_of c.args.env.now c.args.tables.items c.args.nodes.items [] c.copy.ensures.fits c.requires.nodes c.requires.tables
-    (subst (λ (qs : List Question). (k : ℕ) (q : Question) → slice_get qs k ≡ Some q → IsChecked q) c.as_slice-2.ensures.value c.tell_checked.ensures)
-    (subst (λ (ts : List RouteTable). (k : ℕ) (t : RouteTable) → slice_get ts k ≡ Some t → AllByRecursion
-    (λ (route : Route). route.hop ≤ 16777215) t.routes) c.as_slice.ensures.value c.tell_hops.ensures))
 
 pub invariant_of-result : goal.invariant_of-result
-invariant_of-result c = planned (goal.at.invariant_of-result c).After-copy
+invariant_of-result c =
+    rw (c.copy-env.ensures.same, c.parted-ports.ensures.ports, c.parted-ports.ensures.rings, c.new-pattern.ensures.items, c.ports.ensures, c.copy-env.ensures.same)
+    (plan_of c.args.env.now c.of.result c.args.nodes.items [] c.copy-env.ensures.fits c.requires.nodes (ap length c.of.ensures.same ∙ c.requires.tables)
+    (λ k q at. each_at IsChecked c.args.nodes.items k q c.parted-ports.ensures.checked at)
+    (λ k t at. each_at HasSmallHops c.of.result k t c.of.ensures.hops at))
 
 pub returns-clause-pipeline : goal.returns-clause-pipeline
-returns-clause-pipeline c = (planned (goal.at.returns-clause-pipeline c).After-copy).pipeline
+returns-clause-pipeline c = (invariant_of-result c).pipeline
 
 pub returns-clause-tables : goal.returns-clause-tables
-returns-clause-tables c = (planned (goal.at.returns-clause-tables c).After-copy).tables_fit
+returns-clause-tables c = (invariant_of-result c).tables_fit

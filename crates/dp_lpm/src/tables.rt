@@ -1,0 +1,56 @@
+//! Several tables, by number.
+
+ghost use Rattle.std.specs.Prelude.{◌≡◌, ◌<◌, ◌≤◌, length, IfSome, Some, slice_get, option_map};
+ghost use Rattle.std.specs.List.{AllByRecursion};
+ghost use Rattle.dp_model.specs.Prefixes.{hop_for};
+ghost use Rattle.dp_lpm.specs.Routes.{RouteTable, HasSmallHops};
+
+use crate::limits::{MAX_HOP, MAX_TABLES};
+use crate::lpm::Lpm;
+use crate::ruled_table::RuledTable;
+use arrayvec::ArrayVec;
+use std::alloc::Global;
+use std::marker::Model;
+
+/// At most [`MAX_TABLES`] tables, by number from 0. Their rules do not change any more.
+#[derive(Drop)]
+pub struct Tables {
+    ruled: ArrayVec<RuledTable, MAX_TABLES, Global>,
+}
+
+impl Model for Tables {
+    ghost use Rattle.std.specs.Prelude.{List, map};
+    ghost use Rattle.std.specs.List.{AllByRecursion};
+    ghost use Rattle.dp_lpm.specs.Kept.{IsKept, shown};
+    ghost use Rattle.dp_lpm.specs.Routes.{RouteTable};
+
+    ghost Value = { List RouteTable };
+
+    ghost view = { λ a. map shown a.ruled.items };
+
+    ghost invariant = { λ a. AllByRecursion IsKept a.ruled.items };
+}
+
+impl Tables {
+    /// These tables, in their order. It takes no memory.
+    pub fn of(tables: Vec<Lpm>) -> Tables
+        requires few { length tables.items ≤ MAX_TABLES }
+        ensures same { result ≡ tables.items }
+        ensures hops { AllByRecursion HasSmallHops result }
+    {
+        let mut ruled = ArrayVec::new_in(*tables.allocator());
+        for table in tables {
+            ruled.push(table.into_ruled());
+        }
+        Tables { ruled }
+    }
+
+    /// The hop that a table has for an address: that of its deepest rule whose prefix the address begins with.
+    pub fn lookup(&self, table: u8, ip: u32) -> Option<u32>
+        requires { table < length self.now }
+        ensures value { option_map (λ (t : RouteTable). hop_for t.routes ip) (slice_get self.now table) ≡ Some result }
+        ensures low { IfSome result (λ hop. hop ≤ MAX_HOP) }
+    {
+        self.ruled[usize::from(table)].lookup(ip)
+    }
+}
