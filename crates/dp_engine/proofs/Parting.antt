@@ -27,8 +27,7 @@ module _ (ports : ℕ) (nodes : List Question) (node : Question) where
       × (drop ports (programs_of (nodes ++ node ∷ [])) ≡ drop ports (programs_of nodes))
   port_more few =
       let less = all_taken ports (programs_of nodes) few in
-      let room : length (programs_of nodes ++ node.program ∷ []) ≤ ports = omega (arith, less, length-append (programs_of nodes) (node.program ∷ [])) in
-      (
+      let room : length (programs_of nodes ++ node.program ∷ []) ≤ ports = omega (arith, less, length-append (programs_of nodes) (node.program ∷ [])) in (
         ap (take ports) now ∙ (take_all ports (programs_of nodes ++ node.program ∷ []) room
             ∙ ap (λ ps. ps ++ node.program ∷ []) (sym (take_all ports (programs_of nodes) (omega (arith, less))))),
         ap (drop ports) now ∙ (drop_all ports (programs_of nodes ++ node.program ∷ []) room
@@ -40,8 +39,7 @@ module _ (ports : ℕ) (nodes : List Question) (node : Question) where
       (take ports (programs_of (nodes ++ node ∷ [])) ≡ take ports (programs_of nodes))
       × (drop ports (programs_of (nodes ++ node ∷ [])) ≡ drop ports (programs_of nodes) ++ node.program ∷ [])
   ring_more many =
-      let more = enough ports (programs_of nodes) many in
-      (
+      let more = enough ports (programs_of nodes) many in (
         ap (take ports) now ∙ take-append-le ports (programs_of nodes) (node.program ∷ []) more,
         ap (drop ports) now ∙ drop-append-le ports (programs_of nodes) (node.program ∷ []) more,
       )

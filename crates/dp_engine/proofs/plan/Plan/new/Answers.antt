@@ -8,9 +8,10 @@ use Rattle.dp_engine.proofs.plan.Plan.new.Goals as goal
 
 pub invariant_of-result : goal.invariant_of-result
 invariant_of-result c =
-    rw (c.copy-env.ensures.same, c.parted-ports.ensures.ports, c.parted-ports.ensures.rings, c.new-pattern.ensures.items, c.ports.ensures, c.copy-env.ensures.same)
+    let parts = c.parted-ports.ensures in
+    rw (c.copy-env.ensures.same, parts.ports, parts.rings, c.new-pattern.ensures.items, c.ports.ensures, c.copy-env.ensures.same)
     (plan_of c.args.env.now c.of.result c.args.nodes.items [] c.copy-env.ensures.fits c.requires.nodes (ap length c.of.ensures.same ∙ c.requires.tables)
-    (λ k q at. each_at IsChecked c.args.nodes.items k q c.parted-ports.ensures.checked at)
+    (λ k q at. each_at IsChecked c.args.nodes.items k q parts.checked at)
     (λ k t at. each_at HasSmallHops c.of.result k t c.of.ensures.hops at))
 
 pub returns-clause-pipeline : goal.returns-clause-pipeline
