@@ -1,5 +1,5 @@
 #!/usr/bin/env python3
-"""Makes in.pcap: eight bridged frames, each an Ethernet frame inside an outer Ethernet header.
+"""Makes in.pcap: seven bridged frames, each an Ethernet frame inside an outer Ethernet header, and a runt.
 
 The outer header has the type 0x6558 (transparent Ethernet bridging); inside are ARP, ICMP, DNS over UDP, TCP and an
 IPv6 neighbor solicitation, with checksums. The last record is a runt of 9 bytes. Usage: make.py OUT
