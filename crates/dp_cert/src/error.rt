@@ -15,7 +15,8 @@ pub enum Cause {
     /// The line is not 306 lower-case hexadecimal digits and a newline.
     #[error("this is not a line of 306 hexadecimal digits")]
     BadLine,
-    /// The digits give no well-formed row: values are out of their ranges, or zeros are missing.
+    /// The digits give no row of this version: values are out of their ranges, a sharing group is not well formed, or in version 1
+    /// there is one, or zeros are missing.
     #[error("this is not a row")]
     BadRow,
     /// A line is missing, or bytes follow the last.

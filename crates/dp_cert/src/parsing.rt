@@ -57,6 +57,7 @@ fn bounds_in(bytes: &[u8]) -> [u64; 8]
     bounds
 }
 
+/// The row that 153 bytes would be, whether it is well formed or not.
 #[tactic(auto, unfolding(crate::specs::Reading::row_in))]
 pub fn row_in(bytes: &[u8]) -> Row
     requires { length bytes.now ≡ 153 }

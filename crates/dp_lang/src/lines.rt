@@ -6,6 +6,7 @@ ghost use Rattle.dp_lang.specs.Lines as spec;
 
 use std::alloc::{AllocError, Global};
 
+/// Whether a byte is a blank: a space, a tab or a carriage return.
 pub fn is_blank(b: u8) -> bool
     ensures { result ≡ spec.is_blank b }
 {
@@ -26,6 +27,7 @@ pub fn split<'a>(alloc: Global, bytes: &'a [u8], separator: u8) -> Result<Vec<&'
     bytes.split(|b| *b == separator).collect(alloc)
 }
 
+/// What is left without the blanks in front.
 pub fn trim_start(bytes: &[u8]) -> &[u8]
     ensures { result.now ≡ spec.trim_start bytes.now }
 {
@@ -50,6 +52,7 @@ fn trim_end(bytes: &[u8]) -> &[u8]
     rest
 }
 
+/// What is left without the blanks in front and behind.
 pub fn trim(bytes: &[u8]) -> &[u8]
     ensures { result.now ≡ spec.trim bytes.now }
 {

@@ -65,6 +65,7 @@ fn are_letters_or_digits(bytes: &[u8]) -> bool
         .all(|b| b.is_ascii_alphanumeric() || *b == b'_')
 }
 
+/// Whether a part of a text is a name: a letter or `_`, then letters, digits or `_`, at most 31 in all.
 pub fn is_name(part: &[u8]) -> bool
     ensures { result ≡ spec.is_name part.now }
 {

@@ -1,4 +1,5 @@
-//! Longest prefix: a table of rules, and look-ups of two reads at most.
+//! Longest prefix: a table of rules, and look-ups of two reads at most (DPDK Programmer's Guide, "LPM Library"). A rule, as DPDK
+//! calls it, is a route in definitions and in pipeline files. Addresses are of IPv4, as numbers: 10.1.2.3 is 0x0a010203.
 #![tactic(auto)]
 
 mod cell;

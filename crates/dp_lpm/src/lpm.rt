@@ -33,7 +33,8 @@ impl Model for Lpm {
 impl Lpm {
     ghost use Rattle.dp_lpm.specs.Kept.{IsKept, shown};
 
-    /// A table without rules, for at most so many rules and so many prefixes of 24 bits with rules deeper than 24.
+    /// A table without rules, for at most so many rules and so many prefixes of 24 bits with rules deeper than 24: at most
+    /// `MAX_RULES` and `MAX_GROUPS`. `Memory` where the memory for that is not to be had.
     pub fn new(alloc: Global, max_rules: u32, groups: u32) -> Result<Lpm, Memory>
         requires rules { max_rules ≤ MAX_RULES }
         requires groups { groups ≤ MAX_GROUPS }
@@ -47,7 +48,11 @@ impl Lpm {
     }
 
     /// Adds a rule, or gives the one of its prefix and depth another hop. Bits of `ip` below the depth are ignored.
-    /// The causes are found in the order of `LpmError`.
+    ///
+    /// # Errors
+    ///
+    /// The first that applies of `BadDepth` (not 1 to 32) and `BadHop` (above `MAX_HOP`), and for a rule that is new, of `RulesFull`
+    /// and `GroupsFull`. Then nothing has changed.
     pub fn add(&mut self, ip: u32, depth: u8, hop: u32) -> Result<(), LpmError>
         ensures puts { OnOk result (Puts self.old self.new (added ip depth hop)) }
         ensures ok { OnOk result (add_fault self.old ip depth hop ≡ None) }
@@ -60,6 +65,10 @@ impl Lpm {
     }
 
     /// Takes a rule out. Bits of `ip` below the depth are ignored.
+    ///
+    /// # Errors
+    ///
+    /// `BadDepth` where the depth is not 1 to 32, else `NoRule` where there is no such rule. Then nothing has changed.
     pub fn delete(&mut self, ip: u32, depth: u8) -> Result<(), LpmError>
         ensures drops { OnOk result (Drops self.old self.new (prefix_of ip depth) depth) }
         ensures ok { OnOk result (delete_fault self.old ip depth ≡ None) }
@@ -71,7 +80,7 @@ impl Lpm {
         self.ruled.delete(ip, depth)
     }
 
-    /// The hop of the deepest rule whose prefix the address begins with. No hop is above `MAX_HOP`.
+    /// The hop of the deepest rule whose prefix the address begins with, if there is one. No hop is above `MAX_HOP`.
     pub fn lookup(&self, ip: u32) -> Option<u32>
         ensures value { result ≡ hop_for self.now.routes ip }
         ensures deepest { LooksUp self.now.routes ip result }

@@ -45,7 +45,8 @@ impl Tables {
         Tables { ruled }
     }
 
-    /// The hop that a table has for an address: that of its deepest rule whose prefix the address begins with.
+    /// The hop that a table has for an address: that of its deepest rule whose prefix the address begins with, if there is one. The
+    /// number of the table is below how many there are.
     pub fn lookup(&self, table: u8, ip: u32) -> Option<u32>
         requires { table < length self.now }
         ensures value { option_map (λ (t : RouteTable). hop_for t.routes ip) (slice_get self.now table) ≡ Some result }

@@ -26,6 +26,7 @@ impl Model for MbufNumber {
 }
 
 impl MbufNumber {
+    /// That of this pool with this index.
     pub fn new(pool: u16, index: u16) -> MbufNumber
         ensures { result ≡ record { pool = pool; index = index } }
     {
@@ -39,12 +40,14 @@ impl MbufNumber {
         self.pool == other.pool && self.index == other.index
     }
 
+    /// Its pool.
     pub fn pool(self) -> u16
         ensures { result ≡ self.pool }
     {
         self.pool
     }
 
+    /// Its index in the pool.
     pub fn index(self) -> u16
         ensures { result ≡ self.index }
     {

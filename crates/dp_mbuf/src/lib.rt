@@ -1,4 +1,5 @@
-//! Packets as chains of segments with reference counts and clones, in the objects of pools.
+//! Packets as chains of segments with reference counts and clones, in the objects of pools (DPDK Programmer's Guide, "Mbuf Library").
+//! Lengths, rooms and offsets are in bytes; segments and pools count from 0.
 #![tactic(auto)]
 
 mod big_endian;

@@ -113,7 +113,8 @@ fn bytes_in_segment(objects: &Objects, header: Header) -> &[u8]
 }
 
 impl Mbufs {
-    /// Packets over these pools, which are at their start; none yet.
+    /// Packets over these pools, none yet. The pools, at least one, fill the first places; all their objects are in, each of at least
+    /// `HEADER_SIZE` bytes, and there are at most `MAX_MBUFS` of them.
     pub fn over(pools: [Option<Pool>; MAX_POOLS]) -> Mbufs
         requires { AreReady pools }
         ensures { IsNew pools result }
@@ -212,7 +213,7 @@ impl Mbufs {
         self.objects.room(tail.buffer.pool()) - tail.offset - tail.len
     }
 
-    /// Makes the first segment `n` bytes shorter at its front.
+    /// Makes the first segment `n` bytes shorter at its front. It has at least so many.
     #[inline(always)]
     pub fn adj(&mut self, packet: &Packet, n: u16)
         requires { HasSome self.old.store packet.now (λ k. n ≤ first_len k) }
@@ -224,7 +225,7 @@ impl Mbufs {
             .set_bounds(first_number(packet), head.offset + n, head.len - n);
     }
 
-    /// Makes the last segment `n` bytes shorter.
+    /// Makes the last segment `n` bytes shorter at its end. It has at least so many.
     #[inline(always)]
     pub fn trim(&mut self, packet: &Packet, n: u16)
         requires { HasSome self.old.store packet.now (λ k. n ≤ last_len k) }
@@ -260,7 +261,8 @@ impl Mbufs {
         self.objects.available(pool as u16)
     }
 
-    /// A packet of one segment without bytes; `None` exactly where no buffer of the pool is free.
+    /// A packet of one segment without bytes, behind a headroom of `HEADROOM` or of the whole data room, if that is less; `None` exactly
+    /// where no buffer of the pool is free, and then nothing has changed.
     #[inline(always)]
     pub fn alloc(&mut self, pool: u32) -> Option<Packet>
         requires { pool < length self.old.store.pools }
@@ -274,7 +276,7 @@ impl Mbufs {
         Some(packet_of(mbuf))
     }
 
-    /// The number in `width` bytes at an offset in the first segment, the highest byte first.
+    /// The number in `width` bytes at an offset in the first segment, which has them all, the highest byte first.
     #[inline(always)]
     pub fn load(&self, packet: &Packet, offset: u64, width: Width) -> u64
         requires { HasSome self.now.store packet.now (λ k. offset + bytes_in width ≤ first_len k) }
@@ -285,7 +287,8 @@ impl Mbufs {
         read_number(&bytes[offset as usize..], width)
     }
 
-    /// Writes the low bytes of a number at an offset in the first segment, the highest byte first.
+    /// Writes the low `width` bytes of a number at an offset in the first segment, which has them all, the highest byte first. Its
+    /// buffer has one reference.
     #[inline(always)]
     pub fn store(&mut self, packet: &Packet, offset: u64, width: Width, n: u64)
         requires { HasSome self.old.store packet.now (λ k. (offset + bytes_in width ≤ first_len k) × IsHeadSole (segments_of self.old.store) k) }
@@ -297,7 +300,8 @@ impl Mbufs {
         self.objects.write_number(head.buffer, at, width, n);
     }
 
-    /// Makes the first segment `n` bytes longer at its front; the new bytes are 0.
+    /// Makes the first segment `n` bytes longer at its front; the new bytes are 0. The headroom is that large, and the segment's buffer
+    /// has one reference.
     #[inline(always)]
     pub fn prepend(&mut self, packet: &Packet, n: u16)
         requires { HasSome self.old.store packet.now (λ k. (n ≤ headroom k) × IsHeadSole (segments_of self.old.store) k) }
@@ -312,7 +316,8 @@ impl Mbufs {
             .zero(head.buffer, u32::from(offset), u32::from(n));
     }
 
-    /// Makes the last segment `n` bytes longer; the new bytes are 0.
+    /// Makes the last segment `n` bytes longer at its end; the new bytes are 0. The tailroom is that large, and the segment's buffer has
+    /// one reference.
     #[inline(always)]
     pub fn append(&mut self, packet: &Packet, n: u16)
         requires { HasSome self.old.store packet.now (λ k. (n ≤ tailroom self.old.store.pools k) × IsTailSole (segments_of self.old.store) k) }
@@ -326,7 +331,7 @@ impl Mbufs {
         self.objects.zero(tail.buffer, end, u32::from(n));
     }
 
-    /// Puts the second packet's segments behind the first's.
+    /// Puts the second packet's segments behind the first's, which is another packet: at most `MAX_SEGMENTS` together.
     pub fn chain(&mut self, head: &Packet, tail: Packet)
         requires two { head.now ≢ tail }
         requires few { HasSome self.old.store head.now (λ k. HasSome self.old.store tail (λ t. length k + length t ≤ MAX_SEGMENTS)) }
@@ -430,7 +435,8 @@ impl Mbufs {
     }
 
     /// A packet with these bytes: each segment at offset `HEADROOM`, all full but the last. `None` exactly where fewer buffers
-    /// of the pool are free than it needs, and then nothing has changed.
+    /// of the pool are free than it needs, and then nothing has changed. The pool has more room than `HEADROOM`, and at most
+    /// `MAX_SEGMENTS` segments are needed.
     pub fn receive(&mut self, pool: u32, bytes: &[u8]) -> Option<Packet>
         requires room { HEADROOM < room_at self.old.store.pools pool }
         requires fits { needed self.old.store.pools pool (length bytes.now) ≤ MAX_SEGMENTS }
@@ -455,7 +461,7 @@ impl Mbufs {
         Some(packet_of(first))
     }
 
-    /// How many buffers of the pool a packet of so many bytes needs.
+    /// How many buffers of the pool, which has more room than `HEADROOM`, a received packet of so many bytes needs: at least 1.
     pub fn needed(&self, pool: u32, len: usize) -> usize
         requires { HEADROOM < room_at self.now.store.pools pool }
         ensures { result ≡ needed self.now.store.pools pool len }

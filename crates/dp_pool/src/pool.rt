@@ -297,7 +297,7 @@ impl Pool {
         self.indexes.put_all(indexes);
     }
 
-    /// The bytes of an object.
+    /// The bytes of an object, whose index is below `count`.
     #[inline(always)]
     pub fn object(&self, index: u32) -> &[u8]
         requires { index < length self.now.objects }
@@ -322,7 +322,7 @@ impl Pool {
         self.objects.part_mut(offset, self.size)
     }
 
-    /// Writes bytes into an object from an offset on.
+    /// Writes bytes into an object from an offset on. They fit into it.
     #[inline(always)]
     pub fn write(&mut self, index: u32, at: u32, bytes: &[u8])
         requires object { index < length self.old.objects }
@@ -333,7 +333,7 @@ impl Pool {
         self.objects.write(offset + at, bytes);
     }
 
-    /// Writes zeros into an object from an offset on.
+    /// Writes `len` zeros into an object from an offset on. They fit into it.
     #[inline(always)]
     pub fn clear(&mut self, index: u32, at: u32, len: u32)
         requires object { index < length self.old.objects }

@@ -111,7 +111,7 @@ impl Ring {
         self.count - 1 - self.used
     }
 
-    /// The k-th entry from the first, if there are so many.
+    /// The `k`-th entry from the first, from 0, if there are so many.
     #[tactic(auto, using(crate::proofs::Entries::counted, crate::proofs::Entries::entry_at, crate::proofs::Entries::no_entry_at))]
     pub fn peek(&self, k: u32) -> Option<u32>
         ensures { result ≡ slice_get self.now.entries k }

@@ -1,4 +1,4 @@
-//! Memzones: named blocks of a heap (DPDK Programmer's Guide, "Memory Zone Management").
+//! Memzones: named blocks of a heap (DPDK Programmer's Guide, "Memory Segments and Memory Zones").
 #![tactic(auto)]
 
 mod error;

@@ -69,7 +69,7 @@ impl ZoneName {
         self.text
     }
 
-    /// Whether two names are the same.
+    /// Whether this text is the name.
     pub fn is(&self, text: &str) -> bool
         ensures { result ≡ same_name self.now text.now }
     {

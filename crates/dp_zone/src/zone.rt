@@ -80,7 +80,7 @@ impl Zone {
         self.block.bytes_mut()
     }
 
-    /// The `len` bytes from `at` on, to be written.
+    /// The `len` bytes from `at` on, which are in the zone, to be written.
     pub fn part_mut(&mut self, at: u32, len: u32) -> &mut [u8]
         requires { at + len ≤ length self.old.bytes }
         ensures* writes_back { sem 𝓛 (Lends the_row (Array byte 0) self.entry result (with_part at self.old)) }
@@ -90,7 +90,7 @@ impl Zone {
         self.block.part_mut(at, len)
     }
 
-    /// The number in the 2 bytes from `at` on, the lowest first.
+    /// The number in the 2 bytes from `at` on, which are in the zone, the lowest first.
     pub fn load_u16(&self, at: u32) -> u16
         requires { at + 2 ≤ length self.now.bytes }
         ensures { result ≡ number_at self.now.bytes at 2 }
@@ -98,7 +98,7 @@ impl Zone {
         self.block.load_u16(at)
     }
 
-    /// The number in the 4 bytes from `at` on, the lowest first.
+    /// The number in the 4 bytes from `at` on, which are in the zone, the lowest first.
     pub fn load_u32(&self, at: u32) -> u32
         requires { at + 4 ≤ length self.now.bytes }
         ensures { result ≡ number_at self.now.bytes at 4 }
@@ -106,7 +106,7 @@ impl Zone {
         self.block.load_u32(at)
     }
 
-    /// Writes a number into the 2 bytes from `at` on, the lowest first.
+    /// Writes a number into the 2 bytes from `at` on, which are in the zone, the lowest first.
     pub fn store_u16(&mut self, at: u32, v: u16)
         requires { at + 2 ≤ length self.old.bytes }
         ensures { self.new ≡ record self.old { bytes = with_number self.old.bytes at 2 v } }
@@ -114,7 +114,7 @@ impl Zone {
         self.block.store_u16(at, v);
     }
 
-    /// Writes a number into the 4 bytes from `at` on, the lowest first.
+    /// Writes a number into the 4 bytes from `at` on, which are in the zone, the lowest first.
     pub fn store_u32(&mut self, at: u32, v: u32)
         requires { at + 4 ≤ length self.old.bytes }
         ensures { self.new ≡ record self.old { bytes = with_number self.old.bytes at 4 v } }
@@ -122,7 +122,7 @@ impl Zone {
         self.block.store_u32(at, v);
     }
 
-    /// Copies `len` bytes from `from` to `to`. The two parts may overlap.
+    /// Copies `len` bytes from `from` to `to`. The two parts lie in the zone, and may overlap.
     pub fn copy_within(&mut self, from: u32, len: u32, to: u32)
         requires { (from + len ≤ length self.old.bytes) × (to + len ≤ length self.old.bytes) }
         ensures { self.new ≡ record self.old { bytes = with_bytes self.old.bytes to (bytes_in self.old.bytes from len) } }
@@ -130,7 +130,7 @@ impl Zone {
         self.block.copy_within(from, len, to);
     }
 
-    /// Writes bytes from `at` on.
+    /// Writes bytes from `at` on. They fit into the zone.
     pub fn write(&mut self, at: u32, bytes: &[u8])
         requires { at + length bytes.now ≤ length self.old.bytes }
         ensures { self.new ≡ record self.old { bytes = with_bytes self.old.bytes at bytes.now } }
@@ -139,7 +139,7 @@ impl Zone {
         self.block.bytes_mut()[at..at + bytes.len()].copy_from_slice(bytes);
     }
 
-    /// Writes `len` zeros from `at` on.
+    /// Writes `len` zeros from `at` on. They fit into the zone.
     pub fn clear(&mut self, at: u32, len: u32)
         requires { at + len ≤ length self.old.bytes }
         ensures { self.new ≡ record self.old { bytes = with_bytes self.old.bytes at (replicate len 0) } }
