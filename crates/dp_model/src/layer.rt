@@ -13,7 +13,7 @@ ghost use Rattle.dp_model.specs.Stores.{IsWellFormedStore};
 use crate::registers::Width;
 use std::marker::Model;
 
-/// The name of a packet in a layer: a plain number. A call asks that its packets are live in its layer.
+/// The handle of a packet in a layer: a plain number. A call asks that its packets are live in its layer.
 #[derive(Clone, Copy, Debug, PartialEq, Eq)]
 pub struct Packet {
     number: u32,
@@ -55,20 +55,21 @@ pub trait PacketLayer {
 
     ghost frame: { Self → Frame };
 
-    /// A packet of one segment without bytes, or none where no buffer is free.
+    /// A packet of one segment without bytes, or none where no buffer of the pool is free.
     fn alloc(&mut self, pool: u32) -> Option<Packet>
         requires { pool < length (store self.old).pools }
         ensures packets { Allocates (store self.old) pool (store self.new) result }
         ensures kept { frame self.new ≡ frame self.old };
 
-    /// A packet with these bytes, or none where too few buffers are free.
+    /// A packet with these bytes, or none where too few buffers of the pool are free. The pool is one that a port can receive into, and
+    /// the bytes need at most 64 segments.
     fn receive(&mut self, pool: u32, bytes: &[u8]) -> Option<Packet>
         requires room { least_port_room ≤ room_at (store self.old).pools pool }
         requires fits { needed (store self.old).pools pool (length bytes.now) ≤ most_segments }
         ensures packets { ReceivesInto (store self.old) pool bytes.now (store self.new) result }
         ensures kept { frame self.new ≡ frame self.old };
 
-    /// A packet that shares the buffers of another, or none where too few mbufs are free.
+    /// A packet that shares the buffers of another, or none where too few mbufs of the pool are free.
     fn clone_of(&mut self, packet: Packet, pool: u32) -> Option<Packet>
         requires live { IsLive (store self.old) packet }
         requires exists { pool < length (store self.old).pools }
@@ -81,43 +82,44 @@ pub trait PacketLayer {
         ensures packets { store self.new ≡ with_slot packet None (store self.old) }
         ensures kept { frame self.new ≡ frame self.old };
 
-    /// That many zero bytes in front.
+    /// That many zero bytes in front. The headroom is that large, and the first segment's buffer has one reference.
     fn prepend(&mut self, packet: Packet, n: u16)
         requires { HasSome (store self.old) packet (λ k. (n ≤ headroom k) × IsHeadSole (segments_of (store self.old)) k) }
         ensures packets { Becomes (store self.old) (store self.new) packet (at_front (more_before n)) (zeroed_before n) }
         ensures kept { frame self.new ≡ frame self.old };
 
-    /// That many bytes less in front.
+    /// That many bytes less in front. The first segment has as many.
     fn adj(&mut self, packet: Packet, n: u16)
         requires { HasSome (store self.old) packet (λ k. n ≤ first_len k) }
         ensures packets { Becomes (store self.old) (store self.new) packet (at_front (less_before n)) unwritten }
         ensures kept { frame self.new ≡ frame self.old };
 
-    /// That many zero bytes behind.
+    /// That many zero bytes behind. The tailroom is that large, and the last segment's buffer has one reference.
     fn append(&mut self, packet: Packet, n: u16)
         requires { HasSome (store self.old) packet (λ k. (n ≤ tailroom (store self.old).pools k) × IsTailSole (segments_of (store self.old)) k) }
         ensures packets { Becomes (store self.old) (store self.new) packet (at_end (more_behind n)) (zeroed_behind n) }
         ensures kept { frame self.new ≡ frame self.old };
 
-    /// That many bytes less behind.
+    /// That many bytes less behind. The last segment has as many.
     fn trim(&mut self, packet: Packet, n: u16)
         requires { HasSome (store self.old) packet (λ k. n ≤ last_len k) }
         ensures packets { Becomes (store self.old) (store self.new) packet (at_end (less_behind n)) unwritten }
         ensures kept { frame self.new ≡ frame self.old };
 
-    /// The second packet's segments behind the first's.
+    /// The second packet's segments behind the first's, which is another packet: at most 64 together.
     fn chain(&mut self, head: Packet, tail: Packet)
         requires two { head ≢ tail }
         requires few { HasSome (store self.old) head (λ k. HasSome (store self.old) tail (λ t. length k + length t ≤ most_segments)) }
         ensures packets { Chains (store self.old) head tail (store self.new) }
         ensures kept { frame self.new ≡ frame self.old };
 
-    /// The number at an offset of the first segment, the highest byte first.
+    /// The number at an offset of the first segment, which has all its bytes, the highest byte first.
     fn load(&self, packet: Packet, offset: u64, width: Width) -> u64
         requires { HasSome (store self.now) packet (λ k. offset + bytes_in width ≤ first_len k) }
         ensures { Of (store self.now) packet (λ k. result ≡ loaded offset (bytes_in width) k (store self.now).buffers) };
 
-    /// Writes the low bytes of a number at an offset of the first segment.
+    /// Writes the low bytes of a number at an offset of the first segment, which has them all, the highest first. Its buffer has one
+    /// reference.
     fn store_at(&mut self, packet: Packet, offset: u64, width: Width, n: u64)
         requires { HasSome (store self.old) packet (λ k. (offset + bytes_in width ≤ first_len k) × IsHeadSole (segments_of (store self.old)) k) }
         ensures packets { Becomes (store self.old) (store self.new) packet (λ k. k) (stored offset (bytes_in width) n) }
