@@ -163,11 +163,11 @@ fn last_tried(
 
 /// The certificate of a program for an environment and an entry. For a forward program, in which each label that is
 /// named is behind its instruction, each row is as strong as can be, and each instruction is looked at once. In other
-/// programs control may come back to a label; what is known there is weakened until it stays, or 4,096 times.
+/// programs control may come back to a label; what is known there is weakened pass by pass until it stays, in 4,096 passes at most.
 ///
 /// # Errors
 /// `InferError::Memory` where the memory for the rows is refused, else `InferError::NoCert` where no certificate was
-/// found. A forward program is accepted with none then; so it is where the environment does not have the entry.
+/// found. A forward program is accepted with none then; and where the environment does not have the entry, no program is.
 pub fn infer(alloc: Global, program: &Program, env: &Env, entry: Entry) -> Result<Cert, InferError>
     // The program is accepted with it.
     ensures accepted { IfOk result (λ cert. Certifies program.now env.now entry cert.rows) }
