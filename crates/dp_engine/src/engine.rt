@@ -146,7 +146,7 @@ impl Engine {
         self.turns
     }
 
-    /// How many packets wait in the transmit list of a port which exists: at most its queue less 1.
+    /// How many packets wait in the transmit list of a port which exists.
     pub fn queued(&self, port: u8) -> usize
         requires exists { port < length self.now.setting.env.ports }
         ensures { (packets : List Packet) × (slice_get self.now.world.outboxes port ≡ Some packets) × (result ≡ length packets) }

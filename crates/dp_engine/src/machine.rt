@@ -294,8 +294,8 @@ impl Machine {
         self.give_up(PacketRegister::new(7));
     }
 
-    // Takes the front packet of the first ring that has one into the first register, with the ring's number beside it. The
-    // ring, if there is such a one.
+    // Takes the front packet of the first ring that has one into the first register, with the ring's number beside it; answers
+    // that ring, if there is one.
     pub(crate) fn take_waiting(&mut self) -> Option<u8>
         requires idle { AllByRecursion (λ o. o ≡ None) self.old.state.packets }
         ensures { MatchOption (first_waiting self.old.state.world.rings)
