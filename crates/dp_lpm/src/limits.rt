@@ -9,7 +9,8 @@ pub const FIRST_ENTRIES: usize = 0x100_0000;
 /// Entries of a group, for the last 8 bits of an address (`RTE_LPM_TBL8_GROUP_NUM_ENTRIES`).
 pub const GROUP_ENTRIES: usize = 256;
 
-/// The most groups that a table has (`RTE_LPM_TBL8_NUM_GROUPS`): the lowest byte of an entry names one.
+/// The most groups that a table has: the lowest byte of an entry names one. DPDK leaves the number (`number_tbl8s` of
+/// `rte_lpm_config`) to its caller.
 pub const MAX_GROUPS: u32 = 256;
 
 /// The most rules that a table is made for. DPDK leaves the number (`max_rules` of `rte_lpm_config`) to its caller.
