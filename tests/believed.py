@@ -3,9 +3,10 @@
 
 Usage: tests/believed.py [--write]
 A promise is the contract of a public function. It names definitions of specs/, these name others, and so on down to the
-library's own and to the types of the code. The table has for each promise the modules in which such definitions stand, and
-how many lines they are, comments and imports aside. Without --write it says where the table is not what is counted, and
-exits with 1; with --write it puts the table right."""
+library's own and to the types of the code. A type of the call, and of a field of such a type, that contracts see by a view
+(`impl Model`) has that to be believed too. The table has for each promise the modules in which definitions stand, the types
+whose views count, and how many lines both are, comments and imports aside. Without --write it says where the table is not
+what is counted, and exits with 1; with --write it puts the table right."""
 import collections
 import dataclasses
 import pathlib
@@ -30,8 +31,12 @@ PROMISES = (
     ("dp_heap", "heap", "malloc", "memory is taken where some free element fits"),
 )
 IMPORT = re.compile(r"^(?:ghost )?use Rattle\.([\w.]+?)(?:\.\{(.*)\}| as (\w+))?;?$", re.M)
-HEAD = re.compile(r"^(?:abbrev |unfoldable |pub )*(?:record |data )?(\w+)(?= |$)")
-WORD = re.compile(r"(?:(\w+)\.)?([A-Za-z_]\w*)")
+HEAD = re.compile(r"^(?:abbrev |unfoldable |pub )*(?:record |data )?(\w+|◌\S+◌)(?= |$)")
+INFIX = re.compile(r"^\w+ (\S+) \w+ =")
+WORD = re.compile(r"(?:(\w+)\.)?([A-Za-z_]\w*)|(?<= )([^\w\s(){}\[\].,;]+)(?= )")
+MODEL = re.compile(r"^impl(?:<[^>]*>)? Model for (\w+).*?^}", re.M | re.S)
+VIEW = re.compile(r"^    ghost view = \{.*?\};$", re.M | re.S)
+TYPE = re.compile(r"\b[A-Z]\w*")
 
 
 @dataclasses.dataclass
@@ -60,9 +65,12 @@ def definitions_of(text: str) -> dict[str, list[str]]:
     found: dict[str, list[str]] = collections.defaultdict(list)
     name = None
     for line in text.splitlines():
-        if not line.strip() or line.lstrip().startswith("--") or line.startswith(("use ", "pub mod ", "mod ")):
+        if not line.strip() or line.lstrip().startswith("--") or line.startswith(("use ", "pub mod ", "mod ", "infix")):
             continue
-        if not line[0].isspace():
+        infix = INFIX.match(line)
+        if infix and f"◌{infix.group(1)}◌" in found:
+            name = f"◌{infix.group(1)}◌"
+        elif not line[0].isspace():
             head = HEAD.match(line)
             name = head.group(1) if head else name
         if name is not None:
@@ -86,7 +94,8 @@ def named_in(lines: list[str], here: str, module: Module) -> list[tuple[str, str
     """The definitions, each with its module, that these lines may name. A name that the module defines is its own."""
     named = []
     for line in lines:
-        for before, word in WORD.findall(line):
+        for before, word, sign in WORD.findall(line):
+            word = f"◌{sign}◌" if sign else "◌>>=◌" if word == "do" else word
             if before in module.others:
                 named.append((module.others[before], word))
             elif before in module.definitions:
@@ -98,8 +107,8 @@ def named_in(lines: list[str], here: str, module: Module) -> list[tuple[str, str
     return named
 
 
-def contract_of(crate: str, file: str, function: str) -> tuple[list[str], Module]:
-    """The lines of a function's contract, and what its file imports."""
+def contract_of(crate: str, file: str, function: str) -> tuple[list[str], str]:
+    """The lines of a function's contract, and the text of its file."""
     path = TOP / "crates" / crate / "src" / f"{file}.rt"
     if not path.is_file():
         raise SystemExit(f"believed: {path.relative_to(TOP)} is not there, which has {crate}::{function}")
@@ -107,14 +116,55 @@ def contract_of(crate: str, file: str, function: str) -> tuple[list[str], Module
     found = re.search(rf"^ *pub fn {function}\b.*?^ *{{", text, re.M | re.S)
     if not found or "ensures" not in found.group(0):
         raise SystemExit(f"believed: {path.relative_to(TOP)} has no contract of {function}")
-    return found.group(0).splitlines(), Module(*imports_of(text), {})
+    return found.group(0).splitlines(), text
 
 
-def believed(crate: str, file: str, function: str, known: dict[str, Module | None]) -> dict[str, set[str]]:
-    """All definitions that a contract rests on, by module."""
-    lines, module = contract_of(crate, file, function)
+def viewed() -> dict[tuple[str, str], tuple[str, str]]:
+    """The types that contracts see by a view, by crate and name: the text of the view, and the text of the type's file."""
+    found = {}
+    for path in sorted(TOP.glob("crates/*/src/**/*.rt")):
+        text = path.read_text()
+        for block in filter(lambda block: VIEW.search(block.group(0)), MODEL.finditer(text)):
+            found[path.relative_to(TOP).parts[1], block.group(1)] = (block.group(0), text)
+    return found
+
+
+def types_in(words: str, crate: str, text: str) -> list[tuple[str, str]]:
+    """The types that some words of a file name, each with its crate."""
+    crates = {}
+    for path, listed, one in re.findall(r"^use (\w+)(?:::\w+)*::(?:\{([^}]*)\}|(\w+));", text, re.M):
+        for name in TYPE.findall(listed or one):
+            crates[name] = crate if path in ("crate", "super") else path
+    return [(crates.get(name, crate), name) for name in TYPE.findall(words)]
+
+
+def views_of(crate: str, lines: list[str], text: str, views: dict[tuple[str, str], tuple[str, str]]) -> dict[tuple[str, str], tuple[str, str]]:
+    """The views of the types that a call names, or whose method it is, and of the types of their fields."""
+    signature = " ".join(line for line in lines if not line.strip().startswith(("requires", "ensures", "//")))
+    of = [found for found in re.findall(r"^impl(?:<[^>]*>)? (\w+)|^ *pub fn (\w+)", text, re.M)]
+    name = re.search(r"fn (\w+)", lines[0]).group(1)
+    own = next((before[0] for before in reversed(of[: of.index(("", name))]) if before[0]), "")
+    waiting, found = types_in(signature.replace("self", own), crate, text), {}
+    while waiting:
+        key = waiting.pop()
+        if key not in views or key in found:
+            continue
+        block, there = found[key] = views[key]
+        fields = re.search(rf"^pub(?:\(crate\))? struct {key[1]}\b.*?^}}", there, re.M | re.S)
+        waiting += types_in(fields.group(0) if fields else "", key[0], there)
+    return found
+
+
+def believed(crate: str, file: str, function: str, known: dict[str, Module | None]) -> tuple[dict[str, set[str]], dict[str, int]]:
+    """All definitions that a contract rests on, by module, and the lines of each view."""
+    lines, text = contract_of(crate, file, function)
     found: dict[str, set[str]] = collections.defaultdict(set)
-    waiting = named_in(lines, "", module)
+    waiting = named_in(lines, "", Module(*imports_of(text), {}))
+    views = {}
+    for (home, name), (block, there) in views_of(crate, lines, text, viewed()).items():
+        uses = block if "ghost use" in block else there
+        views[f"{home}::{name}"] = view = VIEW.search(block).group(0).splitlines()
+        waiting += named_in(view, "", Module(*imports_of(re.sub("^ +", "", uses, flags=re.M)), {}))
     while waiting:
         path, name = waiting.pop()
         module = module_at(path, known)
@@ -122,21 +172,21 @@ def believed(crate: str, file: str, function: str, known: dict[str, Module | Non
             continue
         found[path].add(name)
         waiting += named_in(module.definitions[name], path, module)
-    return {path: names for path, names in found.items() if names}
+    return {path: names for path, names in found.items() if names}, {name: len(view) for name, view in views.items()}
 
 
 def table() -> str:
     """The table, a line for each promise."""
     known: dict[str, Module | None] = {}
-    rows = ["| promise | contract of | lines | definitions | modules |", "|---|---|---|---|---|"]
+    rows = ["| promise | contract of | lines | definitions | modules | views |", "|---|---|---|---|---|---|"]
     for crate, file, function, words in PROMISES:
-        found = believed(crate, file, function, known)
-        lines = sum(len(known[path].definitions[name]) for path, names in found.items() for name in names)
+        found, views = believed(crate, file, function, known)
+        lines = sum(len(known[path].definitions[name]) for path, names in found.items() for name in names) + sum(views.values())
         crates: dict[str, list[str]] = collections.defaultdict(list)
         for path in sorted(found):
             crates[path.partition(".")[0]].append(path.rsplit(".", 1)[-1])
         modules = "; ".join(f"{name}: {', '.join(parts)}" for name, parts in crates.items())
-        rows.append(f"| {words} | `{crate}::{function}` | {lines} | {sum(map(len, found.values()))} | {modules} |")
+        rows.append(f"| {words} | `{crate}::{function}` | {lines} | {sum(map(len, found.values()))} | {modules} | {', '.join(sorted(views))} |")
     return "\n".join(rows)
 
 
