@@ -1,4 +1,4 @@
--- The free elements stand in five lists, by size. A list is linked by words of its elements' headers, each a number of 4 bytes: an offset, or `none`.
+-- Internal: the free elements stand in five lists, by size. A list is linked by words of its elements' headers, each a number of 4 bytes: an offset, or `none`.
 --
 --  16  the next element of the list
 --  20  the one before it

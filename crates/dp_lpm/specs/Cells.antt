@@ -1,4 +1,4 @@
--- Entries of tables, and the four bytes that each takes.
+-- Internal: entries of tables, and the four bytes that each takes.
 use Rattle.std.specs.Prelude.{ℕ, ◌/◌, ◌%◌, ◌<◌, ◌≤◌, ◌==◌, nat_le, nat_lt, if◌then◌else◌, List, Option, Some, None, slice_index_or}
 use Rattle.dp_lpm.specs.declared.limits.TheConstants.{FIRST_GROUP, GROUP_DEPTH, HOPS, MAX_DEPTH, MAX_GROUPS}
 use Rattle.dp_lpm.specs.declared.cell.Entry.{Entry}

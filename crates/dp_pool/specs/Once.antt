@@ -1,4 +1,4 @@
--- Which of the indexes below a number stand in a list, each once.
+-- Internal: which of the indexes below a number stand in a list, each once.
 use Rattle.std.specs.Prelude.{◌≡◌, ℕ, zero, suc, ◌+◌, ◌≤◌, Bool, ◌==◌, if◌then◌else◌, List, [], ◌∷◌, ◌++◌}
 
 -- how often an index stands in a list
