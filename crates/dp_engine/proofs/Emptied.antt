@@ -5,7 +5,7 @@ use Rattle.std.specs.List.{AllZip}
 use Rattle.std.proofs.lemmas.Option.{same_Some}
 use Rattle.dp_model.specs.Packets.{Packet}
 use Rattle.dp_model.specs.Machine.{live, segments_listed, with_ring, with_outbox}
-use Rattle.dp_model.specs.Runs.{between, left_in_rings}
+use Rattle.dp_model.specs.Runs.{between, with_empty_outboxes, with_empty_rings, left_in_rings}
 use Rattle.dp_model.specs.Laws.Waiting.{nothing_listed}
 use Rattle.dp_engine.specs.declared.report.Tallies.{Tallies}
 use Rattle.dp_engine.specs.Handles.{Core, moved}
@@ -249,13 +249,15 @@ dropped_next n e =
     ap (λ l. record e { world = record e.world { outboxes = l }; tallies = sent_at n 0 e.tallies }) (emptied_next n e.world.outboxes)
     ∙ ap (λ l. record e { world = record e.world { outboxes = emptied_to (suc n) e.world.outboxes }; tallies = l }) (sent_none e.tallies n)
 
-pub all_flushed : (rings ports : ℕ) (e : EngineState) → length e.world.rings ≤ rings → length e.world.outboxes ≤ ports
-    → dropped_to ports (left_to rings e) ≡ flushed e
-all_flushed rings ports e le lp =
+pub all_left : (rings : ℕ) (e : EngineState) → length e.world.rings ≤ rings
+    → left_to rings e ≡ record e { world = with_empty_rings e.world; left = with_left e.left (left_in_rings e.world) }
+all_left rings e le =
     let f = emptied_all rings e.world.rings le in
-    let g = emptied_all ports e.world.outboxes lp in
     let h = added_all rings e.left e.world.rings le in
-    rw (f, g, h) refl
+    rw (f, h) refl
+
+pub all_dropped : (ports : ℕ) (e : EngineState) → length e.world.outboxes ≤ ports → dropped_to ports e ≡ record e { world = with_empty_outboxes e.world }
+all_dropped ports e le = ap (λ l. record e { world = record e.world { outboxes = l } }) (emptied_all ports e.world.outboxes le)
 
 pub nothing_lives : (e : EngineState) → live (between (flushed e).world) ≡ []
 nothing_lives e =

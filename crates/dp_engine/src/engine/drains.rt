@@ -2,11 +2,11 @@
 ghost use Rattle.std.specs.Prelude.{◌≡◌, ◌+◌, ◌<◌, ◌≤◌, [], false, length, flat_map, take, MatchResult, IfOk, IfErr, IsOk, IsErr, IsTrue};
 ghost use Rattle.std.specs.Io.KnownBytes.{Appends};
 ghost use Rattle.dp_model.specs.Machine.{live};
-ghost use Rattle.dp_model.specs.Runs.{between};
+ghost use Rattle.dp_model.specs.Runs.{between, with_empty_outboxes, with_empty_rings, left_in_rings};
 ghost use Rattle.dp_pcap.specs.Text.{record_text};
 ghost use Rattle.dp_engine.specs.Drains.{Written, WrotePart, IsCalledFor};
 ghost use Rattle.dp_engine.specs.Outcomes.{sent_of};
-ghost use Rattle.dp_engine.specs.Engines.{drained, left_at, flushed};
+ghost use Rattle.dp_engine.specs.Engines.{drained, left_at, with_left, flushed};
 
 use crate::engine::{Engine, WriteFault};
 use dp_pcap::{Sink, Time, Unit};
@@ -66,19 +66,33 @@ impl Engine {
         self.machine.clear_sent(port);
     }
 
+    // Gives up what is left in all rings, and counts it ring by ring.
+    fn flush_rings(&mut self)
+        ensures { self.new ≡ record self.old { world = with_empty_rings self.old.world; left = with_left self.old.left (left_in_rings self.old.world) } }
+    {
+        let rings = self.plan.env().rings().len();
+        for ring in 0..rings as u8 {
+            self.leave(ring);
+        }
+    }
+
+    // Gives up what is left in all transmit lists.
+    fn flush_lists(&mut self)
+        ensures { self.new ≡ record self.old { world = with_empty_outboxes self.old.world } }
+    {
+        let ports = self.plan.env().ports().len();
+        for port in 0..ports as u8 {
+            self.drop_sent(port);
+        }
+    }
+
     /// Gives up all packets that are left in rings and transmit lists; those in rings are counted as left. Every buffer is free
     /// then.
     pub fn flush(&mut self)
         ensures empty { self.new ≡ flushed self.old }
         ensures free { live (between self.new.world) ≡ [] }
     {
-        let rings = self.plan.env().rings().len();
-        let ports = self.plan.env().ports().len();
-        for ring in 0..rings as u8 {
-            self.leave(ring);
-        }
-        for port in 0..ports as u8 {
-            self.drop_sent(port);
-        }
+        self.flush_rings();
+        self.flush_lists();
     }
 }
