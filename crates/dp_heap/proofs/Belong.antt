@@ -25,9 +25,6 @@ bit b = cond b 1 0
 pub same_one : (p : ℕ) → bit (eqb p p) ≡ 1
 same_one p = ap (λ (b : Bool). cond b 1 0) (eq-eqb p p refl)
 
-pub other_one : (q p : ℕ) → (q ≡ p → ⊥) → bit (eqb q p) ≡ 0
-other_one q p off = cond_both (eqb q p) 1 0 (λ n. n ≡ 0) (λ t. absurd (off (eqb-true q p t))) (λ t. refl)
-
 one_small : (b : Bool) → bit b ≤ 1
 one_small true = omega arith
 one_small false = omega arith
@@ -59,9 +56,6 @@ counts_parts : (c p : ℕ) (e : Element) → counts c p e ≡ true → (is_free 
 counts_parts c p e t =
     let a = and_parts (is_free e) (eqb (class_of e.size) c && eqb e.offset p) t in let b = and_parts (eqb (class_of e.size) c) (eqb e.offset p) a.1 in
     (a.0, eqb-true (class_of e.size) c b.0, eqb-true e.offset p b.1)
-
-pub belongs_parts : (c p : ℕ) (e : Element) → 1 ≤ belongs c p e → (is_free e ≡ true) × (class_of e.size ≡ c) × (e.offset ≡ p)
-belongs_parts c p e h = by_test (counts c p e) (counts_parts c p e) (λ t. let no : belongs c p e ≡ 0 = ap (λ (b : Bool). cond b 1 0) t in absurd (omega arith))
 
 pub belongs_here : (e : Element) → is_free e ≡ true → belongs (class_of e.size) e.offset e ≡ 1
 belongs_here e free =
