@@ -11,7 +11,7 @@ use Rattle.dp_heap.specs.declared.elements.Element.{Element}
 use Rattle.dp_heap.specs.Elements.{is_free}
 use Rattle.dp_heap.specs.Laid.{elements_in, IsLaid}
 use Rattle.dp_heap.specs.Lists.{none, class_of, with_link, Linked, times, belongs, belong, Listed}
-use Rattle.dp_heap.proofs.Belong.{bit, class_small, same_one, times-append, times_split, belongs_of, belongs_is}
+use Rattle.dp_heap.proofs.Belong.{class_small, times-append, times_split, belongs_of, belongs_is}
 use Rattle.dp_heap.proofs.Links.{length-with_link, link-same, link-other, link-apart, linked_stay, head_in, last_of, last_in, last_among, beside, first_or}
 use Rattle.dp_heap.proofs.Links.{unlinked}
 use Rattle.dp_heap.proofs.Listing.{relinked, linking, Header, header_of, listed_header, few, other_list, link_header, link_listed, link_small}
@@ -79,11 +79,6 @@ module _ (r : RegionView) (laid : IsLaid r) (before : List Element) (e : Element
 
   once : (q : ℕ) → times q (w.0 c) ≤ 1
   once q = let f = few r laid heads off w c q in omega arith
-
-  -- neither is p, and they differ
-  not_p : (q : ℕ) → 1 ≤ times q cut.0 + times q cut.1 → q ≡ p → ⊥
-  not_p q in_it is = let s = parts q in let o = once q in let one : bit (eqb p q) ≡ 1 = ap (λ (k : ℕ). cond (eqb p k) 1 0) is ∙ same_one p in
-      absurd (omega arith)
 
   u_past : times u cut.1 ≡ 0
   u_past = ⊎_elim (λ z. by_zero (times u cut.1) (λ some. let s = parts u in let k = (listed_header r laid heads off w c u (omega arith)).room in
