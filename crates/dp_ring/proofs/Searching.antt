@@ -1,5 +1,5 @@
 -- A number that is looked for in a list, from its front on.
-use Rattle.std.proofs.Common.{◌≡◌, ℕ, zero, suc, ◌≤◌, true, false, ◌||◌, eqb, List, [], ◌∷◌, length, drop, slice_get, Some, refl, ap, ◌∙◌, arith}
+use Rattle.std.proofs.Common.{◌≡◌, ℕ, zero, suc, true, false, ◌||◌, eqb, List, [], ◌∷◌, drop, slice_get, Some, ap, ◌∙◌}
 use Rattle.std.specs.Prelude.{unwrap_or}
 use Rattle.std.specs.List.{list_any}
 use Rattle.std.proofs.lemmas.Option.{none-some}
@@ -16,10 +16,3 @@ pub missed_at : (xs : List ℕ) (k x y : ℕ) → slice_get xs k ≡ Some x → 
 missed_at [] k x y is other = absurd (none-some x is)
 missed_at (z ∷ xs) zero x y is other = ap (λ b. b || list_any (λ w. eqb w y) xs) (ap (λ o. eqb (unwrap_or o x) y) is ∙ other)
 missed_at (z ∷ xs) (suc k) x y is other = missed_at xs k x y is other
-
--- all have been looked at
-pub none_left : (xs : List ℕ) (k y : ℕ) → length xs ≤ k → list_any (λ z. eqb z y) (drop k xs) ≡ false
-none_left [] zero y past = refl
-none_left [] (suc k) y past = refl
-none_left (x ∷ xs) zero y past = absurd (omega (arith, past))
-none_left (x ∷ xs) (suc k) y past = none_left xs k y (omega (arith, past))
