@@ -11,9 +11,6 @@ use Rattle.dp_pool.specs.Queues.{IndexView, in_count, taken, back, handed, retur
 use Rattle.dp_pool.specs.Pools.{PoolView, AreGot, got, put_back, all_back}
 use Rattle.dp_pool.proofs.Pools.{pool_of}
 
-one_in : Bool → ℕ
-one_in b = cond (not b) 1 0
-
 -- one fewer is in
 pub in_count_taken : (out : List Bool) (i : ℕ) → slice_get out i ≡ Some false → in_count (taken i out) + 1 ≡ in_count out
 in_count_taken [] i is = absurd (none-some false is)

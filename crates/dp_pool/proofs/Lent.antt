@@ -15,17 +15,6 @@ bytes_in-behind xs p d n ws fits = same_lists _ _ (search (rules, places)) (λ k
 bytes_in-before : (xs : List ℕ) (p q n : ℕ) (ws : List ℕ) → q + n ≤ p → p ≤ length xs → bytes_in (overlaid xs p ws) q n ≡ bytes_in xs q n
 bytes_in-before xs p q n ws before fits = same_lists _ _ (search (rules, places)) (λ k e h. grind (arith, places))
 
--- so do the objects before the offset
-objects_before : (xs : List ℕ) (size q p n : ℕ) (ws : List ℕ) → object_offset size q n ≤ p → p ≤ length xs → objects_from (overlaid xs p ws) size q n
-    ≡ objects_from xs size q n
-objects_before xs size q p zero ws before fits = refl
-objects_before xs size q p (suc n) ws before fits =
-    let high = offset_from size (q + stride_of size) n in
-    let covers = stride_covers size in
-    ap₂ (λ (o : List ℕ) (os : List (List ℕ)). o ∷ os)
-    (bytes_in-before xs p q size ws (omega (arith, high, covers, before)) fits)
-    (objects_before xs size (q + stride_of size) p n ws before fits)
-
 -- the objects behind it have the rest of ws over them
 objects_behind : (xs : List ℕ) (size p d n : ℕ) (ws : List ℕ) → object_offset size (p + d) n ≤ length xs → objects_from (overlaid xs p ws) size (p + d) n
     ≡ spilled (stride_of size) (objects_from xs size (p + d) n) (drop d ws)
