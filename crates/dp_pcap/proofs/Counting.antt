@@ -1,5 +1,5 @@
 -- Counting whole records: what more bytes make of a count.
-use Rattle.std.proofs.Common.{◌≡◌, ◌≢◌, ℕ, zero, suc, ◌+◌, ◌-◌, ◌^◌, ◌<◌, ◌≤◌, List, [], ◌++◌, length, take, refl, sym, ap, ◌∙◌, subst, inl, inr, arith}
+use Rattle.std.proofs.Common.{◌≡◌, ◌≢◌, ℕ, zero, suc, ◌+◌, ◌^◌, ◌<◌, ◌≤◌, List, [], ◌++◌, length, take, refl, sym, ap, ◌∙◌, subst, inl, inr, arith}
 use Rattle.std.proofs.Common.{length-append, length-take, append_assoc, append-nil, take_all, drop}
 use Rattle.std.proofs.lemmas.List.{take-append-drop, take-take, length-take-le, length-drop}
 use Rattle.std.proofs.lemmas.Slice.{take-put_mid}
@@ -23,36 +23,6 @@ version_little Little u header other is = refl
 version_little Big u header other is = absurd (other is.version.0)
 
 -- ---- inside the header, or behind a record's head
-
-part_skipped : (o : Order) (n left : ℕ) (head part more : List ℕ) → length more < left → IsPart o n left head part →
-    IsPart o n (left - length more) head (part ++ more)
-part_skipped o zero left head part more less (none, some, all) = (none, omega (arith, less), omega (arith, less, all, length-append part more))
-part_skipped o (suc n) left head part more less (inl (none, few, same)) = absurd (omega (arith, none, less))
-part_skipped o (suc n) left head part more less (inr (some, none, (h, body, size, rest, split))) =
-    inr (
-      omega (arith, less),
-      none,
-      (
-        h,
-        body ++ more,
-        size,
-        omega (arith, rest, less, length-append body more),
-        ap (λ l. l ++ more) split
-            ∙ append_assoc h body more,
-      ),
-    )
-
--- a part of what is left
-pub skipped : (o : Order) (pieces left : ℕ) (head before more : List ℕ) → length more < left →
-    IsBehind (record { order = o; pieces = pieces; left = left; head = head }) before
-    → IsBehind (record { order = o; pieces = pieces; left = left - length more; head = head }) (before ++ more)
-skipped o pieces left head before more less b = record {
-  whole = b.whole;
-  part = b.part ++ more;
-  split = ap (λ l. l ++ more) b.split ∙ append_assoc b.whole b.part more;
-  pieces = b.pieces;
-  is_part = part_skipped o pieces left head b.part more less b.is_part;
-}
 
 no_head : (o : Order) (n left : ℕ) (head part : List ℕ) → 0 < left → IsPart o n left head part → [] ≡ head
 no_head o zero left head part more (none, some, all) = sym none
@@ -97,24 +67,6 @@ completes o pieces left pieces' left' n head before bytes more none all within a
     (completed o pieces left head before (take n bytes) (omega (arith, all, within, length-take n bytes)) any b))
 
 -- ---- inside a record's head
-
-part_grown : (o : Order) (n : ℕ) (head part more : List ℕ) → length head + length more < 16 → IsPart o n 0 head part →
-    IsPart o n 0 (head ++ more) (part ++ more)
-part_grown o zero head part more few (none, some, all) = absurd (omega (arith, some))
-part_grown o (suc n) head part more few (inl (none, less, same)) = inl (refl, omega (arith, few, length-append head more), ap (λ l. l ++ more) same)
-part_grown o (suc n) head part more few (inr (some, none, inside)) = absurd (omega (arith, some))
-
--- a part of it
-pub head_grown : (o : Order) (pieces : ℕ) (head before more : List ℕ) → length head + length more < 16 →
-    IsBehind (record { order = o; pieces = pieces; left = 0; head = head }) before
-    → IsBehind (record { order = o; pieces = pieces; left = 0; head = head ++ more }) (before ++ more)
-head_grown o pieces head before more few b = record {
-  whole = b.whole;
-  part = b.part ++ more;
-  split = ap (λ l. l ++ more) b.split ∙ append_assoc b.whole b.part more;
-  pieces = b.pieces;
-  is_part = part_grown o pieces head b.part more few b.is_part;
-}
 
 part_begun : (o : Order) (n left : ℕ) (head part more : List ℕ) → length head + length more ≡ 16 → left ≡ captured o (head ++ more) → 0 < left →
     IsPart o n 0 head part → IsPart o n left [] (part ++ more)
