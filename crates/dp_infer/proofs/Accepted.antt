@@ -23,10 +23,7 @@ find_none test (rule ∷ rules) e =
     let (here, rest) = and_parts (test rule) (list_all test rules) e in
     rw here (find_none test rules rest)
 
--- an accepted question passes the first two rules, and the others at each label
-pub first_rule : (q : Question) → IsAccepted q → holds q 0 J1 ≡ true
-first_rule q accepted = (and_parts (holds q 0 J1) (list_all (holds q 0) (J2 ∷ later_rules)) (find_holds (holds q 0) (J1 ∷ J2 ∷ later_rules) (accepted 0))).0
-
+-- an accepted question passes the second rule, and those behind it at each label
 pub second_rule : (q : Question) → IsAccepted q → holds q 0 J2 ≡ true
 second_rule q accepted =
     let all = find_holds (holds q 0) (J1 ∷ J2 ∷ later_rules) (accepted 0) in

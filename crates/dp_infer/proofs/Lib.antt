@@ -1,6 +1,5 @@
 pub mod Stronger
 pub mod Registers
-pub mod Pairs
 pub mod Changes
 pub mod PacketTests
 pub mod RowsAfter

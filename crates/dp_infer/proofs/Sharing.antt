@@ -47,9 +47,6 @@ keeps_test fs gs long keeps = all_from_each (λ other. option_map_or (same_regis
 
 -- ---- an order
 
-pub keeps_same : (fs : List Fact) → KeepsGroups fs fs
-keeps_same fs i x inside j = refl
-
 pub keeps_further : (fs gs hs : List Fact) → KeepsGroups fs gs → KeepsGroups gs hs → KeepsGroups fs hs
 keeps_further fs gs hs one two i x inside j =
     let here = two i x inside in

@@ -6,7 +6,7 @@ use Rattle.std.proofs.lemmas.Bool.{leb-true, le-leb, and_parts}
 use Rattle.dp_model.specs.declared.row.Fact.{Fact}
 use Rattle.dp_model.specs.declared.row.Row.{Row}
 use Rattle.dp_model.specs.Groups.{keeps_groups}
-use Rattle.dp_infer.proofs.Sharing.{KeepsGroups, keeps_from, keeps_test, keeps_same, keeps_further, share_same, share_further}
+use Rattle.dp_infer.proofs.Sharing.{KeepsGroups, keeps_from, keeps_test, keeps_further, share_same, share_further}
 use Rattle.dp_model.specs.declared.row.Holding.{Holding}
 use Rattle.dp_model.specs.Rows.{holding, entails_share, entails_holding, entails_option, entails_fact, at_each_index, entails}
 
@@ -156,10 +156,6 @@ option_further None (Some b) c h k = absurd h
 option_further (Some a) None c h k = absurd h
 option_further (Some a) (Some b) None h k = absurd k
 
-pub zip_same : {A : Type 0} (R : A → A → Type 0) → ((x : A) → R x x) → (xs : List A) → AllZip R xs xs
-zip_same R each [] = tt
-zip_same R each (x ∷ xs) = (each x, zip_same R each xs)
-
 pub zip_further : {A : Type 0} (R : A → A → Type 0) → ((x y z : A) → R x y → R y z → R x z) → (xs ys zs : List A) → AllZip R xs ys → AllZip R ys zs →
     AllZip R xs zs
 zip_further R each [] [] [] h k = tt
@@ -168,15 +164,6 @@ zip_further R each [] [] (z ∷ zs) h k = absurd k
 zip_further R each [] (y ∷ ys) zs h k = absurd h
 zip_further R each (x ∷ xs) [] zs h k = absurd h
 zip_further R each (x ∷ xs) (y ∷ ys) [] h k = absurd k
-
-pub same_row : (a : Row) → a.live ≡ true → Stronger a a
-same_row a live = record {
-  live = live;
-  other_live = live;
-  facts = zip_same StrongerFact (λ x. holding_same (holding x)) a.facts;
-  groups = keeps_same a.facts;
-  bounds = zip_same AtMost (λ n. omega arith) a.bounds;
-}
 
 pub further : (a b c : Row) → Stronger a b → Stronger b c → Stronger a c
 further a b c h k = record {
