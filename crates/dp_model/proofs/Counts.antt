@@ -33,11 +33,6 @@ tally_set test (None ∷ packets) (suc p) o o' h = tally_set test packets p o o'
 tally_set test (Some k ∷ packets) (suc p) o o' h =
     omega (arith, tally_set test packets p o o' h, tally-append test k (segments_held packets), tally-append test k (segments_held (slice_set packets p o')))
 
--- what a register holds is part of what is held
-pub tally_held : (test : Segment → Bool) (packets : List (Option Packet)) (i : ℕ) (o : Option Packet) → slice_get packets i ≡ Some o →
-    tally_of test o ≤ tally test (segments_held packets)
-tally_held test packets i o h = omega (arith, tally_set test packets i o None h)
-
 -- ---- lists of packets
 abbrev pub tally_list : (Segment → Bool) → List Packet → ℕ
 tally_list test packets = tally test (flat_map (λ k. k) packets)

@@ -3,7 +3,7 @@
 use Rattle.std.proofs.Common.{◌≡◌, ◌⊎◌, ℕ, zero, suc, ◌+◌, ◌-◌, ◌≤◌, Bool, true, false, not, ◌||◌, ◌&&◌, List, [], ◌∷◌, length, refl, ◌∙◌, ap, subst, arith}
 use Rattle.std.proofs.Common.{inl, inr, ⊎_elim}
 use Rattle.std.specs.List.{AllByRecursion}
-use Rattle.std.proofs.lemmas.Bool.{and_parts, and_from, not-true, or_parts}
+use Rattle.std.proofs.lemmas.Bool.{and_parts, not-true, or_parts}
 use Rattle.dp_model.specs.declared.env.PoolSpec.{PoolSpec}
 use Rattle.dp_model.specs.Buffers.{Number, same_number, IsNumber, AreDistinct}
 use Rattle.dp_model.specs.Packets.{Segment, Packet, refs, is_free, IsFresh, AreFresh, AreOwned, allocated, received, cloned, direct}
@@ -11,7 +11,7 @@ use Rattle.dp_model.specs.Laws.Stored.{same_is}
 use Rattle.dp_model.specs.Laws.Cases.{one_if}
 use Rattle.dp_model.specs.Laws.References.{free_zero}
 use Rattle.dp_model.proofs.Counts.{tally_le}
-use Rattle.dp_model.specs.Laws.Counts.{tally-cons, tally_zero, has_mbuf, is_indirect_at, mbufs, indirects, same_number_sym, owned_of_counts, counts_of_owned}
+use Rattle.dp_model.specs.Laws.Counts.{tally-cons, has_mbuf, is_indirect_at, mbufs, indirects, same_number_sym, owned_of_counts, counts_of_owned}
 
 -- ---- the counts
 
@@ -29,16 +29,6 @@ free_no_mbuf (s ∷ rest) n h =
     (not-true (same_number s.mbuf n || same_number s.buffer n) t.0)).0 in
     let none : one_if (same_number s.mbuf n) ≡ 0 = ap one_if other in
     omega (arith, none, tally-cons (has_mbuf n) s rest, free_no_mbuf rest n t.1)
-
--- a number is free where no live segment has it as its mbuf or as its buffer
-pub free_of_counts : (live : List Segment) (n : Number) → mbufs live n ≡ 0 → refs live n ≡ 0 → is_free live n ≡ true
-free_of_counts [] n m b = refl
-free_of_counts (s ∷ rest) n m b =
-    let e : same_number s.mbuf n ≡ false = (tally_zero (has_mbuf n) (s ∷ rest) m).0 in
-    let f : same_number s.buffer n ≡ false = (tally_zero (λ x. same_number x.buffer n) (s ∷ rest) b).0 in
-    and_from (not (same_number s.mbuf n || same_number s.buffer n)) (is_free rest n)
-    (ap (λ x. not (x || same_number s.buffer n)) e ∙ ap not f)
-    (free_of_counts rest n (omega (arith, m, tally-cons (has_mbuf n) s rest)) (omega (arith, b, tally-cons (λ x. same_number x.buffer n) s rest)))
 
 -- ---- what keeps it
 -- the segments of a packet that comes: its mbufs are free and different, and each buffer is its own or one that is live

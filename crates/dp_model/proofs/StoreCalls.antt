@@ -1,65 +1,24 @@
--- What each call of a packet layer does to the references of every buffer, and that it leaves the layer well formed.
-use Rattle.std.proofs.Common.{◌≡◌, ◌≢◌, ℕ, ◌+◌, ◌*◌, ◌-◌, ◌≤◌, List, [], ◌++◌, length, Some, None, refl, sym, ap, subst, arith}
+-- Each call of a packet layer leaves it well formed.
+use Rattle.std.proofs.Common.{◌≡◌, ◌≢◌, ℕ, ◌+◌, ◌*◌, ◌-◌, ◌≤◌, List, [], ◌++◌, length, Some, None, refl, sym, subst, arith}
 use Rattle.std.specs.Prelude.{slice_get, slice_set}
 use Rattle.std.specs.List.{AllByRecursion}
 use Rattle.std.proofs.lemmas.List.{append-nil}
 use Rattle.dp_model.specs.declared.env.PoolSpec.{PoolSpec}
 use Rattle.dp_model.specs.Environments.{room_at}
-use Rattle.dp_model.specs.Buffers.{Number, Buffers, same_number}
-use Rattle.dp_model.specs.Packets.{Segment, Packet, refs, headroom, tailroom, first_len, last_len, IsHeadSole, IsTailSole, IsWithin, AreOwned, Lies, needed}
+use Rattle.dp_model.specs.Buffers.{Number, Buffers}
+use Rattle.dp_model.specs.Packets.{Packet, headroom, tailroom, first_len, last_len, IsHeadSole, IsTailSole, IsWithin, AreOwned, Lies, needed}
 use Rattle.dp_model.specs.Packets.{allocated, received, cloned, at_front, at_end, more_before, less_before, more_behind, less_behind, zeroed_before}
 use Rattle.dp_model.specs.Packets.{zeroed_behind, stored}
 use Rattle.dp_model.specs.Machine.{Setting, State, live, segments_held, with_packet, with_buffers, goes_on}
 use Rattle.dp_model.specs.Stores.{Store, segments_of, Has, with_slot, Becomes, unwritten, Allocates, ReceivesInto, Clones, Chains, IsWellFormedStore}
 use Rattle.dp_model.specs.Laws.Effects.{Effect, Freed, Prepended, Adjusted, Appended, Trimmed, Chained}
-use Rattle.dp_model.specs.Laws.References.{refs_set, refs_held}
+use Rattle.dp_model.specs.Laws.References.{refs_held}
 use Rattle.dp_model.proofs.SoundClone.{refs_cloned, set_same}
-use Rattle.dp_model.proofs.Counts.{tally_set, tally_front, tally_end, tally_chain}
-use Rattle.dp_model.proofs.Owned.{times, more_owned, MayCome, allocated_direct, received_direct, direct_comes, clone_comes}
+use Rattle.dp_model.proofs.Counts.{tally_set}
+use Rattle.dp_model.proofs.Owned.{more_owned, MayCome, allocated_direct, received_direct, direct_comes, clone_comes}
 use Rattle.dp_model.proofs.OwnedSteps.{HasOwners, effect_owned, more_by}
 use Rattle.dp_model.specs.Laws.StepsWithin.{inside_set, changes_within, lies_allocated, lies_cloned, stored_within, effect_within}
 use Rattle.dp_model.specs.Laws.Within.{IsInside, inside_held, lies_received, needed_holds}
-
--- ---- references of every buffer
-
--- a packet given up takes its references with it
-pub free_refs : (s : Store) (h : ℕ) (k : Packet) (b : Number) → Has s h k → refs (segments_of (with_slot h None s)) b + refs k b ≡ refs (segments_of s) b
-free_refs s h k b has = omega (arith, refs_set s.slots h (Some k) None b has)
-
--- a packet that comes brings its own
-pub give_refs : (s : Store) (h : ℕ) (k : Packet) (b : Number) → slice_get s.slots h ≡ Some None → refs (segments_of (with_slot h (Some k) s)) b
-    ≡ refs (segments_of s) b + refs k b
-give_refs s h k b empty = omega (arith, refs_set s.slots h None (Some k) b empty)
-
--- which are one for each buffer of a new packet, and those of the source for a clone
-pub allocated_refs : (pools : List PoolSpec) (ns : List Number) (b : Number) → refs (allocated pools ns) b ≡ times ns b
-allocated_refs pools ns b = (allocated_direct pools ns).buffers b
-
-pub received_refs : (room : ℕ) (ns : List Number) (len : ℕ) (b : Number) → refs (received room ns len) b ≡ times ns b
-received_refs room ns len b = (received_direct room ns len).buffers b
-
-pub cloned_refs : (ns : List Number) (k : Packet) (b : Number) → length ns ≡ length k → refs (cloned ns k) b ≡ refs k b
-cloned_refs = refs_cloned
-
--- a change of the first or of the last segment leaves all references
-pub front_refs : (s : Store) (h : ℕ) (f : Segment → Segment) (k : Packet) (b : Number) → ((x : Segment) → (f x).buffer ≡ x.buffer) → Has s h k →
-    refs (segments_of (with_slot h (Some (at_front f k)) s)) b ≡ refs (segments_of s) b
-front_refs s h f k b keeps has =
-    omega (
-      arith,
-      refs_set s.slots h (Some k) (Some (at_front f k)) b has,
-      tally_front (λ x. same_number x.buffer b) f k (λ x. ap (λ n. same_number n b) (keeps x)),
-    )
-
-pub end_refs : (s : Store) (h : ℕ) (f : Segment → Segment) (k : Packet) (b : Number) → ((x : Segment) → (f x).buffer ≡ x.buffer) → Has s h k →
-    refs (segments_of (with_slot h (Some (at_end f k)) s)) b ≡ refs (segments_of s) b
-end_refs s h f k b keeps has =
-    omega (arith, refs_set s.slots h (Some k) (Some (at_end f k)) b has, tally_end (λ x. same_number x.buffer b) f k (λ x. ap (λ n. same_number n b) (keeps x)))
-
--- so does chaining
-pub chain_refs : (s : Store) (h t : ℕ) (k tail : Packet) (b : Number) → h ≢ t → Has s h k → Has s t tail →
-    refs (segments_held (slice_set (slice_set s.slots h (Some (k ++ tail))) t None)) b ≡ refs (segments_of s) b
-chain_refs s h t k tail b apart hk ht = tally_chain (λ x. same_number x.buffer b) s.slots h t k tail apart hk ht
 
 -- ---- a layer as a state whose registers are the handles
 
