@@ -66,10 +66,6 @@ module _ {X : Type 0} (P : X → Type 0) where
   all_rest [] rest all = all
   all_rest (x ∷ front) rest all = all_rest front rest all.1
 
-pub all_map : {X : Type 0} (P Q : X → Type 0) (xs : List X) → ((x : X) → P x → Q x) → AllByRecursion P xs → AllByRecursion Q xs
-all_map P Q [] f h = tt
-all_map P Q (x ∷ xs) f h = (f x h.0, all_map P Q xs f h.1)
-
 abbrev pub AllOf : (Segment → Type 0) → Option Packet → Type 0
 AllOf P None = Unit {0}
 AllOf P (Some k) = AllByRecursion P k
@@ -118,9 +114,6 @@ mbufs-append xs ys m = count-append (λ s. same_number s.mbuf m) xs ys
 pub refs-append : (xs ys : List Segment) (m : Number) → refs (xs ++ ys) m ≡ refs xs m + refs ys m
 refs-append xs ys m = count-append (λ s. same_number s.buffer m) xs ys
 
-pub indirects-append : (xs ys : List Segment) (m : Number) → indirects (xs ++ ys) m ≡ indirects xs m + indirects ys m
-indirects-append xs ys m = count-append (λ s. same_number s.mbuf m && not (same_number s.buffer m)) xs ys
-
 pub one_at : (n : Number) → one_if (same_number n n) ≡ 1
 one_at n = let one : ℕ = 1 in ap (λ b. cond b one 0) (same_self n)
 
@@ -159,13 +152,7 @@ each_count ss ss' e = record {
   indirects = λ n. e (λ s. same_number s.mbuf n && not (same_number s.buffer n));
 }
 
--- a packet taken out of its slot, and put into an empty one
-pub out_of_slot : (slots : List (Option Packet)) (h : ℕ) (k : Packet) → h < length slots → get_or slots h None ≡ Some k →
-    SameCounts (segments_held slots) (k ++ segments_held (set slots h None))
-out_of_slot slots h k b e =
-    each_count _ _ (λ f. let c = ap (count_of f) e in
-    omega (arith, c, slot_counted f slots h None b, count-append f k (segments_held (set slots h None))))
-
+-- a packet put into an empty slot
 pub into_slot : (slots : List (Option Packet)) (h : ℕ) (k : Packet) → h < length slots → get_or slots h None ≡ None →
     SameCounts (k ++ segments_held slots) (segments_held (set slots h (Some k)))
 into_slot slots h k b e =

@@ -43,13 +43,6 @@ module _ (ps ps' : List PoolView) (n : Number) (x : Header) (done : HeaderSet ps
   pub stays_other : (m : Number) → same_number n m ≡ false → Stays ps ps' m
   stays_other m ne = record { out = done.outs m; header = alike (header_at ps' m) (header_at ps m) (done.others m ne) }
 
-  -- the mbufs of a packet that does not have it
-  pub stays_without : (k : Packet) → mbufs k n ≡ 0 → (m : Number) → 1 ≤ mbufs k m → Stays ps ps' m
-  stays_without k none m q = ⊎_elim
-      (λ same. let c : mbufs k n ≡ mbufs k m = ap (mbufs k) same in absurd (omega (arith, c, none, q)))
-      (λ d. stays_other m d)
-      (same_or n m)
-
   pub stored_same : x.refs ≡ (header_at ps n).refs → (b : Number) → (header_at ps' b).refs ≡ (header_at ps b).refs
   stored_same e b = ⊎_elim
       (λ same. subst (λ m. (header_at ps' m).refs ≡ (header_at ps m).refs) same (ap (λ h. h.refs) done.here ∙ e))

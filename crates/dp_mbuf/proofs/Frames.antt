@@ -51,10 +51,6 @@ pub positive : (n : ℕ) → 1 ≤ n → is_positive n ≡ true
 positive zero h = absurd (omega arith)
 positive (suc n) h = refl
 
-pub not_positive : (n : ℕ) → is_positive n ≡ false → n ≡ 0
-not_positive zero e = refl
-not_positive (suc n) e = cc
-
 pub head_of : (ps : List PoolView) (n : Number) (k : Packet) → Stands ps n k → is_head ps n ≡ true
 head_of ps n k s =
     ap is_positive s.segs ∙ positive (length k) s.some

@@ -35,10 +35,6 @@ mbufs_split (s ∷ ss) n =
 
 -- ---- one segment less
 
-and_false : (a : Bool) → (a && false) ≡ false
-and_false true = refl
-and_false false = refl
-
 pub less : (ps ps' : List PoolView) (slots : List (Option Packet)) (s : Segment) (more : Packet) → Whole ps (s ∷ more) slots → Fewer ps ps' →
     ((b : Number) → 1 ≤ refs (more ++ segments_held slots) b → (header_at ps' b).refs ≡ refs (more ++ segments_held slots) b) →
     ((n : Number) → IsNumber (specs_of ps) n → is_out ps' n ≡ is_positive (mbufs (more ++ segments_held slots) n + refs (more ++ segments_held slots) n)) →

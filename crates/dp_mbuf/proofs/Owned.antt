@@ -146,9 +146,6 @@ rows_one f g k (suc p) j (s ∷ specs) b h o =
     subst (λ x. f (record { pool = x; index = j }) + 1 ≤ g (record { pool = x; index = j })) e o in
     omega (arith, rows_one f g (suc k) p j specs b h o', row_more f g k s.count h)
 
-nothing_rows : (k : ℕ) (specs : List PoolSpec) → 0 ≤ rows (mbufs []) k specs
-nothing_rows k specs = omega arith
-
 all_counted : (specs : List PoolSpec) (ss : List Segment) → AllByRecursion (λ s. IsNumber specs s.mbuf) ss → length ss ≤ rows (mbufs ss) 0 specs
 all_counted specs [] a = omega arith
 all_counted specs (s ∷ ss) a =

@@ -11,7 +11,7 @@ use Rattle.dp_model.specs.Machine.{segments_held}
 use Rattle.dp_mbuf.specs.declared.header.Header.{Header}
 use Rattle.dp_mbuf.specs.Headers.{header_bytes, then_word}
 use Rattle.dp_pool.specs.Pools.{PoolView, with_written}
-use Rattle.dp_mbuf.specs.Objects.{header_at, is_out, pool_in, count_in, specs_of, HasObject, ArePools, HeaderSet, Taken}
+use Rattle.dp_mbuf.specs.Objects.{header_at, is_out, pool_in, count_in, specs_of, HasObject, HeaderSet, Taken}
 use Rattle.dp_mbuf.specs.Mbufs.{handle, numbered, is_positive, mbufs, Whole}
 use Rattle.dp_mbuf.proofs.PoolLemmas.{Small}
 use Rattle.dp_mbuf.proofs.ObjectLemmas.{same_or, count_is}
@@ -106,9 +106,6 @@ set_again ps a b n x y f g = record {
 abbrev pub fresh_header : Number → ℕ → ℕ → ℕ → Header
 fresh_header n segs o l =
     record { segs = segs; refs = 1; offset = o; len = l; next = n; last = n; buffer = n }
-
-pub taken_are : (ps ps1 : List PoolView) (n : Number) → Taken ps n ps1 → ArePools ps1
-taken_are ps ps1 n t = t.are
 
 pub taken_object : (ps ps1 : List PoolView) (n : Number) → Taken ps n ps1 → HasObject ps1 n
 taken_object ps ps1 n t = object_of ps1 n (subst (λ x. IsNumber x n) (sym t.specs) (number_of ps n t.object))
