@@ -1,7 +1,7 @@
 -- Packets that come and go, and rounds that leave all as it was.
-use Rattle.std.proofs.Common.{◌≡◌, ℕ, zero, suc, ◌+◌, ◌-◌, ◌*◌, ◌/◌, ◌<◌, ◌≤◌, false, List, [], ◌∷◌, length, Option, Some, None, refl, sym, ◌∙◌, ap, ap₂}
+use Rattle.std.proofs.Common.{◌≡◌, ℕ, zero, suc, ◌+◌, ◌-◌, ◌/◌, ◌<◌, ◌≤◌, false, List, [], ◌∷◌, length, Option, Some, None, refl, sym, ◌∙◌, ap, ap₂}
 use Rattle.std.proofs.Common.{subst, arith, get_or}
-use Rattle.std.specs.Prelude.{max, replicate, slice_get, slice_set, slice_index_or}
+use Rattle.std.specs.Prelude.{max, replicate, slice_get, slice_set}
 use Rattle.std.specs.List.{AllByRecursion}
 use Rattle.std.proofs.lemmas.Option.{none-some, same_Some}
 use Rattle.dp_model.specs.Buffers.{Number, Buffers, ChangesOnly}
@@ -13,7 +13,7 @@ use Rattle.dp_model.specs.Stores.{Store, Has, HasSome, IsLive, Becomes, unwritte
 use Rattle.dp_region.specs.Ownership.{Home}
 use Rattle.dp_pool.specs.Pools.{PoolView, PoolZones}
 use Rattle.dp_mbuf.specs.Objects.{present, PoolsFirst, pool_in, zones_of}
-use Rattle.dp_mbuf.specs.Mbufs.{MbufsView, AreReady, IsNew, HasNone}
+use Rattle.dp_mbuf.specs.Mbufs.{MbufsView, AreReady, IsNew}
 use Rattle.dp_bench.specs.Mbufs.{HasFront, HasRoom, IsReadyPool, IsOnePool}
 
 -- ---- a place that is filled and emptied
@@ -59,9 +59,6 @@ module _ (s s' : Store) (q pool : ℕ) (live : IsLive s q) where
 
   pub clone_back : (h : ℕ) → Clones s q pool s' (Some h) → (s'' : Store) → s'' ≡ with_slot h None s' → (s''.slots ≡ s.slots) × (s''.pools ≡ s.pools)
   clone_back h c = given_back s s' pool (length live.0) h (λ ns. cloned ns live.0) (λ ns old new. new ≡ old) (c live.0 live.1)
-
-  pub clone_none : Clones s q pool s' None → s' ≡ s
-  clone_none c = (c live.0 live.1).1
 
 module _ (s s' : Store) (pool h : ℕ) (bytes : List ℕ) (g : ReceivesInto s pool bytes s' (Some h)) where
   abbrev packet : List Number → Packet
@@ -136,11 +133,6 @@ none_out zero i = refl
 none_out (suc n) zero = refl
 none_out (suc n) (suc i) = none_out n i
 
-no_slot : (n i : ℕ) → slice_index_or {A = Option Packet} (replicate n None) i None ≡ None
-no_slot zero i = refl
-no_slot (suc n) zero = refl
-no_slot (suc n) (suc i) = no_slot n i
-
 abbrev pub one_of : PoolView → List (Option PoolView)
 one_of p = Some p ∷ None ∷ None ∷ None ∷ None ∷ None ∷ None ∷ None ∷ []
 
@@ -157,14 +149,8 @@ ready_one home p r = record {
     at zero i = ap (λ o. get_or o i false) r.all_in ∙ none_out 400 i
     at (suc k) i = refl
 
-pub new_some : (p : PoolView) (v : MbufsView) → IsNew (one_of p) v → 0 < length v.store.pools
-new_some p v new = let l = ap length new.pools_are in omega (arith, l)
-
 pub new_room : (p : PoolView) (v : MbufsView) → IsNew (one_of p) v → p.size ≡ 2304 → HasRoom v.store
 new_room p v new size = ap (λ ps. room_at ps 0) new.pools_are ∙ ap (λ n. n - 128) size
-
-pub new_none : (p : PoolView) (v v' : MbufsView) → IsNew (one_of p) v → v'.store.slots ≡ v.store.slots → HasNone v'.store
-new_none p v v' new e h = ap (λ l. slice_index_or l h None) (e ∙ new.empty) ∙ no_slot (65536 * length v.store.pools) h
 
 -- the only pool that comes back stands in the first slot
 
