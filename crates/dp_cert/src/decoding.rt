@@ -14,7 +14,7 @@ use crate::encoding::{head_line, row_line};
 use crate::error::{Cause, CertError, Fault};
 use crate::parsing::row_in;
 use dp_model::Row;
-use std::alloc::{AllocError, Global};
+use std::alloc::Global;
 
 fn are_digits(digits: &[u8]) -> bool
     ensures { result ≡ list_all spec.is_digit digits.now }
@@ -46,16 +46,20 @@ fn is_line(line: &[u8]) -> bool
 fn spelled_row(
     alloc: Global,
     version: Version,
+    number: usize,
     line: &[u8],
     row: Row,
-) -> Result<Result<Row, Cause>, AllocError>
-    ensures { IfOk result (λ read. read ≡ spec.spelled_row version line.now row) }
+) -> Result<Row, CertError>
+    ensures { spec.Gives (λ row. row) result (spec.at_line number (spec.spelled_row version line.now row)) }
 {
     let spelled = row_line(alloc, &row)?;
     if spelled.as_slice() == line && version.can_have(&row) {
-        Ok(Ok(row))
+        Ok(row)
     } else {
-        Ok(Err(Cause::BadRow))
+        Err(CertError::Fault(Fault {
+            line: number,
+            cause: Cause::BadRow,
+        }))
     }
 }
 
@@ -70,17 +74,23 @@ fn bytes_of(digits: &[u8]) -> Option<[u8; 153]>
     }
 }
 
-/// The row that a line spells.
+/// The row that a line spells, or the fault, with the number of the line.
 #[tactic(auto, unfolding(crate::specs::Reading::row_of))]
-fn row_of(alloc: Global, version: Version, line: &[u8]) -> Result<Result<Row, Cause>, AllocError>
-    ensures { IfOk result (λ read. read ≡ spec.row_of version line.now) }
+fn row_of(alloc: Global, version: Version, number: usize, line: &[u8]) -> Result<Row, CertError>
+    ensures { spec.Gives (λ row. row) result (spec.at_line number (spec.row_of version line.now)) }
 {
     if !is_line(line) {
-        return Ok(Err(Cause::BadLine));
+        return Err(CertError::Fault(Fault {
+            line: number,
+            cause: Cause::BadLine,
+        }));
     }
     match bytes_of(digits_in(line)) {
-        Some(bytes) => spelled_row(alloc, version, line, row_in(&bytes)),
-        None => Ok(Err(Cause::BadLine)),
+        Some(bytes) => spelled_row(alloc, version, number, line, row_in(&bytes)),
+        None => Err(CertError::Fault(Fault {
+            line: number,
+            cause: Cause::BadLine,
+        })),
     }
 }
 
@@ -98,10 +108,8 @@ fn rows_of(alloc: Global, version: Version, n: usize, text: &[u8]) -> Result<Vec
             }));
         }
         let (line, after) = rest.split_at(rest.len().min(307));
-        match row_of(alloc, version, line)? {
-            Ok(row) => rows.push(row)?,
-            Err(cause) => return Err(CertError::Fault(Fault { line: i + 2, cause })),
-        }
+        let row = row_of(alloc, version, i + 2, line)?;
+        rows.push(row)?;
         rest = after;
     }
     if rest.is_empty() {
