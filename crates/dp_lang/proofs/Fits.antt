@@ -11,7 +11,8 @@ use Rattle.dp_lang.specs.Arguments.{packet, register, constant, label}
 use Rattle.dp_lang.specs.Kinds.{register_or, number_where, is_within, is_width, register_or_constant, register_in, number_in, argument_of, is_name, is_of}
 use Rattle.dp_lang.specs.Kinds.{all_of}
 use Rattle.dp_lang.specs.Reading.{Named, both, ◌>>=◌, onto, each_argument}
-use Rattle.dp_lang.specs.Views.{Shows}
+use Rattle.dp_lang.specs.declared.cause.LineError.{LineError}
+use Rattle.dp_lang.specs.LineErrors.{ReadsAs}
 
 abbrev Passes : Kind → Result Named Cause → Type 0
 Passes kind read = IfOk read (λ o. is_of kind o ≡ true)
@@ -72,9 +73,8 @@ each_passes [] ps e = refl
 each_passes (k ∷ ks) [] e = absurd (omega arith)
 each_passes (k ∷ ks) (p ∷ ps) e = both_pass k ks (argument_of k (trim p)) (each_argument ks ps) (argument_passes k (trim p)) (each_passes ks ps (omega arith))
 
-pub read_fits : {X E : Type 0} (ks : List Kind) (ps : List (List ℕ)) (view : X → List Named) (r : Result (Result X Cause) E) → length ks ≡ length ps
-    → IfOk r (λ read. Shows view read (each_argument ks ps)) → IfOk r (λ read. IfOk read (λ v. all_of ks (view v) ≡ true))
+pub read_fits : {X : Type 0} (ks : List Kind) (ps : List (List ℕ)) (view : X → List Named) (r : Result X LineError) → length ks ≡ length ps
+    → ReadsAs view r (each_argument ks ps) → IfOk r (λ v. all_of ks (view v) ≡ true)
 read_fits ks ps view (Err e) len h = tt
-read_fits ks ps view (Ok (Err c)) len h = tt
-read_fits ks ps view (Ok (Ok v)) len h = let P : Result (List Named) Cause → Type 0 = λ x. IfOk x (λ os. all_of ks os ≡ true) in
+read_fits ks ps view (Ok v) len h = let P : Result (List Named) Cause → Type 0 = λ x. IfOk x (λ os. all_of ks os ≡ true) in
     subst P h (each_passes ks ps len)

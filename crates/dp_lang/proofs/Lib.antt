@@ -3,6 +3,7 @@ pub mod Assembled
 pub mod Built
 pub mod Bytes
 pub mod LineCuts
+pub mod LineErrors
 pub mod Digits
 pub mod Fits
 pub mod InstrLabels

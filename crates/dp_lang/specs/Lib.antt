@@ -5,6 +5,7 @@ pub mod Fields
 pub mod Forms
 pub mod Kinds
 pub mod LabelMaps
+pub mod LineErrors
 pub mod Lines
 pub mod Printing
 pub mod Programs

@@ -24,9 +24,8 @@ pub(crate) fn read_lines<'a>(alloc: Global, lines: &[&'a [u8]]) -> Result<Source
     };
     for (i, text) in lines.iter().enumerate() {
         let line = i + 1;
-        match add_line(alloc, &mut source, line, text)? {
-            Ok(()) => {}
-            Err(cause) => return Err(AsmError::Fault(Fault { line, cause })),
+        if let Err(error) = add_line(alloc, &mut source, line, text) {
+            return Err(error.at_line(line));
         }
     }
     Ok(source)

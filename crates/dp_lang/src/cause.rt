@@ -2,6 +2,7 @@
 
 ghost use Rattle.std.specs.Prelude.{◌≡◌};
 ghost use Rattle.dp_lang.specs.Causes.{number_of, least};
+ghost use Rattle.dp_lang.specs.LineErrors as spec;
 
 use std::alloc::{AllocError, AllocFailed};
 use std::fmt;
@@ -91,6 +92,59 @@ impl fmt::Display for Fault {
         let line = self.line;
         let cause = self.cause;
         write!(f, "line {line}: {cause}")
+    }
+}
+
+/// Why a line was not read.
+#[derive(Clone, Copy, Debug, PartialEq, Eq)]
+pub(crate) enum LineError {
+    /// A growth was refused.
+    Memory,
+    /// What is wrong with the line.
+    Cause(Cause),
+}
+
+impl LineError {
+    /// Of two the lower cause counts, and a growth that was refused before any cause.
+    pub(crate) fn or_less(self, other: LineError) -> LineError
+        ensures { result ≡ spec.least_error self other }
+    {
+        match (self, other) {
+            (LineError::Cause(cause), LineError::Cause(other)) => {
+                LineError::Cause(cause.or_less(other))
+            }
+            _ => LineError::Memory,
+        }
+    }
+
+    /// Why the text of the line was not assembled.
+    pub(crate) fn at_line(self, line: usize) -> AsmError
+        ensures { result ≡ spec.error_at line self }
+    {
+        match self {
+            LineError::Memory => AsmError::Memory,
+            LineError::Cause(cause) => AsmError::Fault(Fault { line, cause }),
+        }
+    }
+}
+
+impl From<AllocError> for LineError {
+    ghost use Rattle.dp_lang.specs.declared.cause.LineError.TheVariants.{Memory};
+
+    ghost from_gives = { λ _ e. e ≡ Memory };
+
+    fn from(_e: AllocError) -> LineError {
+        LineError::Memory
+    }
+}
+
+impl<T: Drop> From<AllocFailed<T>> for LineError {
+    ghost use Rattle.dp_lang.specs.declared.cause.LineError.TheVariants.{Memory};
+
+    ghost from_gives = { λ _ e. e ≡ Memory };
+
+    fn from(_e: AllocFailed<T>) -> LineError {
+        LineError::Memory
     }
 }
 

@@ -9,10 +9,11 @@ ghost use Rattle.dp_lang.specs.Reading as spec;
 ghost use Rattle.dp_lang.specs.Reading.{each_argument, arguments_of, statement_of, label_test, labels_after, line_of};
 ghost use Rattle.dp_lang.specs.Forms as forms;
 ghost use Rattle.dp_lang.specs.Views.{argument, Shows};
+ghost use Rattle.dp_lang.specs.LineErrors.{ReadsAs};
 ghost use Rattle.dp_lang.specs.Sources as view;
 
 use crate::argument::Named;
-use crate::cause::Cause;
+use crate::cause::{Cause, LineError};
 use crate::form::{Form, Kind};
 use crate::labels::Labels;
 use crate::lines;
@@ -20,7 +21,7 @@ use crate::operand::{argument_of, is_name};
 use crate::program::MOST_INSTRS;
 use crate::source::Source;
 use crate::statement::Statement;
-use std::alloc::{AllocError, Global};
+use std::alloc::Global;
 
 /// A cause beside one that was found before: the least counts.
 fn or_less(before: Option<Cause>, cause: Cause) -> Cause
@@ -37,9 +38,9 @@ fn each_argument<'a>(
     alloc: Global,
     kinds: &[Kind],
     parts: &[&'a [u8]],
-) -> Result<Result<Vec<Named<'a>>, Cause>, AllocError>
+) -> Result<Vec<Named<'a>>, LineError>
     requires { length kinds.now ≡ length parts.now }
-    ensures { IfOk result (λ read. Shows (λ v. map argument v.items) read (each_argument kinds.now (map (λ part. part.now) parts.now))) }
+    ensures { ReadsAs (λ v. map argument v.items) result (each_argument kinds.now (map (λ part. part.now) parts.now)) }
 {
     let mut arguments = Vec::new(alloc);
     let mut fault = None;
@@ -50,8 +51,8 @@ fn each_argument<'a>(
         }
     }
     match fault {
-        None => Ok(Ok(arguments)),
-        Some(cause) => Ok(Err(cause)),
+        None => Ok(arguments),
+        Some(cause) => Err(LineError::Cause(cause)),
     }
 }
 
@@ -59,12 +60,12 @@ fn arguments_of<'a>(
     alloc: Global,
     kinds: &[Kind],
     parts: &[&'a [u8]],
-) -> Result<Result<Vec<Named<'a>>, Cause>, AllocError>
-    ensures read { IfOk result (λ read. Shows (λ v. map argument v.items) read (arguments_of kinds.now (map (λ part. part.now) parts.now))) }
-    ensures fits { IfOk result (λ read. IfOk read (λ v. all_of kinds.now (map argument v.items) ≡ true)) }
+) -> Result<Vec<Named<'a>>, LineError>
+    ensures read { ReadsAs (λ v. map argument v.items) result (arguments_of kinds.now (map (λ part. part.now) parts.now)) }
+    ensures fits { IfOk result (λ v. all_of kinds.now (map argument v.items) ≡ true) }
 {
     if kinds.len() != parts.len() {
-        return Ok(Err(Cause::BadOperands));
+        return Err(LineError::Cause(Cause::BadOperands));
     }
     each_argument(alloc, kinds, parts)
 }
@@ -75,26 +76,24 @@ fn statement_in<'a>(
     alloc: Global,
     line: usize,
     instruction: &'a [u8],
-) -> Result<Result<Option<Statement<'a>>, Cause>, AllocError>
-    ensures read { IfOk result (λ read. Shows view.some_statement read (statement_of instruction.now)) }
-    ensures line { IfOk result (λ read. IfOk read (λ found. IfSome found (λ s. s.line ≡ line))) }
+) -> Result<Option<Statement<'a>>, LineError>
+    ensures read { ReadsAs view.some_statement result (statement_of instruction.now) }
+    ensures line { IfOk result (λ found. IfSome found (λ s. s.line ≡ line)) }
 {
     if instruction.is_empty() {
-        return Ok(Ok(None));
+        return Ok(None);
     }
     let (word, rest) = lines::word_and_rest(instruction);
     let Some(form) = Form::of_word(word) else {
-        return Ok(Err(Cause::BadWord));
+        return Err(LineError::Cause(Cause::BadWord));
     };
     let parts = lines::operands_in(alloc, rest)?;
-    match arguments_of(alloc, form.kinds(), &parts)? {
-        Ok(arguments) => Ok(Ok(Some(Statement {
-            line,
-            form,
-            arguments,
-        }))),
-        Err(cause) => Ok(Err(cause)),
-    }
+    let arguments = arguments_of(alloc, form.kinds(), &parts)?;
+    Ok(Some(Statement {
+        line,
+        form,
+        arguments,
+    }))
 }
 
 /// Whether a label may come next.
@@ -115,9 +114,8 @@ fn add_labels<'a>(
     labels: &mut Labels<'a>,
     number: u16,
     pieces: &[&'a [u8]],
-) -> Result<Result<(), Cause>, AllocError>
-    ensures { IfOk result (λ read. Shows (λ _. labels.new) read
-        (labels_after number labels.old (map (λ piece. trim_start piece.now) pieces.now))) }
+) -> Result<(), LineError>
+    ensures { ReadsAs (λ _. labels.new) result (labels_after number labels.old (map (λ piece. trim_start piece.now) pieces.now)) }
 {
     let mut fault = None;
     for piece in pieces {
@@ -128,29 +126,29 @@ fn add_labels<'a>(
         labels.insert(name, number)?;
     }
     match fault {
-        None => Ok(Ok(())),
-        Some(cause) => Ok(Err(cause)),
+        None => Ok(()),
+        Some(cause) => Err(LineError::Cause(cause)),
     }
 }
 
-/// A statement beside the labels of its line, or the least cause of both.
+/// A statement beside the labels of its line, or the least error of both.
 fn merged<'a>(
-    statement: Result<Option<Statement<'a>>, Cause>,
-    labels: Result<(), Cause>,
-) -> Result<Option<Statement<'a>>, Cause>
+    statement: Result<Option<Statement<'a>>, LineError>,
+    labels: Result<(), LineError>,
+) -> Result<Option<Statement<'a>>, LineError>
     ensures both { (S : Result (Option (forms.Statement (List ℕ))) Cause) (L : Result spec.Labels Cause) (ls : spec.Labels)
-        → Shows view.some_statement statement.entry S → Shows (λ _. ls) labels L
-        → Shows (λ s. (view.some_statement s, ls)) result (spec.both S L) }
+        → ReadsAs view.some_statement statement.entry S → ReadsAs (λ _. ls) labels L
+        → ReadsAs (λ s. (view.some_statement s, ls)) result (spec.both S L) }
     ensures same { IfOk result (λ s. statement.entry ≡ Ok s) }
 {
     match statement {
         Ok(statement) => match labels {
             Ok(()) => Ok(statement),
-            Err(cause) => Err(cause),
+            Err(error) => Err(error),
         },
-        Err(cause) => match labels {
-            Ok(()) => Err(cause),
-            Err(other) => Err(cause.or_less(other)),
+        Err(error) => match labels {
+            Ok(()) => Err(error),
+            Err(other) => Err(error.or_less(other)),
         },
     }
 }
@@ -161,19 +159,19 @@ fn read_pieces<'a>(
     source: &mut Source<'a>,
     line: usize,
     pieces: &[&'a [u8]],
-) -> Result<Result<Option<Statement<'a>>, Cause>, AllocError>
+) -> Result<Option<Statement<'a>>, LineError>
     requires { 0 < length pieces.now }
     ensures read { let cut = map (λ piece. piece.now) pieces.now in
-        IfOk result (λ read. Shows (λ s. (view.some_statement s, source.new.labels)) read
-        (spec.both (statement_of (instruction_in cut)) (labels_after (vec_len source.old.statements) source.old.labels (labels_in cut)))) }
-    ensures line { IfOk result (λ read. IfOk read (λ found. IfSome found (λ s. s.line ≡ line))) }
+        ReadsAs (λ s. (view.some_statement s, source.new.labels)) result
+        (spec.both (statement_of (instruction_in cut)) (labels_after (vec_len source.old.statements) source.old.labels (labels_in cut))) }
+    ensures line { IfOk result (λ found. IfSome found (λ s. s.line ≡ line)) }
     ensures same { source.new.statements ≡ source.old.statements }
 {
     let last = pieces.len() - 1;
-    let statement = statement_in(alloc, line, lines::trim_start(pieces[last]))?;
+    let statement = statement_in(alloc, line, lines::trim_start(pieces[last]));
     let number = source.statements.len() as u16;
-    let labels = add_labels(&mut source.labels, number, &pieces[..last])?;
-    Ok(merged(statement, labels))
+    let labels = add_labels(&mut source.labels, number, &pieces[..last]);
+    merged(statement, labels)
 }
 
 /// Adds what a line gives.
@@ -183,22 +181,18 @@ pub fn add_line<'a>(
     source: &mut Source<'a>,
     line: usize,
     text: &'a [u8],
-) -> Result<Result<(), Cause>, AllocError>
-    ensures { IfOk result (λ read. Shows (λ _. view.source source.new) read (line_of line (view.source source.old) text.now)) }
+) -> Result<(), LineError>
+    ensures { ReadsAs (λ _. view.source source.new) result (line_of line (view.source source.old) text.now) }
 {
     if !lines::is_text(text) {
-        return Ok(Err(Cause::BadByte));
+        return Err(LineError::Cause(Cause::BadByte));
     }
     let pieces = lines::pieces(alloc, text)?;
-    match read_pieces(alloc, source, line, &pieces)? {
-        Err(cause) => Ok(Err(cause)),
-        Ok(None) => Ok(Ok(())),
-        Ok(Some(statement)) => {
-            if source.statements.len() == MOST_INSTRS {
-                return Ok(Err(Cause::Size));
-            }
-            source.statements.push(statement)?;
-            Ok(Ok(()))
+    if let Some(statement) = read_pieces(alloc, source, line, &pieces)? {
+        if source.statements.len() == MOST_INSTRS {
+            return Err(LineError::Cause(Cause::Size));
         }
+        source.statements.push(statement)?;
     }
+    Ok(())
 }

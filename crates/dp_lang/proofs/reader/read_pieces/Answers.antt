@@ -14,4 +14,4 @@ returns-clause-read c =
     let word = instruction_is ps (record { ref_ptr = (0, 0); now = [] }) c.requires ∙ sym c.trim_start.ensures in
     rw (word, ← c.len-number.ensures, labels_are ps)
     (c.merged.ensures.both (statement_of c.trim_start.result.now) (labels_after count old (map (λ piece. trim_start piece.now) (take (length ps - 1) ps))) _
-    c.in_ok-statement.ensures.read c.in_ok-labels.ensures)
+    c.statement_in-statement.ensures.read c.add_labels-labels.ensures)
