@@ -24,9 +24,7 @@ pub(crate) fn read_lines<'a>(alloc: Global, lines: &[&'a [u8]]) -> Result<Source
     };
     for (i, text) in lines.iter().enumerate() {
         let line = i + 1;
-        if let Err(error) = add_line(alloc, &mut source, line, text) {
-            return Err(error.at_line(line));
-        }
+        add_line(alloc, &mut source, line, text).map_err(|error| error.at_line(line))?;
     }
     Ok(source)
 }

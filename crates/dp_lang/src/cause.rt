@@ -2,7 +2,7 @@
 
 ghost use Rattle.std.specs.Prelude.{◌≡◌};
 ghost use Rattle.dp_lang.specs.Causes.{number_of, least};
-ghost use Rattle.dp_lang.specs.LineErrors as spec;
+ghost use Rattle.dp_lang.specs.LineErrors.{least_error, error_at};
 
 use std::alloc::{AllocError, AllocFailed};
 use std::fmt;
@@ -96,7 +96,7 @@ impl fmt::Display for Fault {
 }
 
 /// Why a line was not read.
-#[derive(Clone, Copy, Debug, PartialEq, Eq)]
+#[derive(Clone, Copy, Debug)]
 pub(crate) enum LineError {
     /// A growth was refused.
     Memory,
@@ -107,7 +107,7 @@ pub(crate) enum LineError {
 impl LineError {
     /// Of two the lower cause counts, and a growth that was refused before any cause.
     pub(crate) fn or_less(self, other: LineError) -> LineError
-        ensures { result ≡ spec.least_error self other }
+        ensures { result ≡ least_error self other }
     {
         match (self, other) {
             (LineError::Cause(cause), LineError::Cause(other)) => {
@@ -119,7 +119,7 @@ impl LineError {
 
     /// Why the text of the line was not assembled.
     pub(crate) fn at_line(self, line: usize) -> AsmError
-        ensures { result ≡ spec.error_at line self }
+        ensures { result ≡ error_at line self }
     {
         match self {
             LineError::Memory => AsmError::Memory,

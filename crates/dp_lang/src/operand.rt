@@ -101,14 +101,8 @@ pub fn argument_of<'a>(kind: Kind, part: &'a [u8]) -> Result<Named<'a>, Cause>
     ensures { Shows argument result (spec.argument_of kind part.now) }
 {
     match kind {
-        Kind::Packet => match register_in(b'p', part) {
-            Some(index) => Ok(Named::Packet(index)),
-            None => Err(Cause::BadRegister),
-        },
-        Kind::Register => match register_in(b'r', part) {
-            Some(index) => Ok(Named::Register(index)),
-            None => Err(Cause::BadRegister),
-        },
+        Kind::Packet => Ok(Named::Packet(register_in(b'p', part).ok_or(Cause::BadRegister)?)),
+        Kind::Register => Ok(Named::Register(register_in(b'r', part).ok_or(Cause::BadRegister)?)),
         Kind::Number { least, most } => Ok(Named::Constant(number_within(least, most, part)?)),
         Kind::Width => Ok(Named::Constant(width(part)?)),
         Kind::RegisterOrConstant => match register_in(b'r', part) {

@@ -141,15 +141,10 @@ fn merged<'a>(
         → ReadsAs (λ s. (view.some_statement s, ls)) result (spec.both S L) }
     ensures same { IfOk result (λ s. statement.entry ≡ Ok s) }
 {
-    match statement {
-        Ok(statement) => match labels {
-            Ok(()) => Ok(statement),
-            Err(error) => Err(error),
-        },
-        Err(error) => match labels {
-            Ok(()) => Err(error),
-            Err(other) => Err(error.or_less(other)),
-        },
+    match (statement, labels) {
+        (Ok(statement), Ok(())) => Ok(statement),
+        (Ok(_), Err(error)) | (Err(error), Ok(())) => Err(error),
+        (Err(error), Err(other)) => Err(error.or_less(other)),
     }
 }
 

@@ -4,4 +4,4 @@ use Rattle.dp_lang.proofs.reader.merged.Goals as goal
 
 pub returns-clause-both : goal.returns-clause-both
 returns-clause-both c = λ S L ls h g.
-    rw c.or_less.ensures (both_stop c.in-Err.error c.in-Err-labels-2.other S L (rw c.in-Err.is at h) (rw c.in-Err-labels-2.is at g))
+    rw c.or_less.ensures (both_stop c.in-Err-Err.error c.in-Err-Err.other S L (rw c.in-Err-Err.is-0 at h) (rw c.in-Err-Err.is-1 at g))
