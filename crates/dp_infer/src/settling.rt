@@ -5,6 +5,7 @@
 ghost use Rattle.std.specs.Prelude.{◌≡◌, ◌<◌, ◌≤◌, length, IsTrue};
 ghost use Rattle.std.specs.List.{list_all};
 ghost use Rattle.dp_model.specs.Rows.{is_well_formed_row};
+ghost use Rattle.dp_lang.specs.declared.program.TheConstants.{MOST_INSTRS};
 
 use crate::join::{joined, met};
 use dp_check::{Leads, leads_of};
@@ -172,7 +173,7 @@ fn reach_again(rows: &mut [Row], program: &[Instr], label: u16, lead: &Lead, slo
 fn pass_again(rows: &mut [Row], program: &[Instr], env: &Env, label: u16, slow: bool) -> bool
     requires in_range { label < length rows.old }
     requires same_length { length rows.old ≡ length program.now }
-    requires at_most { length program.now ≤ 1024 }
+    requires at_most { length program.now ≤ MOST_INSTRS }
     requires well_formed { IsTrue (list_all is_well_formed_row rows.old) }
     ensures well_formed { IsTrue (list_all is_well_formed_row rows.new) }
     ensures long { length rows.new ≡ length rows.old }
@@ -196,7 +197,7 @@ fn pass_again(rows: &mut [Row], program: &[Instr], env: &Env, label: u16, slow: 
 /// Passes control on from each label in order; whether a row changed.
 fn spread_again(rows: &mut [Row], program: &[Instr], env: &Env, slow: bool) -> bool
     requires same_length { length rows.old ≡ length program.now }
-    requires at_most { length program.now ≤ 1024 }
+    requires at_most { length program.now ≤ MOST_INSTRS }
     requires well_formed { IsTrue (list_all is_well_formed_row rows.old) }
     ensures well_formed { IsTrue (list_all is_well_formed_row rows.new) }
     ensures long { length rows.new ≡ length rows.old }
@@ -210,11 +211,11 @@ fn spread_again(rows: &mut [Row], program: &[Instr], env: &Env, slow: bool) -> b
     changed
 }
 
-/// Weakens rows, pass by pass, until a pass changes none of them, or 4,096 passes are made. It is not promised that they serve
-/// then, nor that a pass would change none of them.
+/// Weakens rows, pass by pass, until a pass changes none of them, or [`MOST_PASSES`] passes are made. It is not promised that
+/// they serve then, nor that a pass would change none of them.
 pub(crate) fn settle(rows: &mut [Row], program: &[Instr], env: &Env)
     requires same_length { length rows.old ≡ length program.now }
-    requires at_most { length program.now ≤ 1024 }
+    requires at_most { length program.now ≤ MOST_INSTRS }
     requires well_formed { IsTrue (list_all is_well_formed_row rows.old) }
     ensures long { length rows.new ≡ length rows.old }
     ensures well_formed { IsTrue (list_all is_well_formed_row rows.new) }

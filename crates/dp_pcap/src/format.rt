@@ -47,4 +47,4 @@ pub(crate) const CAPTURED_AT: usize = 8;
 pub(crate) const LENGTH_AT: usize = 12;
 
 /// How many nanoseconds a second has.
-pub(crate) const NANOS_A_SECOND: u32 = 1_000_000_000;
+pub const NANOS_A_SECOND: u32 = 1_000_000_000;
