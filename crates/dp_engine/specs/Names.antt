@@ -2,6 +2,7 @@
 use Rattle.std.specs.Prelude.{◌≡◌, ℕ, ◌+◌, ◌*◌, ◌<◌, ◌==◌, codes, true, if◌then◌else◌, List, [], ◌∷◌, ◌++◌, length, slice_index}
 use Rattle.std.specs.List.{AllByRecursion}
 use Rattle.dp_zone.specs.Names.{is_name}
+use Rattle.dp_zone.specs.Zones.{most_zones}
 use Rattle.dp_engine.specs.declared.names.Kind.{Kind}
 use Rattle.dp_engine.specs.declared.names.Kind.TheVariants.{Port, Ring}
 
@@ -42,4 +43,4 @@ first_pool = 3485
 pub record IsNext (name : List ℕ) (names : List (List ℕ)) : Type 0 where
   pub named : is_name name ≡ true
   pub after : AllBefore (rank name) names
-  pub few : length names < 64
+  pub few : length names < most_zones

@@ -2,7 +2,9 @@
 use Rattle.std.specs.Prelude.{ℕ, zero, suc, ◌+◌, ◌*◌, nat_lt, if◌then◌else◌, List, [], ◌∷◌, map}
 use Rattle.dp_model.specs.declared.env.PoolSpec.{PoolSpec}
 use Rattle.dp_model.specs.Environments.{Environment}
-use Rattle.dp_heap.specs.Elements.{rounded}
+use Rattle.dp_model.specs.Limits.{most_buffers, largest_room}
+use Rattle.dp_heap.specs.Elements.{header_len, rounded}
+use Rattle.dp_ring.specs.Rings.{most_slots}
 use Rattle.dp_pool.specs.Making.{object_len}
 use Rattle.dp_mbuf.specs.declared.limits.TheConstants.{HEADER_SIZE}
 
@@ -17,7 +19,7 @@ power_above n = doubled_past n 1 n
 
 -- what a zone takes: a header, and its length rounded up
 abbrev pub zone_bytes : ℕ → ℕ
-zone_bytes len = 64 + rounded len
+zone_bytes len = header_len + rounded len
 
 -- how long the zones of a pool are: that of its objects, each a header and a data room, and that of its queue
 abbrev pub objects_len : PoolSpec → ℕ
@@ -32,6 +34,16 @@ pool_bytes s = zone_bytes (objects_len s) + zone_bytes (queue_len s)
 
 abbrev pub ring_bytes : ℕ → ℕ
 ring_bytes count = zone_bytes (4 * count)
+
+-- the most that the objects of a pool take, a pool, and a ring
+abbrev pub most_objects_len : ℕ
+most_objects_len = most_buffers * (largest_room + HEADER_SIZE)
+
+abbrev pub most_pool_bytes : ℕ
+most_pool_bytes = zone_bytes most_objects_len + zone_bytes (4 * most_slots)
+
+abbrev pub most_ring_bytes : ℕ
+most_ring_bytes = ring_bytes most_slots
 
 -- the sum of f over a list
 abbrev pub total : {X : Type 0} → (X → ℕ) → List X → ℕ

@@ -1,9 +1,10 @@
 -- Internal: a heap whose zones are taken from the top down, one free element at the bottom, and busy ones above it.
 use Rattle.std.specs.Prelude.{◌≡◌, ℕ, ◌+◌, ◌-◌, ◌%◌, ◌<◌, ◌≤◌, ◌⊎◌, false, List, [], ◌∷◌, length, map}
 use Rattle.dp_region.specs.Ownership.{Home}
+use Rattle.dp_region.specs.Region.{cache_line}
 use Rattle.dp_heap.specs.declared.elements.Element.{Element}
 use Rattle.dp_heap.specs.declared.elements.State.TheVariants.{Free, Busy}
-use Rattle.dp_heap.specs.Elements.{is_free, is_busy, data_of, sum_of, count_of, Taken}
+use Rattle.dp_heap.specs.Elements.{header_len, is_free, is_busy, data_of, sum_of, count_of, Taken}
 use Rattle.dp_heap.specs.Laid.{HeapView}
 use Rattle.dp_zone.specs.Zones.{ZoneView, Reserved}
 
@@ -22,7 +23,7 @@ bottom size = record { offset = 0; size = size; state = Free; pad = 0 }
 
 -- the element of a block of n bytes that lie right behind its header
 abbrev pub block_at : ℕ → ℕ → Element
-block_at offset n = record { offset = offset; size = 64 + n; state = Busy; pad = 0 }
+block_at offset n = record { offset = offset; size = header_len + n; state = Busy; pad = 0 }
 
 -- they are busy, and the last of them is t, above the others' data
 abbrev pub LieUnder : Element → List Element → Type 0
@@ -33,7 +34,7 @@ LieUnder t (e ∷ x ∷ es) = (is_free e ≡ false) × (data_of e < data_of t) �
 -- one free element at the bottom, and busy ones above it up to t
 abbrev pub IsStacked : Element → List Element → Type 0
 IsStacked t [] = ⊥
-IsStacked t (e ∷ es) = (e ≡ bottom e.size) × (e.size % 64 ≡ 0) × (e.size < data_of t) × LieUnder t es
+IsStacked t (e ∷ es) = (e ≡ bottom e.size) × (e.size % cache_line ≡ 0) × (e.size < data_of t) × LieUnder t es
 
 -- how many bytes the lowest has
 abbrev pub left_in : List Element → ℕ
@@ -56,9 +57,9 @@ names_of table = map (λ r. r.name) table
 -- true of a heap, a table and a spare zone at the top
 pub record IsStack (heap : HeapView) (table : List Reserved) (spare : ZoneView) : Type 0 where
   pub home : spare.home ≡ heap.home
-  pub even : spare.offset % 64 ≡ 0
-  pub high : 64 ≤ spare.offset
-  pub stacked : IsStacked (block_at (spare.offset - 64) (length spare.bytes)) heap.elements
+  pub even : spare.offset % cache_line ≡ 0
+  pub high : header_len ≤ spare.offset
+  pub stacked : IsStacked (block_at (spare.offset - header_len) (length spare.bytes)) heap.elements
   pub counted : count_of is_busy heap.elements ≡ length table
 
 -- a block of n bytes is taken, and then one of m bytes
@@ -66,5 +67,5 @@ pub record TakesTwo (old : List Element) (n m : ℕ) (new : List Element) : Type
   pub mid : List Element
   pub offset : ℕ
   pub next : ℕ
-  pub first : Taken old n 64 offset mid
-  pub second : Taken mid m 64 next new
+  pub first : Taken old n cache_line offset mid
+  pub second : Taken mid m cache_line next new

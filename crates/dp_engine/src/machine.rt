@@ -5,18 +5,19 @@ ghost use Rattle.dp_model.specs.Arithmetic.{value};
 ghost use Rattle.dp_model.specs.Machine.{Holds, with_packet, without_packet, with_number, with_step, with_outbox, with_ring, is_denied, live};
 ghost use Rattle.std.specs.Prelude.{not, None, Some, nat_eq, IsTrue, IsFalse, slice_get, replicate};
 ghost use Rattle.std.specs.List.{list_any, AllByRecursion};
-ghost use Rattle.dp_model.specs.Limits.{least_port_room};
+ghost use Rattle.dp_model.specs.Limits.{least_port_room, most_segments};
 ghost use Rattle.dp_model.specs.Environments.{room_at};
 ghost use Rattle.dp_model.specs.Runs.{between, first_state, first_waiting, Waiting};
 ghost use Rattle.dp_engine.specs.Handles.{moved, in_slot, core_of, ran, frames_of, lists_of};
 ghost use Rattle.dp_engine.specs.Steps.{setting_of, with_jumps};
 ghost use Rattle.dp_engine.specs.Turns.{IsReceived, with_one_call};
-ghost use Rattle.dp_model.specs.Machine.{with_cut, without_packets};
+ghost use Rattle.dp_model.specs.Machine.{with_cut, without_packets, jump_budget};
 ghost use Rattle.dp_engine.specs.Queues.{ring_at};
 ghost use Rattle.dp_ring.specs.Rings.{RingView};
 ghost use Rattle.dp_mbuf.specs.Mbufs.{HasNone};
 ghost use Rattle.std.specs.Prelude.{OnOk, OnErr, IfOk, IfErr, IsOk, IsErr, MatchResult, flat_map, take};
 ghost use Rattle.std.specs.Io.KnownBytes.{Appends};
+ghost use Rattle.dp_pcap.specs.declared.format.TheConstants.{NANOS_A_SECOND};
 ghost use Rattle.dp_pcap.specs.Text.{AppendsPart, record_text, failed_pushes};
 ghost use Rattle.dp_engine.specs.Drains.{record_of, AtPacket, Written, WrotePart, whole_of, IsCalledFor};
 
@@ -114,7 +115,7 @@ impl Machine {
         requires idle { AllByRecursion (λ o. o ≡ None) self.old.state.packets }
         requires pools { self.old.pools ≡ env.now.pools }
         requires has_room { least_port_room ≤ room_at env.now.pools pool }
-        requires fits { needed env.now.pools pool (length bytes.now) ≤ 64 }
+        requires fits { needed env.now.pools pool (length bytes.now) ≤ most_segments }
         requires few { self.old.state.world.calls + 1 < 2 ^ 64 }
         ensures denied { not result ≡ is_denied (setting_of env.now [] pattern.now) (between self.old.state.world) pool
             (needed env.now.pools pool (length bytes.now)) }
@@ -250,8 +251,8 @@ impl Machine {
 
     // Whether the node run may take a backward jump. Then it is counted.
     pub(crate) fn jump(&mut self) -> bool
-        ensures taken { IsTrue result → (self.old.state.jumps < 256) × (self.new ≡ moved (with_jumps (self.old.state.jumps + 1) self.old.state) self.old) }
-        ensures over { IsFalse result → (256 ≤ self.old.state.jumps) × (self.new ≡ self.old) }
+        ensures taken { IsTrue result → (self.old.state.jumps < jump_budget) × (self.new ≡ moved (with_jumps (self.old.state.jumps + 1) self.old.state) self.old) }
+        ensures over { IsFalse result → (jump_budget ≤ self.old.state.jumps) × (self.new ≡ self.old) }
     {
         if self.jumps < 256 {
             self.jumps += 1;
@@ -395,7 +396,7 @@ impl Machine {
     ) -> Result<(), PcapError>
         requires there { port < length self.now.frames.outboxes }
         requires waits { (packets : List Packet) × (slice_get self.now.state.world.outboxes port ≡ Some packets) × (at < length packets) }
-        requires nano { time.nano < 1000000000 }
+        requires nano { time.nano < NANOS_A_SECOND }
         ensures ok { OnOk result (AtPacket self.now port at (λ k. Appends (W.contents w.old) (W.contents w.new)
             (record_of unit time self.now.state.world.buffers k))) }
         ensures err { OnErr result (AtPacket self.now port at (λ k. AppendsPart (W.contents w.old) (W.contents w.new)
@@ -421,7 +422,7 @@ impl Machine {
         w: &mut W,
     ) -> Result<u32, u32>
         requires there { port < length self.now.frames.outboxes }
-        requires nano { time.nano < 1000000000 }
+        requires nano { time.nano < NANOS_A_SECOND }
         ensures ok { IfOk result (λ sent. Written unit time port self.now.state.world (λ records. (sent ≡ length records)
             × Appends (W.contents w.old) (W.contents w.new) (flat_map (record_text unit) records))) }
         ensures err { IfErr result (λ sent. Written unit time port self.now.state.world

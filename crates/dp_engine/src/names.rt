@@ -1,6 +1,7 @@
 //! Names of an engine's zones.
 
 ghost use Rattle.std.specs.Prelude.{◌≡◌, ◌<◌, codes};
+ghost use Rattle.dp_mbuf.specs.declared.limits.TheConstants.{MAX_POOLS};
 ghost use Rattle.dp_engine.specs.Names.{numbered, pool_name, ring_name};
 
 /// Whether a ring is the transmit list of a port.
@@ -57,7 +58,7 @@ pub(crate) fn ring_name(kind: Kind, k: usize) -> &'static str
 
 /// The name of the `k`-th pool, with which those of its zones begin.
 pub(crate) fn pool_name(k: usize) -> &'static str
-    requires { k < 8 }
+    requires { k < MAX_POOLS }
     ensures { result.now ≡ pool_name k }
 {
     match k {

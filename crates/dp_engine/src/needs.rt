@@ -4,20 +4,25 @@ ghost use Rattle.std.specs.Prelude.{◌≡◌, ◌+◌, ◌*◌, ◌<◌, ◌≤
 ghost use Rattle.std.specs.List.{AllByRecursion};
 ghost use Rattle.dp_region.specs.Region.{largest_region};
 ghost use Rattle.dp_ring.specs.Rings.{IsCount, most_slots};
+ghost use Rattle.dp_mbuf.specs.declared.limits.TheConstants.{MAX_POOLS};
 ghost use Rattle.dp_model.specs.Limits.{most_buffers, largest_room};
 ghost use Rattle.dp_model.specs.Environments.{pool_fits};
 ghost use Rattle.dp_engine.specs.Needs.{power_above, zone_bytes, objects_len, queue_len, pool_bytes, ring_bytes, total, ring_counts, list_counts, bytes_needed};
+ghost use Rattle.dp_engine.specs.Needs.{most_objects_len, most_pool_bytes, most_ring_bytes};
 
 use arrayvec::ArrayVec;
+use dp_heap::HEADER_LEN;
 use dp_mbuf::HEADER_SIZE;
 use dp_model::{Env, PoolSpec, PortSpec, RingSpec};
+use dp_region::CACHE_LINE;
 
 // What a zone of so many bytes takes.
 fn zone_bytes(len: u32) -> u64
     requires { len ≤ largest_region }
     ensures { result ≡ zone_bytes len }
 {
-    64 + (u64::from(len) + 63) / 64 * 64
+    let line = u64::from(CACHE_LINE);
+    u64::from(HEADER_LEN) + (u64::from(len) + (line - 1)) / line * line
 }
 
 /// The least power of two above a number of buffers.
@@ -34,26 +39,26 @@ pub(crate) fn power_above(count: u32) -> u32
 pub(crate) fn objects_len(spec: PoolSpec) -> u32
     requires { (spec.count ≤ most_buffers) × (spec.room ≤ largest_room) }
     ensures value { result ≡ objects_len spec }
-    ensures bound { result ≤ 276819840 }
+    ensures bound { result ≤ most_objects_len }
 {
-    spec.count * ((spec.room + HEADER_SIZE + 63) / 64 * 64)
+    spec.count * ((spec.room + HEADER_SIZE + (CACHE_LINE - 1)) / CACHE_LINE * CACHE_LINE)
 }
 
 // What a pool takes.
 fn pool_bytes(spec: PoolSpec) -> u64
     requires { (spec.count ≤ most_buffers) × (spec.room ≤ largest_room) }
     ensures value { result ≡ pool_bytes spec }
-    ensures bound { result ≤ 277082112 }
+    ensures bound { result ≤ most_pool_bytes }
 {
     zone_bytes(objects_len(spec)) + zone_bytes(4 * power_above(spec.count))
 }
 
 // What pools take.
 fn pools_bytes(specs: &[PoolSpec]) -> u64
-    requires few { length specs.now ≤ 8 }
+    requires few { length specs.now ≤ MAX_POOLS }
     requires fit { AllByRecursion (λ s. pool_fits s ≡ true) specs.now }
     ensures value { result ≡ total pool_bytes specs.now }
-    ensures bound { result ≤ 2216656896 }
+    ensures bound { result ≤ MAX_POOLS * most_pool_bytes }
 {
     let mut sum = 0;
     for spec in specs.iter() {
@@ -67,7 +72,7 @@ fn rings_bytes(counts: &[u32]) -> u64
     requires few { length counts.now ≤ 8 }
     requires fit { AllByRecursion IsCount counts.now }
     ensures value { result ≡ total ring_bytes counts.now }
-    ensures bound { result ≤ 2097664 }
+    ensures bound { result ≤ 8 * most_ring_bytes }
 {
     let mut sum = 0;
     for count in counts.iter() {

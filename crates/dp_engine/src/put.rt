@@ -1,6 +1,7 @@
 //! Writes the record of a packet.
 ghost use Rattle.std.specs.Prelude.{◌<◌};
 ghost use Rattle.dp_model.specs.Stores.{IsLive};
+ghost use Rattle.dp_pcap.specs.declared.format.TheConstants.{NANOS_A_SECOND};
 ghost use Rattle.dp_engine.specs.Putting.{PutsRecord};
 
 use dp_mbuf::Mbufs;
@@ -15,7 +16,7 @@ type Put = Result<(), PcapError>;
 #[inline(never)]
 fn put_segments<W: Sink>(mbufs: &Mbufs, packet: Handle, time: Time, unit: Unit, w: &mut W) -> Put
     requires live { IsLive mbufs.now.store packet }
-    requires nano { time.nano < 1000000000 }
+    requires nano { time.nano < NANOS_A_SECOND }
     ensures { PutsRecord W.contents W.is_broken W.calls W.failures unit time mbufs.now.store packet w.old w.new result }
 {
     put_head(w, unit, time, mbufs.length(&packet) as usize)?;
@@ -34,7 +35,7 @@ pub(crate) fn put_packet<W: Sink>(
     w: &mut W,
 ) -> Put
     requires live { IsLive mbufs.now.store packet }
-    requires nano { time.nano < 1000000000 }
+    requires nano { time.nano < NANOS_A_SECOND }
     ensures { PutsRecord W.contents W.is_broken W.calls W.failures unit time mbufs.now.store packet w.old w.new result }
 {
     if mbufs.segments(&packet) != 1 {

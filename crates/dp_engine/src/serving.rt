@@ -1,7 +1,7 @@
 //! What a turn does: a record comes to a port, and then packets that wait in rings are served.
 ghost use Rattle.std.specs.Prelude.{◌≡◌, ℕ, ◌+◌, ◌*◌, ◌^◌, ◌<◌, ◌≤◌, Bool, List, length, IfSome};
 ghost use Rattle.dp_pcap.specs.declared.format.TheConstants.{LARGEST_RECORD};
-ghost use Rattle.dp_model.specs.Limits.{least_port_room};
+ghost use Rattle.dp_model.specs.Limits.{least_port_room, most_ring_runs};
 ghost use Rattle.dp_model.specs.Environments.{room_at};
 ghost use Rattle.dp_model.specs.Packets.{needed as segments_needed};
 ghost use Rattle.dp_model.specs.Runs.{Serves, Took, runs_of};
@@ -24,7 +24,7 @@ fn needed(pools: &[PoolSpec], pool: u32, len: usize) -> usize
     requires len { len ≤ LARGEST_RECORD }
     ensures { result ≡ segments_needed pools.now pool len }
 {
-    let full = pools[pool as usize].room as usize - DEFAULT_HEADROOM as usize;
+    let full = pools[pool as usize].room as usize - usize::from(DEFAULT_HEADROOM);
     // It divides only where there is more than one part.
     if len <= full {
         return 1;
@@ -107,14 +107,14 @@ pub(crate) struct Served {
 // Up to 32 node runs, each on the front packet of the first ring that has one.
 pub(crate) fn serve<W: Watch>(plan: &Plan, m: &mut Machine, watch: &mut W) -> Served
     requires rests { Rests plan.now m.old }
-    requires few { m.old.state.world.calls + 32 * most_steps < 2 ^ 64 }
-    requires few_cuts { m.old.state.world.cuts + 32 < 2 ^ 64 }
-    ensures serves { (answers : List Bool) × Serves plan.now.setting plan.now.nodes.rings 32 m.old.state.world answers result.runs m.new.state.world }
+    requires few { m.old.state.world.calls + most_ring_runs * most_steps < 2 ^ 64 }
+    requires few_cuts { m.old.state.world.cuts + most_ring_runs < 2 ^ 64 }
+    ensures serves { (answers : List Bool) × Serves plan.now.setting plan.now.nodes.rings most_ring_runs m.old.state.world answers result.runs m.new.state.world }
     ensures took { Took m.old.state.world m.new.state.world result.steps result.cuts }
-    ensures few_runs { result.runs ≤ 32 }
+    ensures few_runs { result.runs ≤ most_ring_runs }
     ensures few_steps { result.steps ≤ result.runs * most_steps }
-    ensures few_cuts { result.cuts ≤ 32 }
-    ensures calls { m.new.state.world.calls ≤ m.old.state.world.calls + 32 * most_steps }
+    ensures few_cuts { result.cuts ≤ most_ring_runs }
+    ensures calls { m.new.state.world.calls ≤ m.old.state.world.calls + most_ring_runs * most_steps }
     ensures packets { packet_count m.new.state + m.old.state.world.calls ≤ packet_count m.old.state + m.new.state.world.calls }
     ensures rests { Rests plan.now m.new }
     ensures frames { m.new.frames ≡ m.old.frames }

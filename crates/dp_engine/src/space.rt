@@ -9,6 +9,7 @@ use crate::names::Kind;
 use crate::needs::{list_counts, need, power_above, ring_counts};
 use crate::stack::{Stack, put_pool};
 use dp_heap::Heap;
+use dp_mbuf::MAX_POOLS;
 use dp_model::Env;
 use dp_pool::Pool;
 use dp_region::Region;
@@ -19,7 +20,7 @@ use std::marker::Model;
 /// What stands in the zones of a space: pools of mbufs, rings, and the transmit lists of ports. Of each the first slots
 /// are filled.
 pub struct Parts {
-    pub pools: [Option<Pool>; 8],
+    pub pools: [Option<Pool>; MAX_POOLS],
     pub rings: [Option<Ring>; 8],
     pub lists: [Option<Ring>; 8],
 }
@@ -118,7 +119,7 @@ impl Space {
     }
 
     // Takes the zones of pools back.
-    fn end_pools(&mut self, pools: [Option<Pool>; 8])
+    fn end_pools(&mut self, pools: [Option<Pool>; MAX_POOLS])
         requires { PoolsIn self.old.home pools }
         ensures { Returns (2 * filled pools) self.old self.new }
     {

@@ -2,9 +2,10 @@
 
 ghost use Rattle.std.specs.Prelude.{◌≡◌, ℕ, ◌+◌, ◌*◌, ◌<◌, ◌≤◌, true, None, Some, List, [], ◌∷◌, ◌++◌, length};
 ghost use Rattle.std.specs.List.{AllByRecursion};
-ghost use Rattle.dp_region.specs.Region.{largest_region};
+ghost use Rattle.dp_region.specs.Region.{cache_line, largest_region};
 ghost use Rattle.dp_heap.specs.declared.elements.Element.{Element};
 ghost use Rattle.dp_heap.specs.Elements.{rounded, slack, NothingFits, Taken, count_of, is_busy};
+ghost use Rattle.dp_zone.specs.Zones.{most_zones};
 ghost use Rattle.dp_ring.specs.Rings.{IsCount};
 ghost use Rattle.dp_pool.specs.Making.{object_name, queue_name};
 ghost use Rattle.dp_model.specs.Environments.{pool_fits};
@@ -16,7 +17,7 @@ ghost use Rattle.dp_engine.specs.Stacks.{names_of, size_of, TakesTwo};
 use crate::names::{Kind, pool_name, ring_name};
 use core::mem::replace;
 use dp_heap::Heap;
-use dp_mbuf::HEADER_SIZE;
+use dp_mbuf::{HEADER_SIZE, MAX_POOLS};
 use dp_model::PoolSpec;
 use dp_pool::Pool;
 use dp_region::Region;
@@ -77,9 +78,9 @@ fn put_ring(slot: &mut Option<Ring>, ring: Ring)
 fn reserve(heap: &mut Heap, zones: &mut Zones, name: &str, len: u32) -> Zone
     requires name { IsNext name.now (names_of zones.old) }
     requires len { (0 < len) × (len ≤ largest_region) }
-    requires room { ¬ NothingFits (rounded len) 64 heap.old.elements }
+    requires room { ¬ NothingFits (rounded len) cache_line heap.old.elements }
     ensures zone { (result.home ≡ heap.old.home) × (length result.bytes ≡ rounded len) }
-    ensures taken { Taken heap.old.elements (rounded len) 64 result.offset heap.new.elements }
+    ensures taken { Taken heap.old.elements (rounded len) cache_line result.offset heap.new.elements }
     ensures names { names_of zones.new ≡ names_of zones.old ++ name.now ∷ [] }
     ensures home { heap.new.home ≡ heap.old.home }
     ensures size { size_of heap.new.elements ≡ size_of heap.old.elements }
@@ -94,12 +95,12 @@ fn reserve(heap: &mut Heap, zones: &mut Zones, name: &str, len: u32) -> Zone
 // A pool that is not refused.
 fn make(heap: &mut Heap, zones: &mut Zones, k: usize, spec: PoolSpec) -> Pool
     requires spec { pool_fits spec ≡ true }
-    requires number { k < 8 }
+    requires number { k < MAX_POOLS }
     requires names { AllBefore (first_pool + 10 * k) (names_of zones.old) }
-    requires few { length (names_of zones.old) + 2 ≤ 64 }
-    requires objects { ¬ NothingFits (rounded (objects_len spec)) 64 heap.old.elements }
-    requires queue { (offset : ℕ) (mid : List Element) → Taken heap.old.elements (rounded (objects_len spec)) 64 offset mid →
-        ¬ NothingFits (rounded (queue_len spec)) 64 mid }
+    requires few { length (names_of zones.old) + 2 ≤ most_zones }
+    requires objects { ¬ NothingFits (rounded (objects_len spec)) cache_line heap.old.elements }
+    requires queue { (offset : ℕ) (mid : List Element) → Taken heap.old.elements (rounded (objects_len spec)) cache_line offset mid →
+        ¬ NothingFits (rounded (queue_len spec)) cache_line mid }
     ensures pool { IsNewPool heap.old.home spec result }
     ensures taken { TakesTwo heap.old.elements (rounded (objects_len spec)) (rounded (queue_len spec)) heap.new.elements }
     ensures names { names_of zones.new ≡ names_of zones.old ++ object_name (pool_name k) ∷ queue_name (pool_name k) ∷ [] }
@@ -149,7 +150,7 @@ impl Stack {
         requires count { IsCount count }
         requires room { ring_bytes count + slack < self.old.left }
         requires names { AllBefore (first_of kind + 10 * k) self.old.names }
-        requires few { length self.old.names < 64 }
+        requires few { length self.old.names < most_zones }
         ensures ring { IsNewRing self.old.home count result }
         ensures left { self.new.left + ring_bytes count ≡ self.old.left }
         ensures same { (self.new.home ≡ self.old.home) × (self.new.size ≡ self.old.size) × (self.new.spare ≡ self.old.spare) }
@@ -165,7 +166,7 @@ impl Stack {
         requires counts { AllByRecursion IsCount counts.now }
         requires room { total ring_bytes counts.now + slack < self.old.left }
         requires names { AllBefore (first_of kind) self.old.names }
-        requires few { length self.old.names + length counts.now ≤ 64 }
+        requires few { length self.old.names + length counts.now ≤ most_zones }
         ensures rings { AreFilled (IsNewRing self.old.home) counts.now result }
         ensures left { self.new.left + total ring_bytes counts.now ≡ self.old.left }
         ensures same { (self.new.home ≡ self.old.home) × (self.new.size ≡ self.old.size) × (self.new.spare ≡ self.old.spare) }
@@ -182,11 +183,11 @@ impl Stack {
 
     // The next pool below.
     fn take_pool(&mut self, k: usize, spec: PoolSpec) -> Pool
-        requires number { k < 8 }
+        requires number { k < MAX_POOLS }
         requires spec { pool_fits spec ≡ true }
         requires room { pool_bytes spec + slack < self.old.left }
         requires names { AllBefore (first_pool + 10 * k) self.old.names }
-        requires few { length self.old.names + 2 ≤ 64 }
+        requires few { length self.old.names + 2 ≤ most_zones }
         ensures pool { IsNewPool self.old.home spec result }
         ensures left { self.new.left + pool_bytes spec ≡ self.old.left }
         ensures same { (self.new.home ≡ self.old.home) × (self.new.size ≡ self.old.size) × (self.new.spare ≡ self.old.spare) }
@@ -196,14 +197,14 @@ impl Stack {
     }
 
     /// Pools of mbufs of these numbers.
-    pub fn take_pools(&mut self, specs: &[PoolSpec]) -> [Option<Pool>; 8]
-        requires number { length specs.now ≤ 8 }
+    pub fn take_pools(&mut self, specs: &[PoolSpec]) -> [Option<Pool>; MAX_POOLS]
+        requires number { length specs.now ≤ MAX_POOLS }
         requires specs { AllByRecursion (λ s. pool_fits s ≡ true) specs.now }
         requires room { total pool_bytes specs.now + slack < self.old.left }
         requires names { AllBefore first_pool self.old.names }
-        requires few { length self.old.names + 2 * length specs.now ≤ 64 }
+        requires few { length self.old.names + 2 * length specs.now ≤ most_zones }
         ensures pools { AreFilled (IsNewPool self.old.home) specs.now result }
-        ensures slots { length result ≡ 8 }
+        ensures slots { length result ≡ MAX_POOLS }
         ensures left { self.new.left + total pool_bytes specs.now ≡ self.old.left }
         ensures same { (self.new.home ≡ self.old.home) × (self.new.size ≡ self.old.size) × (self.new.spare ≡ self.old.spare) }
         ensures names { AllBefore (first_pool + 10 * length specs.now) self.new.names × (length self.new.names ≡ length self.old.names + 2 * length specs.now) }
@@ -218,13 +219,13 @@ impl Stack {
 
     /// Gives the spare zone back, and makes a last pool, whose queue is as long as that was.
     pub fn finish(self, k: usize, spec: PoolSpec) -> (Heap, Zones, Pool)
-        requires number { k < 8 }
+        requires number { k < MAX_POOLS }
         requires spec { pool_fits spec ≡ true }
         requires room { zone_bytes (objects_len spec) ≤ self.left }
         requires spare { self.spare ≡ rounded (queue_len spec) }
         requires names { AllBefore (first_pool + 10 * k) self.names }
         requires some { 2 ≤ length self.names }
-        requires few { length self.names + 2 ≤ 64 }
+        requires few { length self.names + 2 ≤ most_zones }
         ensures pool { IsNewPool self.home spec result.2 }
         ensures same { (result.0.home ≡ self.home) × (size_of result.0.elements ≡ self.size) }
         ensures counted { count_of is_busy result.0.elements ≡ length self.names + 1 }

@@ -3,6 +3,7 @@ ghost use Rattle.std.specs.Prelude.{◌≡◌, ◌+◌, ◌<◌, ◌≤◌, [], 
 ghost use Rattle.std.specs.Io.KnownBytes.{Appends};
 ghost use Rattle.dp_model.specs.Machine.{live};
 ghost use Rattle.dp_model.specs.Runs.{between, with_empty_outboxes, with_empty_rings, left_in_rings};
+ghost use Rattle.dp_pcap.specs.declared.format.TheConstants.{NANOS_A_SECOND};
 ghost use Rattle.dp_pcap.specs.Text.{record_text};
 ghost use Rattle.dp_engine.specs.Drains.{Written, WrotePart, IsCalledFor};
 ghost use Rattle.dp_engine.specs.Outcomes.{sent_of};
@@ -23,7 +24,7 @@ impl Engine {
         w: &mut W,
     ) -> Result<u32, WriteFault>
         requires exists { port < length self.old.setting.env.ports }
-        requires nano { time.nano < 1000000000 }
+        requires nano { time.nano < NANOS_A_SECOND }
         ensures ok { IfOk result (λ sent. Written unit time port self.old.world (λ records. (sent ≡ length records)
             × Appends (W.contents w.old) (W.contents w.new) (flat_map (record_text unit) records))) }
         ensures err { IfErr result (λ fault. Written unit time port self.old.world

@@ -4,6 +4,7 @@ ghost use Rattle.dp_model.specs.Arithmetic.{bytes_in};
 ghost use Rattle.dp_model.specs.Buffers.{Number, Buffers, ChangesOnly};
 ghost use Rattle.dp_model.specs.Packets.{Packet, AreFresh, allocated, cloned, headroom, tailroom, last_len, first_len, IsHeadSole, IsTailSole, at_front};
 ghost use Rattle.dp_model.specs.Packets.{at_end, more_before, more_behind, less_behind, zeroed_before, zeroed_behind, loaded, stored};
+ghost use Rattle.dp_model.specs.Limits.{most_segments};
 ghost use Rattle.dp_model.specs.Machine.{Holds, IsEmpty, live, is_denied, with_call, with_packet, without_packet, with_buffers};
 ghost use Rattle.dp_engine.specs.Handles.{moved};
 ghost use Rattle.dp_engine.specs.Steps.{setting_of};
@@ -106,7 +107,7 @@ impl Machine {
 
     // The second packet behind the first. Its register is empty then.
     pub(crate) fn chain(&mut self, front: PacketRegister, back: PacketRegister)
-        requires { (k : Packet) × (t : Packet) × Holds self.old.state front k × Holds self.old.state back t × (front ≢ back) × (length k + length t ≤ 64) }
+        requires { (k : Packet) × (t : Packet) × Holds self.old.state front k × Holds self.old.state back t × (front ≢ back) × (length k + length t ≤ most_segments) }
         ensures { (k : Packet) (t : Packet) → Holds self.old.state front k → Holds self.old.state back t →
             self.new ≡ moved (without_packet back (with_packet front (k ++ t) self.old.state)) self.old }
     {
