@@ -2,14 +2,16 @@
 use Rattle.std.specs.Prelude.{ℕ, ◌+◌, ◌%◌, Bool, true, ◌&&◌, ◌==◌, nat_le, List, [], ◌∷◌, Option, Some, None, option_and_then, option_map, ok_or, Result, Ok}
 use Rattle.std.specs.Prelude.{Err, if◌then◌else◌, codes}
 use Rattle.toml.specs.Data.{Data, Members, get_member, as_table}
+use Rattle.dp_region.specs.declared.region.TheConstants.{CACHE_LINE, LARGEST_REGION, LEAST_REGION}
 use Rattle.dp_model.specs.declared.row.Fact.{Fact}
 use Rattle.dp_model.specs.declared.row.Fact.TheVariants.{Held}
 use Rattle.dp_model.specs.declared.env.PoolSpec.{PoolSpec}
 use Rattle.dp_model.specs.declared.env.RingSpec.{RingSpec}
 use Rattle.dp_model.specs.declared.env.PortSpec.{PortSpec}
+use Rattle.dp_lpm.specs.declared.limits.TheConstants.{MAX_GROUPS, MAX_RULES}
 use Rattle.dp_pipe.specs.declared.error.Part.{Part}
 use Rattle.dp_pipe.specs.declared.error.Part.TheVariants.{Top, Pool, Table, Ring, Port}
-use Rattle.dp_pipe.specs.declared.setup.TheConstants.{MOST_RULES, MOST_GROUPS, LARGEST_COUNT, LARGEST_SMALL, SMALLEST_REGION, LARGEST_REGION, REGION_UNIT}
+use Rattle.dp_pipe.specs.declared.setup.TheConstants.{LARGEST_COUNT, LARGEST_SMALL}
 use Rattle.dp_pipe.specs.Keys.{elements_at, elements_of, is_array_of, is_text, is_table, has_only, number_at, text_at, text_if_any}
 
 -- the file names of a node
@@ -65,7 +67,7 @@ rules_if n = if nat_le 1 n then Some n else None
 
 -- the most rules of a table of routes, at least 1
 abbrev pub rules_in : Members → Option ℕ
-rules_in table = option_and_then rules_if (number_at (codes "rules") MOST_RULES table)
+rules_in table = option_and_then rules_if (number_at (codes "rules") MAX_RULES table)
 
 -- the elements of an array of texts
 abbrev pub texts_in : Data → Option (List Data)
@@ -81,7 +83,7 @@ table_in table =
     if has_only (codes "rules" ∷ codes "groups" ∷ codes "routes" ∷ []) table then
     option_and_then (λ rules. option_and_then (λ groups. option_map (λ routes. record { rules = rules; groups = groups; routes = routes })
     (texts_at (codes "routes") table))
-    (number_at (codes "groups") MOST_GROUPS table))
+    (number_at (codes "groups") MAX_GROUPS table))
     (rules_in table)
     else None
 
@@ -155,7 +157,7 @@ port_in table =
 
 -- a number that is a multiple of the unit and not too small
 abbrev pub region_if : ℕ → Option ℕ
-region_if n = if nat_le SMALLEST_REGION n && n % REGION_UNIT == 0 then Some n else None
+region_if n = if nat_le LEAST_REGION n && n % CACHE_LINE == 0 then Some n else None
 
 -- an array of tables, or nothing at all
 abbrev pub is_tables : Option Data → Bool

@@ -20,7 +20,7 @@ use toml::Table;
 /// The configuration that a pipeline file gives.
 #[derive(Drop)]
 pub(crate) struct Config {
-    /// The size of the region in bytes: a multiple of 64 from 4,096 to 1,073,741,824.
+    /// The size of the region in bytes: a multiple of `dp_region::CACHE_LINE`, from `LEAST_REGION` to `LARGEST_REGION`.
     pub region: u32,
     /// What its programs are written for.
     pub env: Env,

@@ -6,6 +6,7 @@ ghost use Rattle.dp_pipe.specs.Devices.{AllSound, AllFared, FaredAlone, failed_r
 ghost use Rattle.dp_pipe.specs.Forwarding.{Input, ReadsTurn, DrainedAll, DrainsStopped, DrainedFirst, Advances, Along, IsRound, AreRounds};
 ghost use Rattle.dp_pipe.specs.Forwarding.{NoneIsOpen, SomeIsOpen};
 ghost use Rattle.dp_engine.specs.Engines.{EngineState};
+ghost use Rattle.dp_pcap.specs.declared.format.TheConstants.{NANOS_A_SECOND};
 ghost use Rattle.dp_pcap.specs.declared.time.Time.{Time as InSeconds};
 ghost use Rattle.dp_pcap.specs.declared.time.Unit.{Unit as TimeUnit};
 
@@ -97,7 +98,7 @@ fn drain_all<W: Sink>(engine: &mut Engine, time: Time, unit: Unit, outs: &mut [W
     requires many { length outs.old ≡ length engine.old.setting.env.ports }
     requires few { length outs.old ≤ 8 }
     requires counted { length engine.old.tallies ≡ 8 }
-    requires nano { time.nano < 1000000000 }
+    requires nano { time.nano < NANOS_A_SECOND }
     ensures ok { OnOk result (DrainedAll unit time engine.old engine.new (map W.contents outs.old) (map W.contents outs.new)) }
     ensures err { IfErr result (λ port. DrainsStopped unit time engine.old engine.new (map W.contents outs.old) (map W.contents outs.new) port) }
     ensures many_out { length outs.new ≡ length outs.old }

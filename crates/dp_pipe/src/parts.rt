@@ -10,11 +10,10 @@ ghost use Rattle.dp_pipe.specs.Views as view;
 use crate::keys::{
     elements_of, has_only, is_tables, is_texts, number_at, text_at, text_if_any, value_at,
 };
-use crate::setup::{
-    LARGEST_COUNT, LARGEST_REGION, LARGEST_SMALL, MOST_GROUPS, MOST_RULES, NodeFiles, PortPart,
-    REGION_UNIT, RingPart, SMALLEST_REGION, TablePart,
-};
+use crate::setup::{LARGEST_COUNT, LARGEST_SMALL, NodeFiles, PortPart, RingPart, TablePart};
+use dp_lpm::{MAX_GROUPS, MAX_RULES};
 use dp_model::{Fact, PoolSpec, PortSpec, RingSpec};
+use dp_region::{CACHE_LINE, LARGEST_REGION, LEAST_REGION};
 use toml::{Table, Value};
 
 /// A `[[pool]]`.
@@ -34,9 +33,9 @@ fn pool_in(table: &Table) -> Option<PoolSpec>
 /// The most rules of a table of routes, at least 1.
 fn rules_in(table: &Table) -> Option<u32>
     ensures number { result ≡ spec.rules_in (table_view table.now) }
-    ensures most { IfSome result (λ n. n ≤ MOST_RULES) }
+    ensures most { IfSome result (λ n. n ≤ MAX_RULES) }
 {
-    let rules = number_at(table, "rules", MOST_RULES)?;
+    let rules = number_at(table, "rules", MAX_RULES)?;
     if rules >= 1 { Some(rules) } else { None }
 }
 
@@ -61,7 +60,7 @@ fn table_in(table: &Table) -> Option<TablePart<'_>>
     }
     Some(TablePart {
         rules: rules_in(table)?,
-        groups: number_at(table, "groups", MOST_GROUPS)?,
+        groups: number_at(table, "groups", MAX_GROUPS)?,
         routes: texts_at(table, "routes")?,
     })
 }
@@ -170,7 +169,7 @@ pub fn region_in(top: &Table) -> Option<u32>
         return None;
     }
     let region = number_at(top, "region", LARGEST_REGION)?;
-    if region >= SMALLEST_REGION && region % REGION_UNIT == 0 {
+    if region >= LEAST_REGION && region % CACHE_LINE == 0 {
         Some(region)
     } else {
         None

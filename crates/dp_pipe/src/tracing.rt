@@ -2,6 +2,7 @@
 
 ghost use Rattle.std.specs.Prelude.{◌≡◌, ◌+◌, ◌<◌, ◌≤◌, ◌⊎◌, ◌↔◌, [], Err, length, IfOk, IfErr, IfSome, OnOk, vec_len};
 ghost use Rattle.std.specs.Vec.{vec_capacity};
+ghost use Rattle.dp_pcap.specs.declared.format.TheConstants.{NANOS_A_SECOND};
 ghost use Rattle.dp_engine.specs.Engines.{IsAscending};
 ghost use Rattle.dp_engine.specs.Needs.{bytes_needed};
 ghost use Rattle.dp_pipe.specs.Tracing.{IsOfInput, one_if_some};
@@ -46,7 +47,7 @@ impl Traced {
 // Sends what stands in the transmit lists of all ports, in port order, to nowhere.
 fn send_nowhere(engine: &mut Engine, ports: u8, time: Time)
     requires ports { ports ≡ length engine.old.setting.env.ports }
-    requires nano { time.nano < 1000000000 }
+    requires nano { time.nano < NANOS_A_SECOND }
     ensures setting { engine.new.setting ≡ engine.old.setting }
     ensures turns { engine.new.turns ≡ engine.old.turns }
 {
@@ -70,7 +71,7 @@ fn trace_next<R: Feed, T: Tracer>(
     requires limit { engine.old.turns < MOST_TURNS }
     ensures setting { engine.new.setting ≡ engine.old.setting }
     ensures turns { IfOk result (λ time. engine.new.turns ≡ engine.old.turns + one_if_some time) }
-    ensures nano { IfOk result (λ time. IfSome time (λ t. t.nano < 1000000000)) }
+    ensures nano { IfOk result (λ time. IfSome time (λ t. t.nano < NANOS_A_SECOND)) }
     ensures buf { length buf.new ≡ length buf.old }
 {
     match next_record(r, &mut input.source, buf)? {
