@@ -2,6 +2,7 @@
 
 ghost use Rattle.std.specs.Prelude.{◌≡◌, ◌<◌, ℕ, IfSome, Some, MatchOption};
 ghost use Rattle.std.specs.List.{list_all};
+ghost use Rattle.dp_model.specs.Arithmetic.{greatest};
 ghost use Rattle.dp_lang.specs.Arguments.{constant};
 ghost use Rattle.dp_lang.specs.Kinds as spec;
 ghost use Rattle.dp_lang.specs.Views.{argument, Shows};
@@ -26,7 +27,7 @@ fn register_in(letter: u8, part: &[u8]) -> Option<u8>
 fn numeral(radix: u8, digits: &[u8]) -> Option<u64>
     requires above { 1 < radix }
     requires below { radix < 37 }
-    ensures { MatchOption result ((n : ℕ) → spec.numeral radix digits.now ≡ Some n → 18446744073709551615 < n) (λ n. spec.numeral radix digits.now ≡ Some n) }
+    ensures { MatchOption result ((n : ℕ) → spec.numeral radix digits.now ≡ Some n → greatest < n) (λ n. spec.numeral radix digits.now ≡ Some n) }
 {
     if digits.is_empty() {
         return None;
@@ -43,7 +44,7 @@ fn numeral(radix: u8, digits: &[u8]) -> Option<u64>
 
 #[tactic(auto, unfolding(crate::specs::Kinds::number_in))]
 fn number_in(part: &[u8]) -> Option<u64>
-    ensures { MatchOption result ((n : ℕ) → spec.number_in part.now ≡ Some n → 18446744073709551615 < n) (λ n. spec.number_in part.now ≡ Some n) }
+    ensures { MatchOption result ((n : ℕ) → spec.number_in part.now ≡ Some n → greatest < n) (λ n. spec.number_in part.now ≡ Some n) }
 {
     match part {
         [b'0', b'x', digits @ ..] => numeral(16, digits),
