@@ -1,4 +1,4 @@
-//! The setup that a pipeline file describes, lent by the text's table, and the limits of its numbers.
+//! The setup that a pipeline file describes, lent by the text's table, and the limits of its numbers that no other crate has.
 
 ghost use Rattle.std.specs.Prelude.{◌≤◌};
 ghost use Rattle.dp_lpm.specs.declared.limits.TheConstants.{MAX_GROUPS, MAX_RULES};
