@@ -251,7 +251,8 @@ impl Machine {
 
     // Whether the node run may take a backward jump. Then it is counted.
     pub(crate) fn jump(&mut self) -> bool
-        ensures taken { IsTrue result → (self.old.state.jumps < jump_budget) × (self.new ≡ moved (with_jumps (self.old.state.jumps + 1) self.old.state) self.old) }
+        ensures taken { IsTrue result → (self.old.state.jumps < jump_budget)
+            × (self.new ≡ moved (with_jumps (self.old.state.jumps + 1) self.old.state) self.old) }
         ensures over { IsFalse result → (jump_budget ≤ self.old.state.jumps) × (self.new ≡ self.old) }
     {
         if self.jumps < 256 {

@@ -109,7 +109,8 @@ pub(crate) fn serve<W: Watch>(plan: &Plan, m: &mut Machine, watch: &mut W) -> Se
     requires rests { Rests plan.now m.old }
     requires few { m.old.state.world.calls + most_ring_runs * most_steps < 2 ^ 64 }
     requires few_cuts { m.old.state.world.cuts + most_ring_runs < 2 ^ 64 }
-    ensures serves { (answers : List Bool) × Serves plan.now.setting plan.now.nodes.rings most_ring_runs m.old.state.world answers result.runs m.new.state.world }
+    ensures serves { (answers : List Bool) × Serves plan.now.setting plan.now.nodes.rings most_ring_runs m.old.state.world
+        answers result.runs m.new.state.world }
     ensures took { Took m.old.state.world m.new.state.world result.steps result.cuts }
     ensures few_runs { result.runs ≤ most_ring_runs }
     ensures few_steps { result.steps ≤ result.runs * most_steps }

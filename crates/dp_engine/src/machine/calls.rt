@@ -107,7 +107,8 @@ impl Machine {
 
     // The second packet behind the first. Its register is empty then.
     pub(crate) fn chain(&mut self, front: PacketRegister, back: PacketRegister)
-        requires { (k : Packet) × (t : Packet) × Holds self.old.state front k × Holds self.old.state back t × (front ≢ back) × (length k + length t ≤ most_segments) }
+        requires { (k : Packet) × (t : Packet) × Holds self.old.state front k × Holds self.old.state back t × (front ≢ back)
+            × (length k + length t ≤ most_segments) }
         ensures { (k : Packet) (t : Packet) → Holds self.old.state front k → Holds self.old.state back t →
             self.new ≡ moved (without_packet back (with_packet front (k ++ t) self.old.state)) self.old }
     {
