@@ -11,7 +11,7 @@ use Rattle.dp_heap.specs.declared.elements.State.TheVariants.{Free}
 use Rattle.dp_heap.specs.Elements.{end_of, CanHold, NothingFits}
 use Rattle.dp_heap.specs.Edits.{IsIn}
 use Rattle.dp_heap.specs.Laid.{element_at, elements_in, Laid, IsLaid}
-use Rattle.dp_heap.specs.Lists.{none, class_of, Linked, times, belongs, belong, Listed, NoneHolds}
+use Rattle.dp_heap.specs.Lists.{none, class_of, Linked, times, belongs, belong, Listed, NoneHolds, NoneBelow}
 use Rattle.dp_heap.proofs.Laid.{first_offset}
 use Rattle.dp_heap.proofs.Cut.{here, e_bound}
 use Rattle.dp_heap.proofs.Undo.{free_state}
@@ -83,15 +83,16 @@ walk_begins xs heads c n a small w = (
 )
 
 -- the element that it has come to
-pub record Free_at (r : RegionView) (p : ℕ) : Type 0 where
+pub record Free_at (r : RegionView) (c p : ℕ) : Type 0 where
   pub before : List Element
   pub after : List Element
   pub split : elements_in r.bytes ≡ before ++ element_at r.bytes p ∷ after
   pub free : (element_at r.bytes p).state ≡ Free
+  pub class : class_of (element_at r.bytes p).size ≡ c
   pub bound : p + (element_at r.bytes p).size ≤ 1073741824
   pub header : Header r p
 
-pub free_at : (r : RegionView) → IsLaid r → (c p : ℕ) → 1 ≤ belong c p (elements_in r.bytes) → Free_at r p
+pub free_at : (r : RegionView) → IsLaid r → (c p : ℕ) → 1 ≤ belong c p (elements_in r.bytes) → Free_at r c p
 free_at r laid c p h =
     let m = member c p (elements_in r.bytes) h in
     let is : m.it ≡ element_at r.bytes p = (here r laid m.before m.it m.after m.split).0 ∙ ap (element_at r.bytes) m.at in
@@ -101,6 +102,7 @@ free_at r laid c p h =
       after = m.after;
       split = m.split ∙ ap (λ (x : Element). m.before ++ x ∷ m.after) is;
       free = subst (λ (x : Element). x.state ≡ Free) is (free_state m.it m.it.state refl m.free);
+      class = subst (λ (x : Element). class_of x.size ≡ c) is m.class;
       bound = subst (λ (x : Element). end_of x ≤ 1073741824) is fits;
       header = subst (Header r) m.at (header_of r laid m.before m.it m.after m.split);
     }
@@ -114,10 +116,10 @@ module _ (r : RegionView) (laid : IsLaid r) (c n a p : ℕ) (w : Walked r.bytes 
       let few = few_enough c (elements_in r.bytes) w.1 (λ q. let count = w.4 q in omega arith) in
       let bound = count_bound r.bytes (elements_in r.bytes) 0 (length r.bytes) laid.1 in omega arith
 
-  pub found_at : (p ≡ none → ⊥) → Free_at r p
+  pub found_at : (p ≡ none → ⊥) → Free_at r c p
   found_at differ = at w.1 w.3 (λ k. let count = w.4 p in omega arith)
     where
-      at : (ps : List ℕ) → Linked r.bytes w.2 p ps → (1 ≤ times p ps → 1 ≤ belong c p (elements_in r.bytes)) → Free_at r p
+      at : (ps : List ℕ) → Linked r.bytes w.2 p ps → (1 ≤ times p ps → 1 ≤ belong c p (elements_in r.bytes)) → Free_at r c p
       at [] l some = absurd (differ l)
       at (q ∷ ps) l some = let one : bit (eqb q p) ≡ 1 = ap (λ (k : ℕ). bit (eqb q k)) l.0 ∙ same_one q in free_at r laid c p (some (omega arith))
 
@@ -214,6 +216,11 @@ past_more xs n a c w lt none' =
           (λ t. w.2 d le (ltb-true d c t))
           (λ t. let over = ltb-false d c t in subst (λ (k : ℕ). NoneHolds k n a (elements_in xs)) (let same : c ≡ d = omega arith in same) none'),
     )
+
+-- an element of an even smaller list is too small
+pub past_below : (xs : List ℕ) (n a c : ℕ) → Past xs n a c → NoneBelow c n a (elements_in xs)
+past_below xs n a c w b less e in_it is d can =
+    let lo = can.2 in let hi = can.3 in let up = class_up (n + 64) e.size (omega arith) in w.2 b (omega arith) less e in_it is d can
 
 pub past_all : (xs : List ℕ) (n a c : ℕ) → Past xs n a c → 5 ≤ c → NothingFits n a (elements_in xs)
 past_all xs n a c w over = nothing_fits n a (elements_in xs) (λ e in_it d can.

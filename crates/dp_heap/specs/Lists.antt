@@ -58,3 +58,7 @@ Outside low high xs ys = (q : ℕ) → q + 4 ≤ length xs → (q + 4 ≤ low) �
 -- no element of the list c has an offset for a block of n bytes, aligned to a
 abbrev pub NoneHolds : ℕ → ℕ → ℕ → List Element → Type 0
 NoneHolds c n a es = (e : Element) → IsIn e es → class_of e.size ≡ c → (d : ℕ) → ¬ CanHold e n a d
+
+-- and none of a list of smaller ones has
+abbrev pub NoneBelow : ℕ → ℕ → ℕ → List Element → Type 0
+NoneBelow c n a es = (b : ℕ) → b < c → NoneHolds b n a es

@@ -4,7 +4,7 @@ ghost use Rattle.dp_region.specs.Region.{IsFree, cache_line, largest_region, num
 ghost use Rattle.dp_heap.specs.Elements.{header_len, CanHold, NothingFits, IsHighest};
 ghost use Rattle.dp_heap.specs.Edits.{IsIn};
 ghost use Rattle.dp_heap.specs.Laid.{element_at, elements_in, IsLaid};
-ghost use Rattle.dp_heap.specs.Lists.{none, class_of, with_link, belong, Listed, NoneHolds};
+ghost use Rattle.dp_heap.specs.Lists.{none, class_of, with_link, belong, Listed, NoneHolds, NoneBelow};
 ghost use Rattle.dp_heap.specs.declared.elements.Element.{Element as Item};
 
 use crate::elements::{Element, HEADER_LEN, State};
@@ -73,12 +73,12 @@ impl Lists {
         }
     }
 
-    // A free element that can hold a block, of the first list on that has one, and the highest offset in it.
+    // A free element that can hold a block, of the first list that has one, and the highest offset in it.
     pub(crate) fn find(&self, region: &Region, len: u64, align: u64) -> Option<(Element, u32)>
         requires laid { IsLaid region.now × Listed region.now.bytes self.now.heads (elements_in region.now.bytes) [] }
         requires align { (cache_line ≤ align) × (align < 2 ^ 32) × (len < 2 ^ 33) }
         ensures { MatchOption result (NothingFits len align (elements_in region.now.bytes)) (λ f. IsIn f.0 (elements_in region.now.bytes)
-            × (f.0.state ≡ State.Free) × IsHighest f.0 len align f.1) }
+            × (f.0.state ≡ State.Free) × IsHighest f.0 len align f.1 × NoneBelow (class_of f.0.size) len align (elements_in region.now.bytes)) }
     {
         let mut class = class_of(len + u64::from(HEADER_LEN));
         while class < 5 {
@@ -102,7 +102,7 @@ impl Lists {
         requires align { (cache_line ≤ align) × (align < 2 ^ 32) × (len < 2 ^ 33) }
         requires class { class < 5 }
         ensures { MatchOption result (NoneHolds class len align (elements_in region.now.bytes)) (λ f. IsIn f.0 (elements_in region.now.bytes)
-            × (f.0.state ≡ State.Free) × IsHighest f.0 len align f.1) }
+            × (f.0.state ≡ State.Free) × IsHighest f.0 len align f.1 × (class_of f.0.size ≡ class)) }
     {
         let mut offset = self.heads[class];
         while offset != NONE {

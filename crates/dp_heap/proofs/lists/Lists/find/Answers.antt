@@ -1,5 +1,6 @@
 -- A list is passed where none of its elements can hold the block.
-use Rattle.dp_heap.proofs.Walk.{past_begins, past_more, past_all}
+use Rattle.std.proofs.Common.{ℕ, ◌<◌, subst}
+use Rattle.dp_heap.proofs.Walk.{past_begins, past_more, past_below, past_all}
 use Rattle.dp_heap.proofs.lists.Lists.find.Goals as goal
 
 pub loop-class-init : goal.loop-class-init
@@ -8,6 +9,12 @@ loop-class-init c = rw (c.class_of-class.ensures, c.from.ensures) (past_begins c
 pub loop-class-preserved : goal.loop-class-preserved
 loop-class-preserved c = past_more c.args.region.now.bytes c.args.len c.args.align c.loop-class.class c.loop-class.invariant c.loop-class-test.true
     c.in_default.ensures
+
+pub returns-in-Some : goal.returns-in-Some
+returns-in-Some c =
+    let f = c.in-Some.ensures in
+    let below = past_below c.args.region.now.bytes c.args.len c.args.align c.loop-class.class c.loop-class.invariant in
+    (f.0, f.1, f.2, λ b less. below b (subst (λ (k : ℕ). b < k) f.3 less))
 
 pub returns : goal.returns
 returns c = past_all c.args.region.now.bytes c.args.len c.args.align c.loop-class.class c.loop-class.invariant c.loop-class-test.false

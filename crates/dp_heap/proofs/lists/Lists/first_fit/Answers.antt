@@ -3,6 +3,7 @@ use Rattle.std.proofs.Common.{◌≡◌, ℕ, ◌∷◌, ◌++◌, sym, ap, subs
 use Rattle.dp_heap.specs.declared.elements.Element.{Element as Item}
 use Rattle.dp_heap.specs.declared.elements.State.TheVariants.{Free}
 use Rattle.dp_heap.specs.Elements.{CanHold}
+use Rattle.dp_heap.specs.Lists.{class_of}
 use Rattle.dp_heap.proofs.Walk.{walk_begins, found_at, onward, smaller, walk_ended}
 use Rattle.dp_heap.proofs.lists.Lists.first_fit.Goals as goal
 
@@ -28,6 +29,7 @@ returns-in-Some c =
       (f.before, f.after, f.split ∙ ap (λ (x : Item). f.before ++ x ∷ f.after) (sym c.read_header-e.ensures)),
       subst (λ (x : Item). x.state ≡ Free) (sym c.read_header-e.ensures) f.free,
       c.in-Some.ensures,
+      ap (λ (x : Item). class_of x.size) c.read_header-e.ensures ∙ f.class,
     )
 
 pub overflow_add-offset : goal.overflow_add-offset
