@@ -7,7 +7,7 @@ use Rattle.dp_lpm.specs.declared.limits.TheConstants.{FIRST_BITS, GROUP_ENTRIES,
 use Rattle.dp_lpm.specs.declared.ruled_table.RuledTable.{RuledTable}
 use Rattle.dp_lpm.specs.Routes.{RouteTable, deepest_within, is_deep_in, groups_needed, IsRoute, Puts, Drops, prefix_of}
 use Rattle.dp_lpm.specs.Rules.{routes_of, entry_of, IsOrdered}
-use Rattle.dp_lpm.specs.Tables.{IsTable, group_at, entry_for}
+use Rattle.dp_lpm.specs.Tables.{IsTable, IsNoTable, group_at, entry_for}
 
 abbrev pub one_if : Bool → ℕ
 one_if b = if b then 1 else 0
@@ -21,6 +21,10 @@ deep_count (route ∷ routes) first = one_if (is_deep_in first route) + deep_cou
 abbrev pub used_count : List ℕ → ℕ
 used_count [] = 0
 used_count (count ∷ counts) = one_if (nat_lt 0 count) + used_count counts
+
+-- no rules and no entries, and no memory for any
+abbrev pub KeepsNothing : RuledTable → Type 0
+KeepsNothing s = (vec_capacity s.rules ≡ 0) × IsNoTable s.table × (s.max_rules ≡ 0)
 
 abbrev pub routes_in : RuledTable → List Route
 routes_in s = routes_of s.rules.items

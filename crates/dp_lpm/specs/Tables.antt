@@ -1,6 +1,6 @@
 -- Internal: tables of entries, and what is done to them.
 use Rattle.std.specs.Prelude.{◌≡◌, ◌≢◌, ℕ, ◌+◌, ◌-◌, ◌*◌, ◌/◌, ◌%◌, ◌^◌, ◌<◌, ◌≤◌, ◌==◌, ◌⊎◌, length, replicate, position, Option, Some, None, slice_index}
-use Rattle.std.specs.Prelude.{slice_set}
+use Rattle.std.specs.Prelude.{slice_set, vec_capacity}
 use Rattle.std.specs.Option.{option_map_or}
 use Rattle.dp_lpm.specs.declared.limits.TheConstants.{ADDRESSES, FIRST_ENTRIES, GROUP_ENTRIES, MAX_DEPTH, MAX_GROUPS}
 use Rattle.dp_lpm.specs.declared.cell.Entry.{Entry}
@@ -30,6 +30,10 @@ pub record IsTable (t : Table) : Type 0 where
   pub used : (i g : ℕ) → group_at t i ≡ Some g → 1 ≤ slice_index t.counts.items g
   pub apart : (i j g : ℕ) → group_at t i ≡ Some g → group_at t j ≡ Some g → i ≡ j
   pub leaves : (k : ℕ) → group_in (at t.cells.items k) ≡ None
+
+-- what stands where no table is: no entries, and no memory
+abbrev pub IsNoTable : Table → Type 0
+IsNoTable t = (vec_capacity t.first ≡ 0) × (vec_capacity t.cells ≡ 0) × (vec_capacity t.counts ≡ 0)
 
 -- where the addresses of a prefix begin
 abbrev pub start_of : ℕ → ℕ → ℕ

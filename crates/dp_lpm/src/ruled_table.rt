@@ -21,7 +21,11 @@ pub struct RuledTable {
 }
 
 impl MadeWith<Global> for RuledTable {
-    // What stands for a table in a free place: no rules, and no entries.
+    ghost use Rattle.dp_lpm.specs.Kept.{KeepsNothing};
+
+    ghost is_made_with = { KeepsNothing };
+
+    // What stands for a table in a free place: no rules, no entries, and no memory.
     fn made_with(alloc: Global) -> RuledTable {
         RuledTable {
             rules: Vec::new(alloc),

@@ -18,7 +18,11 @@ pub struct Table {
 }
 
 impl MadeWith<Global> for Table {
-    // What stands for a table in a free place: no entries.
+    ghost use Rattle.dp_lpm.specs.Tables.{IsNoTable};
+
+    ghost is_made_with = { IsNoTable };
+
+    // What stands for a table in a free place: no entries, and no memory.
     fn made_with(alloc: Global) -> Table {
         Table {
             first: Vec::new(alloc),
