@@ -18,7 +18,7 @@ use Rattle.dp_model.specs.Rules.{Question, row_passes, holds, holds_at, uses, in
 use Rattle.dp_cert.specs.Spelling.{Certificate, certificate_of}
 use Rattle.dp_check.specs.Faults.{question, IsRefusedWith}
 use Rattle.dp_infer.specs.Joins.{joined, dead_row, begun, found_rows}
-use Rattle.dp_infer.specs.Inference.{Certifies, HasNone, SaysMost, IsWithout}
+use Rattle.dp_infer.specs.Inference.{Certifies, HasNone, SaysMost, IsWithout, IsNotEnough, AreLast}
 use Rattle.dp_infer.specs.declared.inferring.InferError.{InferError}
 use Rattle.dp_infer.proofs.Stronger.{both_are}
 use Rattle.dp_infer.proofs.Changes.{AreWellFormed}
@@ -177,6 +177,22 @@ one_or_other None P Q none some = inl none
 pub none_refused : (program : List Instr) (env : Environment) (entry : Entry) (cert : Certificate) (label number : ℕ) → 1 ≤ length program →
     cert ≡ certificate_of (found_rows program env entry) → IsRefusedWith (question program cert env entry) label number → HasNone program env entry
 none_refused program env entry cert label number some e (rule, same, refused) = none_of program env entry cert label rule some e refused
+
+-- where the rows of the first pass are refused, they are not enough
+pub not_enough : (program : List Instr) (env : Environment) (entry : Entry) (cert : Certificate) (label number : ℕ)
+    → cert ≡ certificate_of (found_rows program env entry) → IsRefusedWith (question program cert env entry) label number → IsNotEnough program env entry
+not_enough program env entry cert label number e (rule, same, refused) accepted =
+    let so : IsRefused (question program (certificate_of (found_rows program env entry)) env entry) label rule =
+    subst (λ (found : Certificate). IsRefused (question program found env entry) label rule) e refused in
+    cc (so.0, accepted label)
+
+-- where they are accepted, they are the last
+pub enough : (program : List Instr) (env : Environment) (entry : Entry) (cert : Certificate) (q : Question)
+    → cert ≡ certificate_of (found_rows program env entry) → q ≡ question program cert env entry → IsAccepted q → AreLast program env entry q.rows
+enough program env entry cert q e is accepted =
+    let same : q ≡ question program (certificate_of (found_rows program env entry)) env entry =
+    is ∙ ap (λ (found : Certificate). question program found env entry) e in
+    inl (subst (λ (x : Question). IsAccepted x) same accepted, ap (λ (x : Question). x.rows) same)
 
 -- what is owed of another name of the program is owed of the program
 pub without_back : (program back : List Instr) (env : Environment) (entry : Entry) (result : Result Question InferError) → back ≡ program →

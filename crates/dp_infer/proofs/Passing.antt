@@ -21,7 +21,7 @@ pub stays_well_formed : (label : ℕ) (rows rows' : List Row) (leads : List Lead
     IsTrue (list_all is_well_formed_row rows) → IsTrue (list_all is_well_formed_row rows')
 stays_well_formed label rows rows' leads e h = rw e (passed_well_formed label rows leads h)
 
-next : (program : List Instr) (label : ℕ) (i : Instr) → slice_get program label ≡ Some i → drop label program ≡ i ∷ drop (suc label) program
+pub next : (program : List Instr) (label : ℕ) (i : Instr) → slice_get program label ≡ Some i → drop label program ≡ i ∷ drop (suc label) program
 next [] label i e = absurd cc
 next (j ∷ program) zero i e = cc
 next (j ∷ program) (suc label) i e = next program label i e

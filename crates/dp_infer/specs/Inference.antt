@@ -10,6 +10,8 @@ use Rattle.dp_model.specs.Rows.{entails, is_well_formed_row}
 use Rattle.dp_model.specs.Rules.{IsAccepted, row_passes}
 use Rattle.dp_cert.specs.Spelling.{certificate_of}
 use Rattle.dp_check.specs.Faults.{question, IsRefusedWith}
+use Rattle.dp_infer.specs.Joins.{found_rows}
+use Rattle.dp_infer.specs.Settling.{settled}
 use Rattle.dp_infer.specs.declared.inferring.InferError.{InferError}
 use Rattle.dp_infer.specs.declared.inferring.InferError.TheVariants.{Memory, NoCert}
 
@@ -43,6 +45,25 @@ pub record IsNotInferred (program : List Instr) (env : Environment) (entry : Ent
   pub none : HasNone program env entry
   pub rows : List Row
   pub tried : AreRefused program env entry rows label rule
+
+-- the program is accepted with the rows of the first pass, or it is not
+abbrev pub IsEnough : List Instr → Environment → Entry → Type 0
+IsEnough program env entry = IsAccepted (question program (certificate_of (found_rows program env entry)) env entry)
+
+abbrev pub IsNotEnough : List Instr → Environment → Entry → Type 0
+IsNotEnough program env entry = ¬ IsEnough program env entry
+
+-- the rows with which inference ends: those of the first pass, where the program is accepted with them, else those to which they settle
+abbrev pub AreLast : List Instr → Environment → Entry → List Row → Type 0
+AreLast program env entry rows =
+    (IsEnough program env entry × (rows ≡ found_rows program env entry))
+    ⊎ (IsNotEnough program env entry × (rows ≡ settled program env (found_rows program env entry)))
+
+-- the program is refused at the label by the rule of this number, with the rows with which inference ends
+abbrev pub IsOfLast : List Instr → Environment → Entry → InferError → Type 0
+IsOfLast program env entry Memory = Unit {0}
+IsOfLast program env entry (NoCert label rule) =
+    (rows : List Row) × AreLast program env entry rows × IsRefusedWith (question program (certificate_of rows) env entry) label rule
 
 -- why there is no certificate: memory, or that none is found
 abbrev pub IsWithout : List Instr → Environment → Entry → InferError → Type 0

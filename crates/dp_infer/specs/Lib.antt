@@ -1,3 +1,4 @@
 pub mod Joins
+pub mod Settling
 pub mod Inference
 pub mod Laws

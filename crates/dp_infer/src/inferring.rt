@@ -8,7 +8,8 @@ ghost use Rattle.dp_lang.specs.declared.program.TheConstants.{MOST_INSTRS};
 ghost use Rattle.dp_cert.specs.Spelling.{version_for, certificate_of};
 ghost use Rattle.dp_check.specs.Faults.{question, IsChecked};
 ghost use Rattle.dp_infer.specs.Joins as spec;
-ghost use Rattle.dp_infer.specs.Inference.{Certifies, HasNone, SaysMost, AreRefused, AreTried, IsWithout};
+ghost use Rattle.dp_infer.specs.Settling.{settled};
+ghost use Rattle.dp_infer.specs.Inference.{Certifies, HasNone, SaysMost, AreRefused, AreTried, IsWithout, IsNotEnough, AreLast, IsOfLast};
 
 use crate::join::{joined, pass_on};
 use crate::settling::settle;
@@ -131,6 +132,7 @@ fn settled_rows(
     ensures long { IfOk result (λ cert. length cert.rows ≡ length program.now) }
     ensures well_formed { IfOk result (λ cert. IsTrue (list_all is_well_formed_row cert.rows)) }
     ensures is { IfOk result (λ cert. cert ≡ certificate_of cert.rows) }
+    ensures settled { IfOk result (λ cert. cert.rows ≡ settled program.now env.now (spec.found_rows program.now env.now entry)) }
 {
     let mut rows = found_rows(alloc, program.instrs(), env, entry)?;
     settle(&mut rows, program.instrs(), env);
@@ -150,6 +152,7 @@ fn last_tried(
     ensures version { IfOk result (λ b. b.0.version ≡ version_for b.0.rows) }
     ensures none { IfOk result (λ b. IfSome b.1 (λ f. HasNone program.now env.now entry)) }
     ensures refused { IfOk result (λ b. IfSome b.1 (λ f. AreRefused program.now env.now entry b.0.rows f.0 (number_of f.1))) }
+    ensures last { IfOk result (λ b. AreLast program.now env.now entry b.0.rows) }
 {
     let cert = found(alloc, program, env, entry)?;
     match fault_of(program, &cert, env, entry) {
@@ -179,6 +182,9 @@ pub fn infer(alloc: Global, program: &Program, env: &Env, entry: Entry) -> Resul
     // Unless memory ran out, there is none for a forward program where none is answered, and the program was refused at that
     // label by that rule with a certificate that was tried.
     ensures none { IfErr result (λ e. IsWithout program.now env.now entry e) }
+    // Its rows are those with which inference ends, and so are those with which the program was refused.
+    ensures last { IfOk result (λ cert. AreLast program.now env.now entry cert.rows) }
+    ensures of_last { IfErr result (λ e. IsOfLast program.now env.now entry e) }
 {
     let (cert, fault) = last_tried(alloc, program, env, entry)?;
     match fault {
@@ -198,9 +204,12 @@ fn settled_checked(
     entry: Entry,
 ) -> Result<Checked, InferError>
     requires none { HasNone program env.now entry }
+    requires more { IsNotEnough program env.now entry }
     ensures same { IfOk result (λ q. q ≡ question program (certificate_of q.rows) env.now entry) }
     ensures checked { IfOk result (λ q. IsChecked q) }
     ensures none { IfErr result (λ e. IsWithout program env.now entry e) }
+    ensures last { IfOk result (λ q. AreLast program env.now entry q.rows) }
+    ensures of_last { IfErr result (λ e. IsOfLast program env.now entry e) }
 {
     let cert = settled_rows(alloc, &program, env, entry)?;
     match check(program, cert, env, entry) {
@@ -231,6 +240,9 @@ pub fn infer_checked(
     // Unless memory ran out, there is none for a forward program where none is found, and the program was refused at that
     // label by that rule with a certificate that was tried.
     ensures none { IfErr result (λ e. IsWithout program env.now entry e) }
+    // Its rows are those with which inference ends, and so are those with which the program was refused.
+    ensures last { IfOk result (λ q. AreLast program env.now entry q.rows) }
+    ensures of_last { IfErr result (λ e. IsOfLast program env.now entry e) }
 {
     let cert = found(alloc, &program, env, entry)?;
     match check(program, cert, env, entry) {
@@ -261,6 +273,8 @@ pub fn attempt(
     ensures most { IfOk result (λ cert. SaysMost program.now env.now entry cert.rows) }
     // It has version 1 exactly where no row has a group.
     ensures version { IfOk result (λ cert. cert.version ≡ version_for cert.rows) }
+    // Its rows are those with which inference ends.
+    ensures last { IfOk result (λ cert. AreLast program.now env.now entry cert.rows) }
 {
     let (cert, _) = last_tried(alloc, program, env, entry)?;
     Ok(cert)

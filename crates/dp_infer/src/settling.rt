@@ -1,11 +1,16 @@
 //! Rows of programs that come back to labels. They are weakened until they stay, or for as many passes as are made at most; each
-//! step goes to a constant of the program, and after many passes at once to what says nothing. This is a heuristic: nothing is
-//! proved but that rows stay as many and well formed. Whether they serve is for the checker to say.
+//! step goes to a constant of the program, and after many passes at once to what says nothing. This is a heuristic: which rows that
+//! gives is exact, but not that they serve. Whether they do is for the checker to say.
 
-ghost use Rattle.std.specs.Prelude.{◌≡◌, ◌<◌, ◌≤◌, length, IsTrue};
+ghost use Rattle.std.specs.Prelude.{◌≡◌, ◌<◌, ◌≤◌, not, length, IsTrue, slice_get, Some};
+ghost use Rattle.dp_model.specs.Arithmetic.{greatest};
+ghost use Rattle.dp_model.specs.declared.instr.Instr.{Instr as AnyInstr};
 ghost use Rattle.std.specs.List.{list_all};
 ghost use Rattle.dp_model.specs.Rows.{is_well_formed_row};
 ghost use Rattle.dp_lang.specs.declared.program.TheConstants.{MOST_INSTRS};
+ghost use Rattle.dp_check.specs.Leads.{listed};
+ghost use Rattle.dp_infer.specs.Joins.{paired};
+ghost use Rattle.dp_infer.specs.Settling as spec;
 
 use crate::join::{joined, met};
 use dp_check::{Leads, leads_of};
@@ -18,7 +23,9 @@ const SLOW_PASSES: u32 = 64;
 const MOST_PASSES: u32 = 4096;
 
 /// A bound with which an instruction goes on, or 0.
-fn bound_in(instr: &Instr) -> u64 {
+fn bound_in(instr: &Instr) -> u64
+    ensures { result ≡ spec.bound_in instr.now }
+{
     match *instr {
         Instr::Set { value, .. } => value,
         Instr::Jlt { right, .. } => right.saturating_sub(1),
@@ -35,7 +42,9 @@ fn bound_in(instr: &Instr) -> u64 {
 }
 
 /// A number of bytes that an instruction asks for, or 0.
-fn count_in(instr: &Instr) -> u16 {
+fn count_in(instr: &Instr) -> u16
+    ensures { result ≡ spec.count_in instr.now }
+{
     match *instr {
         Instr::Prepend { count, .. } => count,
         Instr::Adj { count, .. } => count,
@@ -50,7 +59,9 @@ fn count_in(instr: &Instr) -> u16 {
 }
 
 /// The least bound of the program that is at least so much, or the greatest number.
-fn bound_above(program: &[Instr], least: u64) -> u64 {
+fn bound_above(program: &[Instr], least: u64) -> u64
+    ensures { result ≡ spec.bound_from least greatest program.now }
+{
     let mut above = u64::MAX;
     for instr in program {
         let bound = bound_in(instr);
@@ -62,7 +73,9 @@ fn bound_above(program: &[Instr], least: u64) -> u64 {
 }
 
 /// The greatest count of the program that is at most so much, or 0.
-fn count_below(program: &[Instr], most: u16) -> u16 {
+fn count_below(program: &[Instr], most: u16) -> u16
+    ensures { result ≡ spec.count_from most 0 program.now }
+{
     let mut below = 0u16;
     for instr in program {
         let count = count_in(instr);
@@ -74,7 +87,9 @@ fn count_below(program: &[Instr], most: u16) -> u16 {
 }
 
 /// A bound that may have grown, and what it goes to.
-fn raised(program: &[Instr], before: u64, now: u64, slow: bool) -> u64 {
+fn raised(program: &[Instr], before: u64, now: u64, slow: bool) -> u64
+    ensures { result ≡ spec.raised program.now slow before now }
+{
     if now <= before {
         now
     } else if slow {
@@ -85,7 +100,9 @@ fn raised(program: &[Instr], before: u64, now: u64, slow: bool) -> u64 {
 }
 
 /// A least number that may have become less, and what it goes to.
-fn lowered(program: &[Instr], before: u16, now: u16, slow: bool) -> u16 {
+fn lowered(program: &[Instr], before: u16, now: u16, slow: bool) -> u16
+    ensures { result ≡ spec.lowered program.now slow before now }
+{
     if before <= now {
         now
     } else if slow {
@@ -96,7 +113,9 @@ fn lowered(program: &[Instr], before: u16, now: u16, slow: bool) -> u16 {
 }
 
 /// What is left of a fact that may say less than before.
-fn lowered_fact(program: &[Instr], before: Fact, now: Fact, slow: bool) -> Fact {
+fn lowered_fact(program: &[Instr], before: Fact, now: Fact, slow: bool) -> Fact
+    ensures { result ≡ spec.lowered_fact program.now slow before now }
+{
     match before.holding() {
         None => now,
         Some(was) => match now.holding() {
@@ -117,20 +136,44 @@ fn lowered_fact(program: &[Instr], before: Fact, now: Fact, slow: bool) -> Fact 
     }
 }
 
-/// What is left of a row that may say less than before.
-fn lowered_row(program: &[Instr], before: &Row, now: &Row, slow: bool) -> Row {
-    let mut row = *now;
+/// What is left of facts that may say less than before, register by register.
+fn lowered_facts(program: &[Instr], before: &[Fact; 8], now: &[Fact; 8], slow: bool) -> [Fact; 8]
+    ensures { result ≡ paired (spec.lowered_fact program.now slow) before.now now.now }
+{
+    let mut lowered = [Fact::Empty; 8];
     for i in 0..8 {
-        row.facts[i] = lowered_fact(program, before.facts[i], now.facts[i], slow);
-        row.bounds[i] = raised(program, before.bounds[i], now.bounds[i], slow);
+        lowered[i] = lowered_fact(program, before[i], now[i], slow);
     }
-    row
+    lowered
+}
+
+/// Bounds that may have grown, and what they go to, register by register.
+fn raised_bounds(program: &[Instr], before: &[u64; 8], now: &[u64; 8], slow: bool) -> [u64; 8]
+    ensures { result ≡ paired (spec.raised program.now slow) before.now now.now }
+{
+    let mut greater = [0u64; 8];
+    for i in 0..8 {
+        greater[i] = raised(program, before[i], now[i], slow);
+    }
+    greater
+}
+
+/// What is left of a row that may say less than before.
+fn lowered_row(program: &[Instr], before: &Row, now: &Row, slow: bool) -> Row
+    ensures { result ≡ spec.lowered_row program.now slow before.now now.now }
+{
+    Row {
+        live: now.live,
+        facts: lowered_facts(program, &before.facts, &now.facts, slow),
+        bounds: raised_bounds(program, &before.bounds, &now.bounds, slow),
+    }
 }
 
 /// What is known where control comes back with the second row.
 #[tactic(auto, using(crate::proofs::JoinLaws::joined_well_formed, crate::proofs::JoinLaws::met_well_formed))]
 fn weakened(program: &[Instr], there: &Row, row: &Row, slow: bool) -> Row
-    ensures { IsTrue (is_well_formed_row result) }
+    ensures is { result ≡ spec.weakened program.now slow there.now row.now }
+    ensures well_formed { IsTrue (is_well_formed_row result) }
 {
     let common = met(there, row);
     if there.live {
@@ -143,7 +186,8 @@ fn weakened(program: &[Instr], there: &Row, row: &Row, slow: bool) -> Row
 /// What is known where control comes with the second row, to the same label, an earlier or a later one.
 #[tactic(auto, using(crate::proofs::JoinLaws::met_well_formed))]
 fn known_after(program: &[Instr], there: &Row, row: &Row, back: bool, slow: bool) -> Row
-    ensures { IsTrue (is_well_formed_row result) }
+    ensures is { result ≡ spec.known_after program.now back slow there.now row.now }
+    ensures well_formed { IsTrue (is_well_formed_row result) }
 {
     if back {
         weakened(program, there, row, slow)
@@ -152,10 +196,19 @@ fn known_after(program: &[Instr], there: &Row, row: &Row, back: bool, slow: bool
     }
 }
 
+/// Whether two rows do not say the same.
+fn differ(row: &Row, other: &Row) -> bool
+    ensures { result ≡ not (spec.same_row row.now other.now) }
+{
+    *row != *other
+}
+
 /// Joins a row into that of the label where it leads; whether that changed.
 #[tactic(auto, using(crate::proofs::RowLists::all_set))]
 fn reach_again(rows: &mut [Row], program: &[Instr], label: u16, lead: &Lead, slow: bool) -> bool
     requires well_formed { IsTrue (list_all is_well_formed_row rows.old) }
+    ensures rows { rows.new ≡ (spec.reached_again program.now label slow lead.now rows.old).rows }
+    ensures changed { result ≡ (spec.reached_again program.now label slow lead.now rows.old).changed }
     ensures well_formed { IsTrue (list_all is_well_formed_row rows.new) }
     ensures long { length rows.new ≡ length rows.old }
 {
@@ -166,7 +219,7 @@ fn reach_again(rows: &mut [Row], program: &[Instr], label: u16, lead: &Lead, slo
     let there = rows[to];
     let row = known_after(program, &there, &lead.row, lead.to <= label, slow);
     rows[to] = row;
-    row != there
+    differ(&row, &there)
 }
 
 /// Passes control on from a label; whether a row changed.
@@ -175,6 +228,10 @@ fn pass_again(rows: &mut [Row], program: &[Instr], env: &Env, label: u16, slow: 
     requires same_length { length rows.old ≡ length program.now }
     requires at_most { length program.now ≤ MOST_INSTRS }
     requires well_formed { IsTrue (list_all is_well_formed_row rows.old) }
+    ensures rows { (i : AnyInstr) → slice_get program.now label ≡ Some i →
+        rows.new ≡ (spec.passed_again program.now env.now slow label i rows.old).rows }
+    ensures changed { (i : AnyInstr) → slice_get program.now label ≡ Some i →
+        result ≡ (spec.passed_again program.now env.now slow label i rows.old).changed }
     ensures well_formed { IsTrue (list_all is_well_formed_row rows.new) }
     ensures long { length rows.new ≡ length rows.old }
 {
@@ -199,24 +256,26 @@ fn spread_again(rows: &mut [Row], program: &[Instr], env: &Env, slow: bool) -> b
     requires same_length { length rows.old ≡ length program.now }
     requires at_most { length program.now ≤ MOST_INSTRS }
     requires well_formed { IsTrue (list_all is_well_formed_row rows.old) }
+    ensures rows { rows.new ≡ (spec.weakened_once program.now env.now slow rows.old).rows }
+    ensures changed { result ≡ (spec.weakened_once program.now env.now slow rows.old).changed }
     ensures well_formed { IsTrue (list_all is_well_formed_row rows.new) }
     ensures long { length rows.new ≡ length rows.old }
 {
     let mut changed = false;
     for label in 0..program.len() as u16 {
-        if pass_again(rows, program, env, label, slow) {
-            changed = true;
-        }
+        let again = pass_again(rows, program, env, label, slow);
+        changed |= again;
     }
     changed
 }
 
 /// Weakens rows, pass by pass, until a pass changes none of them, or [`MOST_PASSES`] passes are made. It is not promised that
-/// they serve then, nor that a pass would change none of them.
+/// they serve then.
 pub(crate) fn settle(rows: &mut [Row], program: &[Instr], env: &Env)
     requires same_length { length rows.old ≡ length program.now }
     requires at_most { length program.now ≤ MOST_INSTRS }
     requires well_formed { IsTrue (list_all is_well_formed_row rows.old) }
+    ensures settled { rows.new ≡ spec.settled program.now env.now rows.old }
     ensures long { length rows.new ≡ length rows.old }
     ensures well_formed { IsTrue (list_all is_well_formed_row rows.new) }
 {
