@@ -20,6 +20,7 @@ pub record FillsWhole {R : Type 0} (remaining : R → Option (List ℕ)) (is_bro
   pub untouched : length before ≡ 0 → new ≡ old
   pub stays : IsTrue (is_broken old) → IsTrue (is_broken new)
   pub counted : calls new ≤ calls old + length before
+  pub ends : IfOk answer (λ n. calls new ≤ calls old + n + 1)
   pub failures : MatchResult answer (λ _. failed_calls new ≡ failed_calls old) (λ _. failed_calls new ≡ failed_calls old + 1)
 
 -- A piece was offered to a writer, which was `old` and is `new`, until it was taken whole or the writer failed.

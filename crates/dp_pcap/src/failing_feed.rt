@@ -43,7 +43,7 @@ impl<F: Feed> FailingFeed<F> {
 }
 
 impl<F: Feed> Feed for FailingFeed<F> {
-    ghost use Rattle.std.specs.Prelude.{◌≡◌, ◌+◌, ◌≤◌, ◌↔◌, ◌⊎◌, [], take, length, IfOk, IsErr, IsTrue, OnErr, MatchResult};
+    ghost use Rattle.std.specs.Prelude.{◌≡◌, ◌+◌, ◌<◌, ◌≤◌, ◌↔◌, ◌⊎◌, false, [], take, length, IfOk, IsErr, IsTrue, OnErr, MatchResult};
     ghost use Rattle.std.specs.Option.{option_map};
     ghost use Rattle.std.specs.Io.KnownBytes.{ReadConsumes};
     ghost use Rattle.dp_pcap.specs.Failing.{feed_inside, bytes_to_give, feed_health};
@@ -65,7 +65,8 @@ impl<F: Feed> Feed for FailingFeed<F> {
 
     fn pass(&mut self, _n: usize) {}
 
-    /// Fails exactly where it was broken, where no byte may come any more, or where the feed inside is broken.
+    /// Fails exactly where it was broken, where no byte may come any more, or where the feed inside is broken. In the first two cases it
+    /// does not call the feed inside, else once.
     fn pull(&mut self, buf: &mut [u8]) -> Result<usize, Failed>
         ensures bound { IfOk result (λ n. n ≤ length buf.new) }
         ensures bytes { ReadConsumes (option_map (take (bytes_to_give self.old)) (F.remaining (feed_inside self.old)))
@@ -78,6 +79,10 @@ impl<F: Feed> Feed for FailingFeed<F> {
             (λ _. (feed_health self.new).failures ≡ (feed_health self.old).failures)
             (λ _. (feed_health self.new).failures ≡ (feed_health self.old).failures + 1) }
         ensures left { IfOk result (λ n. bytes_to_give self.new + n ≡ bytes_to_give self.old) }
+        ensures left_same { OnErr result (bytes_to_give self.new ≡ bytes_to_give self.old) }
+        ensures untouched { (IsTrue (feed_health self.old).is_broken ⊎ (bytes_to_give self.old ≡ 0)) → feed_inside self.new ≡ feed_inside self.old }
+        ensures once { (feed_health self.old).is_broken ≡ false → 0 < bytes_to_give self.old →
+            F.calls (feed_inside self.new) ≡ F.calls (feed_inside self.old) + 1 }
         ensures cause { OnErr result (IsTrue (feed_health self.old).is_broken
             ⊎ (bytes_to_give self.old ≡ 0) ⊎ IsTrue (F.is_broken (feed_inside self.new))) }
         ensures certain { (IsTrue (feed_health self.old).is_broken

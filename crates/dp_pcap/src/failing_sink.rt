@@ -54,7 +54,7 @@ impl<S: Sink> FailingSink<S> {
 }
 
 impl<S: Sink> Sink for FailingSink<S> {
-    ghost use Rattle.std.specs.Prelude.{◌≡◌, ◌+◌, ◌<◌, ◌≤◌, ◌↔◌, ◌⊎◌, [], ◌∷◌, ◌++◌, length, IfOk, IsErr, IsTrue, OnErr, MatchResult};
+    ghost use Rattle.std.specs.Prelude.{◌≡◌, ◌+◌, ◌<◌, ◌≤◌, ◌↔◌, ◌⊎◌, false, [], ◌∷◌, ◌++◌, length, min, take, IfOk, IsErr, IsTrue, OnErr, MatchResult};
     ghost use Rattle.std.specs.Io.KnownBytes.{WriteAppends};
     ghost use Rattle.dp_pcap.specs.Failing.{sink_inside, bytes_a_call, bytes_to_take, sink_health, sink_offers};
 
@@ -68,7 +68,8 @@ impl<S: Sink> Sink for FailingSink<S> {
 
     ghost contents = { λ d. S.contents d.inner };
 
-    /// Fails exactly where it was broken, where no byte may pass any more, or where the sink inside is broken.
+    /// Fails exactly where it was broken, where no byte may pass any more, or where the sink inside is broken. In the first two cases it
+    /// does not call the sink inside, else once, with as many bytes as may pass.
     fn push(&mut self, bytes: &[u8]) -> Result<usize, Failed>
         ensures bound { IfOk result (λ n. n ≤ length bytes.now) }
         ensures some { IfOk result (λ n. 0 < length bytes.now → 0 < n) }
@@ -84,6 +85,11 @@ impl<S: Sink> Sink for FailingSink<S> {
         ensures most { IfOk result (λ n. n ≤ bytes_a_call self.old) }
         ensures same { bytes_a_call self.new ≡ bytes_a_call self.old }
         ensures left { IfOk result (λ n. bytes_to_take self.new + n ≡ bytes_to_take self.old) }
+        ensures left_same { OnErr result (bytes_to_take self.new ≡ bytes_to_take self.old) }
+        ensures untouched { (IsTrue (sink_health self.old).is_broken ⊎ (bytes_to_take self.old ≡ 0)) → sink_inside self.new ≡ sink_inside self.old }
+        ensures once { (sink_health self.old).is_broken ≡ false → 0 < bytes_to_take self.old →
+            S.offers (sink_inside self.new) ≡ S.offers (sink_inside self.old)
+            ++ take (min (min (length bytes.now) (bytes_to_take self.old)) (bytes_a_call self.old)) bytes.now ∷ [] }
         ensures cause { OnErr result (IsTrue (sink_health self.old).is_broken
             ⊎ (bytes_to_take self.old ≡ 0) ⊎ IsTrue (S.is_broken (sink_inside self.new))) }
         ensures certain { (IsTrue (sink_health self.old).is_broken

@@ -1,5 +1,5 @@
 //! A sink made of a buffered writer of std.
-ghost use Rattle.std.specs.Prelude.{◌≡◌, [], ◌+◌, ◌<◌, ◌≤◌, ◌↔◌, length, IfOk, IsErr, IsTrue, MatchResult};
+ghost use Rattle.std.specs.Prelude.{◌≡◌, [], ◌∷◌, ◌++◌, ◌+◌, ◌<◌, ◌≤◌, ◌↔◌, length, take, IfOk, IsErr, IsTrue, MatchResult};
 ghost use Rattle.std.specs.Io.KnownBytes.{WriteAppends};
 
 use crate::{Failed, OfWrite, Offers, Sink};
@@ -78,6 +78,8 @@ fn push_past<S: Sink>(sink: &mut S, bytes: &[u8], spare: usize) -> Result<usize,
     ensures failed { IsErr result ↔ IsTrue (S.is_broken sink.new) }
     ensures stays { IsTrue (S.is_broken sink.old) → IsTrue (S.is_broken sink.new) }
     ensures counted { S.calls sink.new ≡ S.calls sink.old + 1 }
+    ensures full { spare ≡ 0 → S.offers sink.new ≡ S.offers sink.old ++ bytes.now ∷ [] }
+    ensures filled { 0 < spare → S.offers sink.new ≡ S.offers sink.old ++ take spare bytes.now ∷ [] }
     ensures failures { MatchResult result (λ _. S.failures sink.new ≡ S.failures sink.old) (λ _. S.failures sink.new ≡ S.failures sink.old + 1) }
 {
     if spare == 0 {

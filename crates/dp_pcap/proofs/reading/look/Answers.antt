@@ -1,6 +1,6 @@
--- `look`: the reader gave a record's head whole, and failed inside the bytes behind it.
-use Rattle.std.proofs.Common.{rules}
-use Rattle.dp_pcap.proofs.Known.{fails_in_body}
+-- `look`: the reader gave a record's head whole, and then bytes behind it, or it failed inside them.
+use Rattle.std.proofs.Common.{rules, arith, take, length-take}
+use Rattle.dp_pcap.proofs.Known.{fails_in_body, two_reads, as_it_was}
 use Rattle.dp_pcap.proofs.reading.look.Goals as goal
 
 pub returns-in_default-fill-clause-answer : goal.returns-in_default-fill-clause-answer
@@ -8,3 +8,48 @@ returns-in_default-fill-clause-answer g c =
     let more = c.in_default-fill.ensures.bytes in
     fails_in_body _ _ _ c.args.source.now c.fill.new.buf more.0 c.in-Ok.got c.in-Ok.ensures.bytes.0 (search rules) (search rules) more.2 (search rules)
     (search rules) (search rules)
+
+pub returns-in_default-fill-clause-ahead : goal.returns-in_default-fill-clause-ahead
+returns-in_default-fill-clause-ahead g c =
+    let more = c.in_default-fill.ensures.bytes in
+    two_reads _ _ _ (take c.in-Ok.got c.fill.new.buf) more.0 _ c.in-Ok.ensures.bytes.0 more.2
+    (omega (
+      arith,
+      length-take c.in-Ok.got c.fill.new.buf,
+      c.fill.auto.buf,
+      more.1,
+      length-take c.in_ok-time.len c.args.buf.now,
+      c.in_ok-time.ensures.in_range.1,
+    ))
+
+pub returns-in_default-fill-clause-behind : goal.returns-in_default-fill-clause-behind
+returns-in_default-fill-clause-behind g c =
+    as_it_was c.fill-2.new.buf c.args.buf.now c.in_ok-time.len 262144 (search rules) c.in_ok-time.ensures.in_range.1
+
+pub returns-then-came-len-clause-ahead : goal.returns-then-came-len-clause-ahead
+returns-then-came-len-clause-ahead g c =
+    two_reads _ _ _ (take c.in-Ok.got c.fill.new.buf) (take c.in-Ok-fill.came c.fill-2.new.buf) _ c.in-Ok.ensures.bytes.0 c.in-Ok-fill.ensures.bytes.0
+    (omega (
+      arith,
+      length-take c.in-Ok.got c.fill.new.buf,
+      c.fill.auto.buf,
+      c.if-came-len.true,
+      length-take c.in-Ok-fill.came c.fill-2.new.buf,
+      c.in_ok-time.ensures.in_range.1,
+    ))
+
+pub returns-then-came-len-clause-behind : goal.returns-then-came-len-clause-behind
+returns-then-came-len-clause-behind g c =
+    as_it_was c.fill-2.new.buf c.args.buf.now c.in_ok-time.len 262144 (search rules) c.in_ok-time.ensures.in_range.1
+
+pub returns-clause-ahead : goal.returns-clause-ahead
+returns-clause-ahead g c =
+    two_reads _ _ _ (take c.in-Ok.got c.fill.new.buf) (take c.in-Ok-fill.came c.fill-2.new.buf) _ c.in-Ok.ensures.bytes.0 c.in-Ok-fill.ensures.bytes.0
+    (omega (
+      arith,
+      length-take c.in-Ok.got c.fill.new.buf,
+      c.fill.auto.buf,
+      length-take c.in-Ok-fill.came c.fill-2.new.buf,
+      c.fill-2.auto.buf,
+      length-take c.in_ok-time.len c.args.buf.now,
+    ))
