@@ -2,9 +2,15 @@
 
 ghost use Rattle.std.specs.Prelude.{◌≡◌, ℕ, List};
 ghost use Rattle.dp_model.specs.declared.instr.Instr.{Instr};
+ghost use Rattle.dp_lang.specs.Forms.{HasRanges};
 ghost use Rattle.dp_lang.specs.Printing.{printed};
 ghost use Rattle.dp_lang.specs.Programs.{IsProgram};
 ghost use Rattle.dp_lang.specs.Reading.{Reads};
+
+/// The ranges of operands, and the most instructions of a program.
+pub fn has_its_ranges()
+    ensures { HasRanges }
+{}
 
 /// The text that is printed for a program reads as that program, and a text reads as at most one program.
 pub fn printed_texts_read_back()

@@ -22,7 +22,7 @@ pub use argument::{Arguments, Numbered};
 pub use assembler::assemble;
 pub use cause::{AsmError, Cause, Fault};
 pub use form::arguments_of;
-pub use laws::printed_texts_read_back;
+pub use laws::{has_its_ranges, printed_texts_read_back};
 pub use line_numbers::source_lines;
 pub use printer::print;
 pub use program::{MOST_INSTRS, Program};
