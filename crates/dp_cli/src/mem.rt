@@ -16,7 +16,7 @@ ghost use Rattle.dp_cli.specs.Told.{IsTold, TellsMemory};
 use crate::fault::{DONE, Fault, MEMORY, Unwritten, tell, try_tell_fault};
 use crate::script::{Command, command_of};
 use dp_heap::{Element, Heap, HeapError, State};
-use dp_region::{Block, Region};
+use dp_region::{Block, CACHE_LINE, LARGEST_REGION, LEAST_REGION, Region};
 use std::alloc::Global;
 use std::fmt;
 use std::io::Write;
@@ -240,7 +240,7 @@ impl Session {
 fn is_region_size(size: u32) -> bool
     ensures { IsTrue result ↔ IsRegionSize size }
 {
-    size >= 4_096 && size <= 1_073_741_824 && size % 64 == 0
+    size >= LEAST_REGION && size <= LARGEST_REGION && size % CACHE_LINE == 0
 }
 
 /// The first line of a text, and what stands behind its newline, where it has one.

@@ -315,7 +315,13 @@ fn fixed_hint(reason: Reason) -> Option<&'static str> {
         Reason::LessThanRing { .. } => {
             Some("test for what is missing before it, or let the ring declare less")
         }
-        _ => None,
+        Reason::NotHeld { .. }
+        | Reason::NotEmpty { .. }
+        | Reason::TooLittle { .. }
+        | Reason::NotAlone { .. }
+        | Reason::NoPort { .. }
+        | Reason::LeftOver { .. }
+        | Reason::Successor { .. } => None,
     }
 }
 
@@ -355,7 +361,16 @@ fn write_hint<W: fmt::Write>(
         ),
         Reason::LeftOver { packet, .. } => write!(f, "free p{} before it", packet.number()),
         Reason::Successor { gap, .. } => write_of_rows(f, gap, inferred),
-        _ => Ok(()),
+        Reason::RowCount { .. }
+        | Reason::NoEntry
+        | Reason::EntryRow(_)
+        | Reason::NoPool { .. }
+        | Reason::NoTable { .. }
+        | Reason::NoRing { .. }
+        | Reason::NoInstruction { .. }
+        | Reason::OneRegister { .. }
+        | Reason::TooLong { .. }
+        | Reason::LessThanRing { .. } => Ok(()),
     }
 }
 

@@ -71,23 +71,14 @@ fn with_numbers(word: &str, size: u32, align: u32) -> Option<Command>
 fn of_two(word: &str, first: &str) -> Option<Command>
     ensures { result ≡ option_and_then (spec.with_number word.now) (spec.number_in first.now) }
 {
-    match number(first) {
-        Some(number) => with_number(word, number),
-        None => None,
-    }
+    with_number(word, number(first)?)
 }
 
 /// The command of three words.
 fn of_three(word: &str, first: &str, second: &str) -> Option<Command>
     ensures { result ≡ option_and_then (λ n. option_and_then (spec.with_numbers word.now n) (spec.number_in second.now)) (spec.number_in first.now) }
 {
-    match number(first) {
-        Some(size) => match number(second) {
-            Some(align) => with_numbers(word, size, align),
-            None => None,
-        },
-        None => None,
-    }
+    with_numbers(word, number(first)?, number(second)?)
 }
 
 /// The command of words that are parted by one space.

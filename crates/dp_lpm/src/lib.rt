@@ -12,6 +12,6 @@ mod table;
 mod tables;
 
 pub use error::{LpmError, Memory};
-pub use limits::{MAX_GROUPS, MAX_HOP, MAX_RULES, MAX_TABLES};
+pub use limits::{MAX_GROUPS, MAX_HOP, MAX_RULES, MAX_TABLES, has_its_numbers};
 pub use lpm::Lpm;
 pub use tables::Tables;

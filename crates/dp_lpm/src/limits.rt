@@ -1,5 +1,7 @@
 //! The sizes of a table, each named once. Two levels, of 24 bits and of 8, as in DPDK's `rte_lpm.h`.
 
+ghost use Rattle.dp_lpm.specs.Limits.{HasNumbers};
+
 /// The bits of an address that choose one of the first entries: the depth above which a rule needs a group.
 pub const FIRST_BITS: u8 = 24;
 
@@ -36,3 +38,8 @@ pub const ADDRESSES: u64 = 0x1_0000_0000;
 
 /// The most tables that stand together.
 pub const MAX_TABLES: usize = 4;
+
+/// The sizes of tables are these numbers.
+pub fn has_its_numbers()
+    ensures { HasNumbers }
+{}

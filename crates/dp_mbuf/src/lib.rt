@@ -12,6 +12,6 @@ mod steps;
 
 pub use limits::{
     HEADER_SIZE, HEADROOM, MAX_LENGTH, MAX_MBUFS, MAX_OBJECT_SIZE, MAX_POOLS, MAX_ROOM,
-    MAX_SEGMENTS, POOL_HANDLES,
+    MAX_SEGMENTS, POOL_HANDLES, has_its_numbers,
 };
 pub use mbufs::Mbufs;

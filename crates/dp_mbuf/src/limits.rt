@@ -1,5 +1,7 @@
 //! The sizes of mbufs, each named once, with their names in DPDK's `rte_mbuf.h` and `rte_mbuf_core.h`.
 
+ghost use Rattle.dp_mbuf.specs.Limits.{HasNumbers};
+
 /// Bytes of an object in front of its data room, where its header stands (`sizeof(struct rte_mbuf)`).
 pub const HEADER_SIZE: u32 = 128;
 
@@ -53,3 +55,8 @@ pub const BUFFER: usize = 18;
 
 /// How many bytes of a header are in use.
 pub const FIELDS_SIZE: usize = 22;
+
+/// The sizes of mbufs are these numbers.
+pub fn has_its_numbers()
+    ensures { HasNumbers }
+{}

@@ -1,15 +1,18 @@
 -- Files, as far as they are known.
 use Rattle.std.specs.Prelude.{◌≡◌, ℕ, nat_le, List, length, Option, Some, None, if◌then◌else◌}
-use Rattle.dp_pipe.specs.declared.files.TheConstants.{LONGEST_FILE}
 
 -- the bytes of each file, by its name
 abbrev pub FileMap : Type 0
 FileMap = List ℕ → Option (List ℕ)
 
+-- the most bytes of a file of a node
+abbrev pub longest_file : ℕ
+longest_file = 1048576
+
 -- the bytes, where there are some and not too many
 abbrev pub if_short : Option (List ℕ) → Option (List ℕ)
 if_short None = None
-if_short (Some bytes) = if nat_le (length bytes) LONGEST_FILE then Some bytes else None
+if_short (Some bytes) = if nat_le (length bytes) longest_file then Some bytes else None
 
 -- the bytes of a file that is there and is not too long
 abbrev pub fetched : FileMap → List ℕ → Option (List ℕ)

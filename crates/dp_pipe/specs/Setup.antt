@@ -2,7 +2,8 @@
 use Rattle.std.specs.Prelude.{ℕ, ◌+◌, ◌%◌, Bool, true, ◌&&◌, ◌==◌, nat_le, List, [], ◌∷◌, Option, Some, None, option_and_then, option_map, ok_or, Result, Ok}
 use Rattle.std.specs.Prelude.{Err, if◌then◌else◌, codes}
 use Rattle.toml.specs.Data.{Data, Members, get_member, as_table}
-use Rattle.dp_region.specs.declared.region.TheConstants.{CACHE_LINE, LARGEST_REGION, LEAST_REGION}
+use Rattle.dp_region.specs.Region.{cache_line, largest_region, least_region}
+use Rattle.dp_model.specs.Limits.{largest_known}
 use Rattle.dp_model.specs.declared.row.Fact.{Fact}
 use Rattle.dp_model.specs.declared.row.Fact.TheVariants.{Held}
 use Rattle.dp_model.specs.declared.env.PoolSpec.{PoolSpec}
@@ -11,8 +12,11 @@ use Rattle.dp_model.specs.declared.env.PortSpec.{PortSpec}
 use Rattle.dp_lpm.specs.declared.limits.TheConstants.{MAX_GROUPS, MAX_RULES}
 use Rattle.dp_pipe.specs.declared.error.Part.{Part}
 use Rattle.dp_pipe.specs.declared.error.Part.TheVariants.{Top, Pool, Table, Ring, Port}
-use Rattle.dp_pipe.specs.declared.setup.TheConstants.{LARGEST_COUNT, LARGEST_SMALL}
 use Rattle.dp_pipe.specs.Keys.{elements_at, elements_of, is_array_of, is_text, is_table, has_only, number_at, text_at, text_if_any}
+
+-- the largest share and the most segments that a file can say: what one byte has room for
+abbrev pub largest_small : ℕ
+largest_small = 255
 
 -- the file names of a node
 pub record NodeFiles : Type 0 where
@@ -99,12 +103,12 @@ abbrev pub fact_in : Members → Option Fact
 fact_in table =
     option_and_then (λ share. option_and_then (λ head. option_and_then
     (λ tail. option_and_then (λ first. option_and_then (λ last. option_map (λ segs. Held share head tail first last segs)
-    (number_at (codes "segs") LARGEST_SMALL table))
-    (number_at (codes "last") LARGEST_COUNT table))
-    (number_at (codes "first") LARGEST_COUNT table))
-    (number_at (codes "tail") LARGEST_COUNT table))
-    (number_at (codes "head") LARGEST_COUNT table))
-    (number_at (codes "share") LARGEST_SMALL table)
+    (number_at (codes "segs") largest_small table))
+    (number_at (codes "last") largest_known table))
+    (number_at (codes "first") largest_known table))
+    (number_at (codes "tail") largest_known table))
+    (number_at (codes "head") largest_known table))
+    (number_at (codes "share") largest_small table)
 
 -- the keys of a `[[ring]]`
 abbrev pub ring_keys : List (List ℕ)
@@ -138,7 +142,7 @@ abbrev pub port_spec_in : Members → Option PortSpec
 port_spec_in table =
     option_and_then (λ pool. option_and_then (λ segs. option_map (λ queue. record { pool = pool; segs = segs; queue = queue })
     (number_at (codes "queue") greatest table))
-    (number_at (codes "segs") LARGEST_SMALL table))
+    (number_at (codes "segs") largest_small table))
     (number_at (codes "pool") greatest table)
 
 -- a `[[port]]`
@@ -157,7 +161,7 @@ port_in table =
 
 -- a number that is a multiple of the unit and not too small
 abbrev pub region_if : ℕ → Option ℕ
-region_if n = if nat_le LEAST_REGION n && n % CACHE_LINE == 0 then Some n else None
+region_if n = if nat_le least_region n && n % cache_line == 0 then Some n else None
 
 -- an array of tables, or nothing at all
 abbrev pub is_tables : Option Data → Bool
@@ -177,7 +181,7 @@ is_top top =
 -- the region, if no key at the top is bad
 abbrev pub region_in : Members → Option ℕ
 region_in top =
-    if is_top top then option_and_then region_if (number_at (codes "region") LARGEST_REGION top) else None
+    if is_top top then option_and_then region_if (number_at (codes "region") largest_region top) else None
 
 -- the second reading, with what the first gave, if it gave anything
 abbrev pub and_then : {A B E : Type 0} → Result A E → (A → Result B E) → Result B E

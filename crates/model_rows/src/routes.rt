@@ -2,7 +2,7 @@
 
 mod plain;
 
-use dp_lpm::{Lpm, LpmError, Memory, Tables};
+use dp_lpm::{Lpm, LpmError, MAX_GROUPS, MAX_HOP, MAX_RULES, MAX_TABLES, Memory, Tables};
 use plain::Plain;
 use std::test::Fail;
 
@@ -276,6 +276,13 @@ fn one_rule(rt: &HostRuntime, ip: u32, depth: u8, hop: u32) -> Result<Lpm, Fail>
     let mut table = Lpm::new(rt.alloc(), 1, 0)?;
     table.add(ip, depth, hop)?;
     Ok(table)
+}
+
+#[test]
+fn the_limits_are_those_of_the_library(rt: HostRuntime) {
+    dp_lpm::has_its_numbers();
+    assert_eq!(rt; (MAX_RULES, MAX_GROUPS), (65_536, 256));
+    assert_eq!(rt; (MAX_HOP, MAX_TABLES), (16_777_215, 4));
 }
 
 #[test]
