@@ -34,6 +34,9 @@ use dp_pcap::{Calls, PcapError, Sink, Time, Unit};
 use register::{Register, no_packets, one_packet};
 use std::marker::Model;
 
+// The most backward jumps of a node run that are taken.
+const JUMP_BUDGET: u16 = 256;
+
 pub(crate) struct Machine {
     mbufs: Mbufs,
     registers: [Register; 8],
@@ -255,7 +258,7 @@ impl Machine {
             × (self.new ≡ moved (with_jumps (self.old.state.jumps + 1) self.old.state) self.old) }
         ensures over { IsFalse result → (jump_budget ≤ self.old.state.jumps) × (self.new ≡ self.old) }
     {
-        if self.jumps < 256 {
+        if self.jumps < JUMP_BUDGET {
             self.jumps += 1;
             true
         } else {

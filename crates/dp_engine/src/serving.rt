@@ -32,6 +32,9 @@ fn needed(pools: &[PoolSpec], pool: u32, len: usize) -> usize
     1usize.max((len + (full - 1)) / full)
 }
 
+// The most node runs of a turn on packets that wait in rings.
+const MOST_RING_RUNS: u8 = 32;
+
 const NO_RUN: NodeRun = NodeRun { steps: 0, cuts: 0 };
 
 // What becomes of a record at a port, and the node run on it if it is received.
@@ -125,7 +128,7 @@ pub(crate) fn serve<W: Watch>(plan: &Plan, m: &mut Machine, watch: &mut W) -> Se
         steps: 0,
         cuts: 0,
     };
-    for i in 0..32u8 {
+    for i in 0..MOST_RING_RUNS {
         let Some(NodeRun { steps, cuts }) = serve_one(plan, m, watch) else {
             return served;
         };
