@@ -34,8 +34,10 @@ impl<R: Read> OfBufReader<R> {
 }
 
 impl<R: Read> Feed for OfBufReader<R> {
-    ghost use Rattle.std.specs.Prelude.{[], if◌then◌else◌};
-    ghost use Rattle.std.specs.Io.Buffered.{reader_remaining, reader_buffer};
+    ghost use Rattle.std.specs.Prelude.{◌≡◌, ◌+◌, ◌≤◌, ◌↔◌, Ok, false, [], if◌then◌else◌, length, IfOk, IsErr, IsTrue, MatchResult};
+    ghost use Rattle.std.specs.Io.Buffered.{reader_remaining, reader_buffer, reader_inner};
+    ghost use Rattle.std.specs.Io.KnownBytes.{ReadConsumes};
+    ghost use Rattle.dp_pcap.specs.OfStd.{buffered_reader, buffered_feed_health};
 
     ghost is_broken = { λ d. d.feed.health.is_broken };
 
@@ -60,8 +62,24 @@ impl<R: Read> Feed for OfBufReader<R> {
         self.feed.inner.consume(n);
     }
 
+    /// Where it was broken it does not call the reader inside, and where its buffer holds as many bytes as are asked for it gives
+    /// these, and does not read either.
     #[inline(always)]
-    fn pull(&mut self, buf: &mut [u8]) -> Result<usize, Failed> {
+    fn pull(&mut self, buf: &mut [u8]) -> Result<usize, Failed>
+        ensures bound { IfOk result (λ n. n ≤ length buf.new) }
+        ensures bytes { ReadConsumes (reader_remaining R.remaining (buffered_reader self.old))
+            (reader_remaining R.remaining (buffered_reader self.new))
+            result buf.new }
+        ensures failed { IsErr result ↔ IsTrue (buffered_feed_health self.new).is_broken }
+        ensures stays { IsTrue (buffered_feed_health self.old).is_broken → IsTrue (buffered_feed_health self.new).is_broken }
+        ensures counted { (buffered_feed_health self.new).calls ≡ (buffered_feed_health self.old).calls + 1 }
+        ensures failures { MatchResult result
+            (λ _. (buffered_feed_health self.new).failures ≡ (buffered_feed_health self.old).failures)
+            (λ _. (buffered_feed_health self.new).failures ≡ (buffered_feed_health self.old).failures + 1) }
+        ensures untouched { IsTrue (buffered_feed_health self.old).is_broken → buffered_reader self.new ≡ buffered_reader self.old }
+        ensures buffered { (buffered_feed_health self.old).is_broken ≡ false → length buf.old ≤ length (reader_buffer (buffered_reader self.old)) →
+            (result ≡ Ok (length buf.old)) × (reader_inner (buffered_reader self.new) ≡ reader_inner (buffered_reader self.old)) }
+    {
         let held = self.feed.inner.buffer();
         if self.feed.health.is_broken() || held.len() < buf.len() {
             return self.feed.pull(buf);

@@ -1,6 +1,8 @@
 //! A sink made of a buffered writer of std.
 ghost use Rattle.std.specs.Prelude.{◌≡◌, [], ◌∷◌, ◌++◌, ◌+◌, ◌<◌, ◌≤◌, ◌↔◌, length, take, IfOk, IsErr, IsTrue, MatchResult};
 ghost use Rattle.std.specs.Io.KnownBytes.{WriteAppends};
+ghost use Rattle.std.specs.Io.Buffered.{writer_contents};
+ghost use Rattle.dp_pcap.specs.OfStd.{writer_inside, sink_health, sink_offers};
 
 use crate::{Failed, OfWrite, Offers, Sink};
 use std::io::{BufWriter, Write};
@@ -39,7 +41,7 @@ impl<W: Write + Drop> OfBufWriter<W> {
 }
 
 impl<W: Write + Drop> Sink for OfBufWriter<W> {
-    ghost use Rattle.std.specs.Io.Buffered.{writer_contents};
+    ghost use Rattle.dp_pcap.specs.OfStd.{buffered_writer, buffered_sink_health, buffered_sink_offers};
 
     ghost is_broken = { λ d. d.sink.health.is_broken };
 
@@ -51,8 +53,22 @@ impl<W: Write + Drop> Sink for OfBufWriter<W> {
 
     ghost contents = { λ d. writer_contents W.contents d.sink.inner };
 
+    /// Where it was broken it does not call the writer inside.
     #[inline(always)]
-    fn push(&mut self, bytes: &[u8]) -> Result<usize, Failed> {
+    fn push(&mut self, bytes: &[u8]) -> Result<usize, Failed>
+        ensures bound { IfOk result (λ n. n ≤ length bytes.now) }
+        ensures some { IfOk result (λ n. 0 < length bytes.now → 0 < n) }
+        ensures bytes { WriteAppends (writer_contents W.contents (buffered_writer self.old)) (writer_contents W.contents (buffered_writer self.new))
+            result bytes.now }
+        ensures failed { IsErr result ↔ IsTrue (buffered_sink_health self.new).is_broken }
+        ensures stays { IsTrue (buffered_sink_health self.old).is_broken → IsTrue (buffered_sink_health self.new).is_broken }
+        ensures counted { (buffered_sink_health self.new).calls ≡ (buffered_sink_health self.old).calls + 1 }
+        ensures offered { buffered_sink_offers self.new ≡ buffered_sink_offers self.old ++ bytes.now ∷ [] }
+        ensures failures { MatchResult result
+            (λ _. (buffered_sink_health self.new).failures ≡ (buffered_sink_health self.old).failures)
+            (λ _. (buffered_sink_health self.new).failures ≡ (buffered_sink_health self.old).failures + 1) }
+        ensures untouched { IsTrue (buffered_sink_health self.old).is_broken → buffered_writer self.new ≡ buffered_writer self.old }
+    {
         self.offers = self.offers.and(bytes);
         // It holds no more than its capacity, so nothing wraps. Asked first, so that what fits cannot fail.
         let held = self.sink.inner.buffer().len();
@@ -69,18 +85,25 @@ impl<W: Write + Drop> Sink for OfBufWriter<W> {
 // and a file that is written from its start has each of them at a multiple of its size.
 #[cold]
 #[inline(never)]
-fn push_past<S: Sink>(sink: &mut S, bytes: &[u8], spare: usize) -> Result<usize, Failed>
+fn push_past<W: Write + Drop>(
+    sink: &mut OfWrite<BufWriter<W>>,
+    bytes: &[u8],
+    spare: usize,
+) -> Result<usize, Failed>
     requires room { spare ≤ length bytes.now }
     ensures bound { IfOk result (λ n. n ≤ length bytes.now) }
     ensures fills { IfOk result (λ n. 0 < spare → n ≤ spare) }
     ensures some { IfOk result (λ n. 0 < length bytes.now → 0 < n) }
-    ensures bytes { WriteAppends (S.contents sink.old) (S.contents sink.new) result bytes.now }
-    ensures failed { IsErr result ↔ IsTrue (S.is_broken sink.new) }
-    ensures stays { IsTrue (S.is_broken sink.old) → IsTrue (S.is_broken sink.new) }
-    ensures counted { S.calls sink.new ≡ S.calls sink.old + 1 }
-    ensures full { spare ≡ 0 → S.offers sink.new ≡ S.offers sink.old ++ bytes.now ∷ [] }
-    ensures filled { 0 < spare → S.offers sink.new ≡ S.offers sink.old ++ take spare bytes.now ∷ [] }
-    ensures failures { MatchResult result (λ _. S.failures sink.new ≡ S.failures sink.old) (λ _. S.failures sink.new ≡ S.failures sink.old + 1) }
+    ensures bytes { WriteAppends (writer_contents W.contents (writer_inside sink.old)) (writer_contents W.contents (writer_inside sink.new)) result bytes.now }
+    ensures failed { IsErr result ↔ IsTrue ((sink_health sink.new).is_broken) }
+    ensures stays { IsTrue ((sink_health sink.old).is_broken) → IsTrue ((sink_health sink.new).is_broken) }
+    ensures counted { (sink_health sink.new).calls ≡ (sink_health sink.old).calls + 1 }
+    ensures full { spare ≡ 0 → sink_offers sink.new ≡ sink_offers sink.old ++ bytes.now ∷ [] }
+    ensures filled { 0 < spare → sink_offers sink.new ≡ sink_offers sink.old ++ take spare bytes.now ∷ [] }
+    ensures failures { MatchResult result
+        (λ _. (sink_health sink.new).failures ≡ (sink_health sink.old).failures)
+        (λ _. (sink_health sink.new).failures ≡ (sink_health sink.old).failures + 1) }
+    ensures untouched { IsTrue (sink_health sink.old).is_broken → writer_inside sink.new ≡ writer_inside sink.old }
 {
     if spare == 0 {
         return sink.push(bytes);

@@ -37,7 +37,9 @@ impl<R: Read> OfRead<R> {
 }
 
 impl<R: Read> Feed for OfRead<R> {
-    ghost use Rattle.std.specs.Prelude.{[]};
+    ghost use Rattle.std.specs.Prelude.{◌≡◌, ◌+◌, ◌≤◌, ◌↔◌, [], length, IfOk, IsErr, IsTrue, MatchResult};
+    ghost use Rattle.std.specs.Io.KnownBytes.{ReadConsumes};
+    ghost use Rattle.dp_pcap.specs.OfStd.{reader_inside, feed_health};
 
     ghost is_broken = { λ d. d.health.is_broken };
 
@@ -55,7 +57,18 @@ impl<R: Read> Feed for OfRead<R> {
 
     fn pass(&mut self, _n: usize) {}
 
-    fn pull(&mut self, buf: &mut [u8]) -> Result<usize, Failed> {
+    /// Where it was broken it does not call the reader inside.
+    fn pull(&mut self, buf: &mut [u8]) -> Result<usize, Failed>
+        ensures bound { IfOk result (λ n. n ≤ length buf.new) }
+        ensures bytes { ReadConsumes (R.remaining (reader_inside self.old)) (R.remaining (reader_inside self.new)) result buf.new }
+        ensures failed { IsErr result ↔ IsTrue (feed_health self.new).is_broken }
+        ensures stays { IsTrue (feed_health self.old).is_broken → IsTrue (feed_health self.new).is_broken }
+        ensures counted { (feed_health self.new).calls ≡ (feed_health self.old).calls + 1 }
+        ensures failures { MatchResult result
+            (λ _. (feed_health self.new).failures ≡ (feed_health self.old).failures)
+            (λ _. (feed_health self.new).failures ≡ (feed_health self.old).failures + 1) }
+        ensures untouched { IsTrue (feed_health self.old).is_broken → reader_inside self.new ≡ reader_inside self.old }
+    {
         self.health.call();
         if self.health.is_broken() {
             return Err(self.health.fail());

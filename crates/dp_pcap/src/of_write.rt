@@ -44,6 +44,10 @@ impl<W: Write> OfWrite<W> {
 }
 
 impl<W: Write> Sink for OfWrite<W> {
+    ghost use Rattle.std.specs.Prelude.{◌≡◌, ◌+◌, ◌<◌, ◌≤◌, ◌↔◌, [], ◌∷◌, ◌++◌, length, IfOk, IsErr, IsTrue, MatchResult};
+    ghost use Rattle.std.specs.Io.KnownBytes.{WriteAppends};
+    ghost use Rattle.dp_pcap.specs.OfStd.{writer_inside, sink_health, sink_offers};
+
     ghost is_broken = { λ d. d.health.is_broken };
 
     ghost calls = { λ d. d.health.calls };
@@ -54,8 +58,21 @@ impl<W: Write> Sink for OfWrite<W> {
 
     ghost contents = { λ d. W.contents d.inner };
 
+    /// Where it was broken it does not call the writer inside.
     #[inline(always)]
-    fn push(&mut self, bytes: &[u8]) -> Result<usize, Failed> {
+    fn push(&mut self, bytes: &[u8]) -> Result<usize, Failed>
+        ensures bound { IfOk result (λ n. n ≤ length bytes.now) }
+        ensures some { IfOk result (λ n. 0 < length bytes.now → 0 < n) }
+        ensures bytes { WriteAppends (W.contents (writer_inside self.old)) (W.contents (writer_inside self.new)) result bytes.now }
+        ensures failed { IsErr result ↔ IsTrue (sink_health self.new).is_broken }
+        ensures stays { IsTrue (sink_health self.old).is_broken → IsTrue (sink_health self.new).is_broken }
+        ensures counted { (sink_health self.new).calls ≡ (sink_health self.old).calls + 1 }
+        ensures offered { sink_offers self.new ≡ sink_offers self.old ++ bytes.now ∷ [] }
+        ensures failures { MatchResult result
+            (λ _. (sink_health self.new).failures ≡ (sink_health self.old).failures)
+            (λ _. (sink_health self.new).failures ≡ (sink_health self.old).failures + 1) }
+        ensures untouched { IsTrue (sink_health self.old).is_broken → writer_inside self.new ≡ writer_inside self.old }
+    {
         self.health.call();
         self.offers = self.offers.and(bytes);
         if self.health.is_broken() {
