@@ -1,6 +1,7 @@
 -- What a diagnosis says of a program that is refused: what is known, and what the rule wants.
-use Rattle.std.specs.Prelude.{◌≡◌, ◌≢◌, ◌⊎◌, ℕ, ◌+◌, ◌<◌, ◌≤◌, false, ◌&&◌, nat_lt, nat_le, List, [], ◌∷◌, length, replicate, Option, Some, None}
-use Rattle.std.specs.Prelude.{MatchOption, slice_get}
+use Rattle.std.specs.Prelude.{◌≡◌, ◌≢◌, ◌⊎◌, ℕ, ◌+◌, ◌<◌, ◌≤◌, Bool, true, false, not, ◌&&◌, if◌then◌else◌, nat_lt, nat_le, List, [], ◌∷◌, length, replicate}
+use Rattle.std.specs.Prelude.{Option, Some, None, MatchOption, slice_get}
+use Rattle.std.specs.List.{position_from}
 use Rattle.std.proofs.Math.Bool.{beq}
 use Rattle.std.specs.Option.{option_map_or}
 use Rattle.dp_model.specs.declared.row.Fact.{Fact}
@@ -12,7 +13,7 @@ use Rattle.dp_model.specs.declared.registers.Operand.TheVariants.{Register}
 use Rattle.dp_model.specs.declared.instr.Instr.{Instr}
 use Rattle.dp_model.specs.declared.instr.Instr.TheVariants.{Chain, Exit}
 use Rattle.dp_model.specs.Environments.{Environment}
-use Rattle.dp_model.specs.Groups.{group_of, is_in}
+use Rattle.dp_model.specs.Groups.{group_of, is_in, keeps_groups}
 use Rattle.dp_model.specs.Limits.{most_segments}
 use Rattle.dp_model.specs.Rows.{is_empty, holding, held, held_at, entails_fact, entails_option, entails_share, entry_row, fact_of_ring, bound, leads}
 use Rattle.dp_model.specs.Rules.{Question, is_held, is_empty_at, holds_with, uses, indices_exist, targets_fit, bytes_fit, share_fits, may_leave, IsRefused}
@@ -59,30 +60,54 @@ SomeOf P (x ∷ xs) = P x ⊎ SomeOf P xs
 abbrev pub Is : {A : Type 0} → Option A → (A → Type 0) → Type 0
 Is o P = MatchOption o ⊥ P
 
+-- the first place, counted from a number, at which the test of two lists fails
+abbrev pub first_failing : {A : Type 0} → (A → A → Bool) → ℕ → List A → List A → Option ℕ
+first_failing test k [] ys = None
+first_failing test k (x ∷ xs) [] = None
+first_failing test k (x ∷ xs) (y ∷ ys) = if test x y then first_failing test (k + 1) xs ys else Some k
+
+-- the first register of which the first facts do not say all that the second do
+abbrev pub first_weaker : List Fact → List Fact → Option ℕ
+first_weaker facts others = first_failing entails_fact 0 facts others
+
+-- the first that belongs to the group in one of the two alone
+abbrev pub first_outside : ℕ → List Fact → List Fact → Option ℕ
+first_outside g facts others = first_failing (λ fact other. beq (is_in g fact) (is_in g other)) 0 facts others
+
+-- the first number that the first bounds let be greater than the second
+abbrev pub first_greater : List ℕ → List ℕ → Option ℕ
+first_greater bounds others = first_failing nat_le 0 bounds others
+
+-- the first register that holds a packet
+abbrev pub first_held : List Fact → Option ℕ
+first_held facts = position_from (λ fact. not (is_empty fact)) 0 facts
+
 -- ---- two rows, the first of which does not entail the second
 
 -- of a packet register the first row says not all that the second does
 abbrev pub IsFactGap : List Fact → List Fact → ℕ → Fact → Fact → Type 0
 IsFactGap facts others p known wanted =
-    (slice_get facts p ≡ Some known) × (slice_get others p ≡ Some wanted) × (entails_fact known wanted ≡ false)
+    (first_weaker facts others ≡ Some p) × (slice_get facts p ≡ Some known) × (slice_get others p ≡ Some wanted) × (entails_fact known wanted ≡ false)
 
 -- the register is in a group of the second row in one of them alone
 abbrev pub IsGroupGap : List Fact → List Fact → ℕ → ℕ → Fact → Fact → Type 0
 IsGroupGap facts others g p known wanted =
-    SomeOf (λ other. group_of other ≡ Some g) others × (slice_get facts p ≡ Some known) × (slice_get others p ≡ Some wanted)
-    × (beq (is_in g known) (is_in g wanted) ≡ false)
+    SomeOf (λ other. group_of other ≡ Some g) others × (first_outside g facts others ≡ Some p)
+    × (slice_get facts p ≡ Some known) × (slice_get others p ≡ Some wanted) × (beq (is_in g known) (is_in g wanted) ≡ false)
 
 -- the number can be greater in the first row than in the second
 abbrev pub IsBoundGap : List ℕ → List ℕ → ℕ → ℕ → ℕ → Type 0
 IsBoundGap bounds others r known wanted =
-    (slice_get bounds r ≡ Some known) × (slice_get others r ≡ Some wanted) × (wanted < known)
+    (first_greater bounds others ≡ Some r) × (slice_get bounds r ≡ Some known) × (slice_get others r ≡ Some wanted) × (wanted < known)
 
--- what the first row does not say of what the second does
+-- what the first row does not say of what the second does: first of a packet register, then of a group, then of a number
 abbrev pub IsGap : Row → Row → Gap → Type 0
 IsGap a b gap.Dead = (a.live && b.live) ≡ false
-IsGap a b (gap.Packet p known wanted) = IsFactGap a.facts b.facts p known wanted
-IsGap a b (gap.Group g p known wanted) = IsGroupGap a.facts b.facts g p known wanted
-IsGap a b (gap.Number r known wanted) = IsBoundGap a.bounds b.bounds r known wanted
+IsGap a b (gap.Packet p known wanted) = ((a.live && b.live) ≡ true) × IsFactGap a.facts b.facts p known wanted
+IsGap a b (gap.Group g p known wanted) =
+    ((a.live && b.live) ≡ true) × (first_weaker a.facts b.facts ≡ None) × IsGroupGap a.facts b.facts g p known wanted
+IsGap a b (gap.Number r known wanted) =
+    ((a.live && b.live) ≡ true) × (first_weaker a.facts b.facts ≡ None) × (keeps_groups a.facts b.facts ≡ true) × IsBoundGap a.bounds b.bounds r known wanted
 
 -- ---- words of facts
 
@@ -167,7 +192,7 @@ Says q label i row (NoPort r known ports) =
 Says q label i row (LessThanRing p ring known wanted) =
     AsksAtRing i p ring × (slice_get row.facts p ≡ Some known) × (fact_of_ring q.env.rings ring ≡ Some wanted)
     × (entails_fact known wanted ≡ false)
-Says q label i row (LeftOver p known) = (i ≡ Exit) × (slice_get row.facts p ≡ Some known) × (is_empty known ≡ false)
+Says q label i row (LeftOver p known) = (i ≡ Exit) × (first_held row.facts ≡ Some p) × (slice_get row.facts p ≡ Some known) × (is_empty known ≡ false)
 Says q label i row (Successor to gap) = IsUnmet q.rows (leads q.env label row i) (Successor to gap)
 Says q label i row _ = ⊥
 

@@ -5,15 +5,16 @@ ghost use Rattle.std.proofs.Math.Bool.{beq};
 ghost use Rattle.dp_model.specs.Groups.{at_each_index, group_of, is_in, keeps_groups, same_registers};
 ghost use Rattle.dp_model.specs.Rows.{entails, entails_fact};
 ghost use Rattle.std.specs.Option.{option_map_or};
-ghost use Rattle.dp_check.specs.Diagnoses.{Is, IsGap, SomeOf};
+ghost use Rattle.dp_check.specs.Diagnoses.{Is, IsGap, SomeOf, first_weaker, first_outside, first_greater};
 
 use crate::entailing::fact_entails;
 use crate::reason::Gap;
 use dp_model::{Fact, NumberRegister, PacketRegister, Row};
 
 /// The first register of which the first facts do not say all that the second do.
-#[tactic(auto, using(dp_model::specs::Laws::Lists::each_index_drop))]
+#[tactic(auto, using(dp_model::specs::Laws::Lists::each_index_drop, crate::proofs::GapLemmas::failing_drop))]
 fn fact_gap(facts: &[Fact; 8], others: &[Fact; 8]) -> Option<PacketRegister>
+    ensures first { result ≡ first_weaker facts.now others.now }
     ensures none { IfNone result (at_each_index entails_fact facts.now others.now ≡ true) }
     ensures some { IfSome result (λ p. Is (slice_get facts.now p) (λ known. Is (slice_get others.now p) (λ wanted. entails_fact known wanted ≡ false))) }
 {
@@ -26,8 +27,9 @@ fn fact_gap(facts: &[Fact; 8], others: &[Fact; 8]) -> Option<PacketRegister>
 }
 
 /// The first register that belongs to the group in one of the two alone.
-#[tactic(auto, using(dp_model::specs::Laws::Lists::each_index_drop))]
+#[tactic(auto, using(dp_model::specs::Laws::Lists::each_index_drop, crate::proofs::GapLemmas::failing_drop))]
 fn member_gap(facts: &[Fact; 8], others: &[Fact; 8], group: u8) -> Option<PacketRegister>
+    ensures first { result ≡ first_outside group facts.now others.now }
     ensures none { IfNone result (same_registers facts.now others.now group ≡ true) }
     ensures some { IfSome result (λ p. Is (slice_get facts.now p) (λ known.
         Is (slice_get others.now p) (λ wanted. beq (is_in group known) (is_in group wanted) ≡ false))) }
@@ -41,8 +43,9 @@ fn member_gap(facts: &[Fact; 8], others: &[Fact; 8], group: u8) -> Option<Packet
 }
 
 /// The first number that the first bounds let be greater than the second.
-#[tactic(auto, using(dp_model::specs::Laws::Lists::each_index_drop))]
+#[tactic(auto, using(dp_model::specs::Laws::Lists::each_index_drop, crate::proofs::GapLemmas::failing_drop))]
 fn bound_gap(bounds: &[u64; 8], others: &[u64; 8]) -> Option<NumberRegister>
+    ensures first { result ≡ first_greater bounds.now others.now }
     ensures none { IfNone result (at_each_index nat_le bounds.now others.now ≡ true) }
     ensures some { IfSome result (λ r. Is (slice_get bounds.now r) (λ known. Is (slice_get others.now r) (λ wanted. wanted < known))) }
 {
@@ -64,6 +67,7 @@ fn group_of_gap(
     ensures none { IfNone result (Is (slice_get others.now member) (λ other. option_map_or (same_registers facts.now others.now) (group_of other) true
         ≡ true)) }
     ensures group { IfSome result (λ found. SomeOf (λ other. group_of other ≡ Some found.0) others.now) }
+    ensures first { IfSome result (λ found. first_outside found.0 facts.now others.now ≡ Some found.1) }
     ensures some { IfSome result (λ found. Is (slice_get facts.now found.1)
         (λ known. Is (slice_get others.now found.1) (λ wanted. beq (is_in found.0 known) (is_in found.0 wanted) ≡ false))) }
 {
@@ -76,6 +80,7 @@ fn group_of_gap(
 fn groups_gap(facts: &[Fact; 8], others: &[Fact; 8]) -> Option<(u8, PacketRegister)>
     ensures none { IfNone result (keeps_groups facts.now others.now ≡ true) }
     ensures group { IfSome result (λ found. SomeOf (λ other. group_of other ≡ Some found.0) others.now) }
+    ensures first { IfSome result (λ found. first_outside found.0 facts.now others.now ≡ Some found.1) }
     ensures some { IfSome result (λ found. Is (slice_get facts.now found.1)
         (λ known. Is (slice_get others.now found.1) (λ wanted. beq (is_in found.0 known) (is_in found.0 wanted) ≡ false))) }
 {

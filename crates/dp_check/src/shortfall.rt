@@ -5,7 +5,7 @@ ghost use Rattle.std.specs.List.{list_all};
 ghost use Rattle.dp_model.specs.declared.rule.Rule.TheVariants.{J3, J5, J6, J7, J8, J9, J10};
 ghost use Rattle.dp_model.specs.Rows.{entails_share, is_empty};
 ghost use Rattle.dp_model.specs.Rules.{Question, indices_exist, is_held, uses, targets_fit, bytes_fit, share_fits, segments_fit, may_leave, may_end};
-ghost use Rattle.dp_check.specs.Diagnoses.{Is, Says, SomeOf, measured, measured_at, rule_of, segs_in, share_in};
+ghost use Rattle.dp_check.specs.Diagnoses.{Is, Says, SomeOf, first_held, measured, measured_at, rule_of, segs_in, share_in};
 
 use crate::entailing::{fact_entails, share_entails};
 use crate::reason::Measure::{self, First, Headroom, Last, Tailroom};
@@ -328,8 +328,9 @@ pub(crate) fn unfit_exit(env: &Env, row: &Row, instr: Instr) -> Option<Reason>
 }
 
 /// The first register that holds a packet.
-#[tactic(auto, using(crate::proofs::GapLemmas::all_drop))]
+#[tactic(auto, using(crate::proofs::GapLemmas::all_drop, crate::proofs::GapLemmas::found_drop))]
 fn first_held(facts: &[Fact; 8]) -> Option<PacketRegister>
+    ensures first { result ≡ first_held facts.now }
     ensures none { IfNone result (list_all is_empty facts.now ≡ true) }
     ensures some { IfSome result (λ p. list_all is_empty facts.now ≡ false) }
     ensures held { IfSome result (λ p. Is (slice_get facts.now p) (λ fact. is_empty fact ≡ false)) }
