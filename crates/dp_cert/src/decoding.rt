@@ -153,10 +153,8 @@ fn read(alloc: Global, text: &[u8], n: usize) -> Result<Cert, CertError>
             cause: Cause::BadHead,
         }));
     };
-    match read_rows(alloc, version, n, &text[11..]) {
-        Ok(rows) => Ok(Cert::of_version(version, rows)),
-        Err(error) => Err(error),
-    }
+    let rows = read_rows(alloc, version, n, &text[11..])?;
+    Ok(Cert::of_version(version, rows))
 }
 
 /// The certificate that a text spells, with `n` rows, or the first fault of the text.
