@@ -1,13 +1,10 @@
 -- The number of decimal digits, digit by digit.
-use Rattle.std.proofs.Common.{◌≡◌, ℕ, ◌+◌, ◌-◌, ◌*◌, ◌^◌, ◌<◌, ◌≤◌, true, List, [], ◌∷◌, length, get_or, drop, zero, suc, refl, arith}
+use Rattle.std.proofs.Common.{◌≡◌, ℕ, ◌^◌, ◌<◌, ◌≤◌, true, List, [], ◌∷◌, length, get_or, zero, suc, arith}
 use Rattle.std.specs.Char.{is_ascii_digit}
 use Rattle.std.specs.List.{list_all}
 use Rattle.std.proofs.lemmas.Bool.{and_parts}
 use Rattle.std.proofs.lemmas.Bool.Decides.{nat_tests}
-use Rattle.std.proofs.lemmas.Grind.{pow_more}
-use Rattle.std.proofs.lemmas.List.{drop_more}
 use Rattle.std.proofs.Math.Nat.{pow-le-pow_right}
-use Rattle.dp_pipe.specs.Routes.{decimal_after}
 
 digit_range : (d : ℕ) → is_ascii_digit d ≡ true → (48 ≤ d) × (d ≤ 57)
 digit_range d h = grind (arith, nat_tests)
@@ -16,14 +13,6 @@ pub digit_at : (ds : List ℕ) (i : ℕ) → i < length ds → list_all is_ascii
 digit_at [] i lt h = absurd (omega arith)
 digit_at (d ∷ ds) zero lt h = digit_range d ((and_parts (is_ascii_digit d) (list_all is_ascii_digit ds) h).0)
 digit_at (d ∷ ds) (suc i) lt h = digit_at ds i (omega arith) ((and_parts (is_ascii_digit d) (list_all is_ascii_digit ds) h).1)
-
-pub one_more : (ds : List ℕ) (i value : ℕ) → i < length ds → decimal_after value (drop i ds)
-    ≡ decimal_after (value * 10 + (get_or ds i 0 - 48)) (drop (i + 1) ds)
-one_more ds i value lt = rw (drop_more ds i 0 lt) refl
-
--- a digit more makes at most ten times so much
-pub grows : (value i d : ℕ) → value < 10 ^ i → d ≤ 9 → value * 10 + d < 10 ^ (i + 1)
-grows value i d below small = omega (arith, pow_more 10 i)
 
 -- seven digits make less than 10,000,000
 pub stays_small : (value i : ℕ) → value < 10 ^ i → i ≤ 7 → value < 10000000

@@ -1,5 +1,5 @@
 -- One more table of an array, in a loop that reads them.
-use Rattle.std.proofs.Common.{◌≡◌, ℕ, ◌+◌, ◌<◌, ◌≤◌, List, [], ◌∷◌, ◌++◌, length, get_or, drop, Option, Some, None, Result, Ok, Err, refl, sym, ap, ◌∙◌}
+use Rattle.std.proofs.Common.{◌≡◌, ℕ, ◌+◌, ◌<◌, ◌≤◌, List, [], ◌∷◌, ◌++◌, length, get_or, drop, Option, Some, Result, Ok, Err, refl, sym, ap, ◌∙◌}
 use Rattle.std.proofs.Common.{append_assoc, arith}
 use Rattle.std.specs.Option.{option_and_then}
 use Rattle.std.proofs.lemmas.List.{append-nil, drop_more, length-drop}
@@ -15,10 +15,6 @@ abbrev pub prepend : {A E : Type 0} → List A → Result (List A) E → Result 
 prepend front (Ok xs) = Ok (front ++ xs)
 prepend front (Err e) = Err e
 
-pub prepend_none : {A E : Type 0} (read : Result (List A) E) → prepend [] read ≡ read
-prepend_none (Ok xs) = refl
-prepend_none (Err e) = refl
-
 regroup : {A E : Type 0} (front : List A) (x : A) (read : Result (List A) E) → prepend front (and_then read (λ xs. Ok (x ∷ xs)))
     ≡ prepend (front ++ x ∷ []) read
 regroup {A = A} front x (Ok xs) = ap (λ (ys : List A). Ok ys) (sym (append_assoc front (x ∷ []) xs))
@@ -32,13 +28,6 @@ goes_on kind read vs i v front x total lt here e so_far =
     let one : prepend front (each kind read i (values (drop i vs))) ≡ prepend (front ++ x ∷ []) (each kind read (i + 1) (values (drop (i + 1) vs))) =
     rw (drop_more vs i v lt, here, e) (regroup front x (each kind read (i + 1) (values (drop (i + 1) vs)))) in
     sym one ∙ so_far
-
-pub stops : {A : Type 0} (kind : Part) (read : Members → Option A) (vs : List Value) (i : ℕ) (v : Value) (front : List A) (total : Result (List A) Bad)
-    → i < length vs → get_or vs i v ≡ v → option_and_then read (as_table (view v)) ≡ None
-    → prepend front (each kind read i (values (drop i vs))) ≡ total → total ≡ Err (kind, i)
-stops kind read vs i v front total lt here e so_far =
-    let one : prepend front (each kind read i (values (drop i vs))) ≡ Err (kind, i) = rw (drop_more vs i v lt, here, e) refl in
-    sym so_far ∙ one
 
 all_over : {A : Type 0} (kind : Part) (read : Members → Option A) (vs : List Value) (i : ℕ) (front : List A) → length vs ≡ 0 →
     prepend front (each kind read i (values vs)) ≡ Ok front

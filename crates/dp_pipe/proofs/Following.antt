@@ -10,7 +10,7 @@ use Rattle.dp_pcap.specs.declared.source.Next.TheVariants as next
 use Rattle.dp_engine.specs.declared.report.InputState.{InputState}
 use Rattle.dp_engine.specs.declared.report.InputState.TheVariants.{Open, Whole, Cut}
 use Rattle.dp_engine.specs.Engines.{EngineState}
-use Rattle.dp_pipe.specs.declared.forwarding.RunCause.TheVariants.{In, Out}
+use Rattle.dp_pipe.specs.declared.forwarding.RunCause.TheVariants.{Out}
 use Rattle.dp_pipe.specs.Forwarding.{Follows, DrainedAll, DrainsStopped}
 
 pub follows_drained : (port : ℕ) (unit : TimeUnit) (e e' : EngineState) (state : InputState) (held holds : List (Option (List ℕ))) (r : Result Next PcapError)
@@ -30,10 +30,6 @@ follows_end port unit e held r is = rw is (refl, refl, refl, refl)
 pub follows_cut : (port : ℕ) (unit : TimeUnit) (e : EngineState) (held : List (Option (List ℕ))) (r : Result Next PcapError) (byte : ℕ) →
     r ≡ Ok (next.Cut byte) → Follows port unit e e (Cut byte) held held r (Ok tt)
 follows_cut port unit e held r byte is = rw is (refl, refl, refl, refl)
-
-pub follows_error : (port : ℕ) (unit : TimeUnit) (e : EngineState) (state : InputState) (held : List (Option (List ℕ))) (r : Result Next PcapError)
-    (error : PcapError) → r ≡ Err error → state ≡ Open → Follows port unit e e state held held r (Err (In port error))
-follows_error port unit e state held r error is goes = rw is (goes, refl, refl, refl)
 
 pub drained_ok : {A E : Type 0} (r : Result A E) {x : A} (P : Type 0) → r ≡ Ok x → OnOk r P → P
 drained_ok r P is h = rw is at h

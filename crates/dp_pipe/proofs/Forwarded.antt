@@ -1,9 +1,8 @@
 -- The drains of all ports, one after the other.
-use Rattle.std.proofs.Common.{◌≡◌, ◌≢◌, ℕ, zero, suc, ◌+◌, ◌<◌, Bool, true, false, List, [], ◌∷◌, length, map, Option, Some, None, refl, sym, ◌∙◌}
-use Rattle.std.proofs.Common.{ap, subst, arith, append-nil, ◌⊎◌, inl, inr}
+use Rattle.std.proofs.Common.{◌≡◌, ◌≢◌, ℕ, zero, suc, ◌+◌, ◌<◌, Bool, true, false, List, [], ◌∷◌, length, map, Option, Some, refl, sym, ◌∙◌}
+use Rattle.std.proofs.Common.{ap, subst, arith, ◌⊎◌, inl, inr}
 use Rattle.std.specs.Prelude.{slice_get, slice_set, nat_lt, flat_map, option_map, if◌then◌else◌, Result, Ok, Err, IfOk, IfErr, is_err}
 use Rattle.std.specs.Io.KnownBytes.{Appends}
-use Rattle.std.specs.List.{AllByRecursion}
 use Rattle.std.specs.Option.{option_map_or}
 use Rattle.std.proofs.lemmas.Bool.{lt-ltb, le-ltb, ltb-true, ltb-false}
 use Rattle.std.proofs.lemmas.List.{length-map, length-set}
@@ -79,26 +78,6 @@ pub tallies_same : (tallies : List Tallies) (n : ℕ) (t : Tallies) → n < leng
 tallies_same [] n t lt = absurd (omega (arith, lt))
 tallies_same (x ∷ tallies) zero t lt = refl
 tallies_same (x ∷ tallies) (suc n) t lt = tallies_same tallies n t (omega (arith, lt))
-
--- before the first drain
-pub drained_none : (unit : TimeUnit) (time : Time) (e : EngineState) (held : List (Option (List ℕ))) → DrainedFirst 0 unit time e e held held
-drained_none unit time e held = record {
-  wrote = λ q old new a b. rw (none_below q) (appends_same old new (same_Some old new (sym a ∙ b)));
-  is = refl;
-  each = refl;
-  tallies = λ q lt. rw (none_below q) (add_none (tallies_at e.tallies q));
-}
-  where
-    none_below : (q : ℕ) → nat_lt q 0 ≡ false
-    none_below q = le-ltb q 0 (omega arith)
-
-    appends_same : (a b : Option (List ℕ)) → a ≡ b → Appends a b []
-    appends_same None b e = tt
-    appends_same (Some a) None e = cc
-    appends_same (Some a) (Some b) e = sym (same_Some a b e) ∙ sym (append-nil a)
-
-    add_none : (t : Tallies) → t ≡ record t { sent = t.sent + 0 }
-    add_none t = ap (λ n. record t { sent = n }) (omega arith)
 
 -- what the drain of a port adds to those before it
 pub record DrainsNext (n : ℕ) (unit : TimeUnit) (time : Time) (e1 e2 : EngineState) (mids holds : List (Option (List ℕ))) : Type 0 where
@@ -184,11 +163,6 @@ map_here f xs n x y here = slice_get-map f (slice_set xs n x) n ∙ ap (option_m
 
 pub map_at : {A B : Type 0} (f : A → B) (xs : List A) (n : ℕ) (y : A) → slice_get xs n ≡ Some y → slice_get (map f xs) n ≡ Some (f y)
 map_at f xs n y here = slice_get-map f xs n ∙ ap (option_map f) here
-
-pub all_set : {A : Type 0} (P : A → Type 0) (xs : List A) (i : ℕ) (x : A) → AllByRecursion P xs → P x → AllByRecursion P (slice_set xs i x)
-all_set P [] i x all is = tt
-all_set P (y ∷ xs) zero x (first, rest) is = (is, rest)
-all_set P (y ∷ xs) (suc i) x (first, rest) is = (first, all_set P xs i x rest is)
 
 pub ok_some : {A E : Type 0} (r : Result A E) (P : A → Type 0) → false ≡ is_err r → IfOk r P → (x : A) × (r ≡ Ok x) × P x
 ok_some (Ok x) P e h = (x, refl, h)

@@ -1,5 +1,5 @@
 -- What is loaded, and why it is not, from the parts that were read.
-use Rattle.std.proofs.Common.{◌≡◌, ℕ, suc, ◌+◌, ◌≤◌, ◌⊎◌, inl, inr, List, [], ◌∷◌, ◌++◌, length, take, drop, Option, None, Some, refl, sym, subst, arith}
+use Rattle.std.proofs.Common.{◌≡◌, ℕ, suc, ◌+◌, ◌≤◌, List, [], ◌∷◌, ◌++◌, length, take, drop, Option, None, Some, refl, sym, subst, arith}
 use Rattle.std.proofs.Common.{length-append}
 use Rattle.std.specs.Prelude.{slice_get, Result, Ok, Err, IfOk}
 use Rattle.std.proofs.lemmas.List.{take_all}
@@ -12,51 +12,19 @@ use Rattle.dp_cert.specs.Spelling.{Certificate, certificate_of}
 use Rattle.dp_check.specs.Faults.{question, IsWith, IsChecked}
 use Rattle.dp_infer.specs.Inference.{SaysMost}
 use Rattle.dp_pipe.specs.declared.error.PipeError.{PipeError}
-use Rattle.dp_pipe.specs.declared.error.PipeError.TheVariants.{Memory}
 use Rattle.dp_pipe.specs.declared.nodes.How.{How}
 use Rattle.dp_pipe.specs.Setup.{NodeFiles}
 use Rattle.dp_pipe.specs.Files.{FileMap}
-use Rattle.dp_pipe.specs.Nodes.{Node, numbered, nodes_of, IsProgramOf, IsCertOf, HasCert, IsLoaded, IsMissing, IsBadCert, IsRefusedBy, IsWithoutCert}
-use Rattle.dp_pipe.specs.Nodes.{HasNoProgram, HasNoCert, Fails, AreLoaded, FailsAtFirst}
+use Rattle.dp_pipe.specs.Nodes.{Node, numbered, nodes_of, IsProgramOf, IsCertOf, HasCert, IsLoaded}
+use Rattle.dp_pipe.specs.Nodes.{Fails, AreLoaded, FailsAtFirst}
 use Rattle.dp_pipe.proofs.Indices.{taken_more, parted, zipped_more, length-numbered}
 
 -- ---- one node
-
-pub program_fails : (known : Option FileMap) (env : Environment) (node : Node) (e : PipeError) → (e ≡ Memory) ⊎ HasNoProgram known node.entry node.program e →
-    Fails known env node e
-program_fails known env node e h = elim h [ inl memory ↦ inl memory | inr none ↦ inr (inl none) ]
 
 -- what is checked with the certificate that its file spells has this one
 pub spelled_cert : (known : Option FileMap) (name : List ℕ) (program : List Instr) (cert : Certificate) (env : Environment) (entry : Entry) (q : Question) →
     q ≡ question program cert env entry → IsCertOf known name (length program) cert → HasCert known (Some name) q
 spelled_cert known name program cert env entry q is spelled = subst (HasCert known (Some name)) (sym is) (cert, refl, spelled)
-
-pub given_loaded : (known later : Option FileMap) (env : Environment) (node : Node) (program : List Instr) (name : List ℕ) (q : Question)
-    → later ≡ known → IsProgramOf known node.program program → Some name ≡ node.cert
-    → q.env ≡ env → q.entry ≡ node.entry → q.program ≡ program → IsChecked q → HasCert later (Some name) q → IsLoaded known env node q
-given_loaded known later env node program name q stays reads is e n p checked cert = record {
-  env_is = e;
-  entry_is = n;
-  checked = checked;
-  program = subst (λ (x : List Instr). IsProgramOf known node.program x) (sym p) reads;
-  cert = subst (λ (c : Option (List ℕ)). HasCert known c q) is (subst (λ (k : Option FileMap). HasCert k (Some name) q) stays cert);
-}
-
-abbrev GivenFails : Option FileMap → Environment → Entry → List ℕ → List Instr → PipeError → Type 0
-GivenFails known env entry name program e =
-    IsMissing known entry name e ⊎ IsBadCert known entry name (length program) e ⊎ IsRefusedBy known env entry name program e
-
-pub given_fails : (known later : Option FileMap) (env : Environment) (node : Node) (program : List Instr) (name : List ℕ) (e : PipeError)
-    → later ≡ known → IsProgramOf known node.program program → Some name ≡ node.cert
-    → (e ≡ Memory) ⊎ (IsMissing later node.entry name e ⊎ IsBadCert later node.entry name (length program) e
-    ⊎ IsRefusedBy later env node.entry name program e) → Fails known env node e
-given_fails known later env node program name e stays reads is h =
-    elim h [
-      | inl memory ↦ inl memory
-      | inr fails ↦
-          let here : GivenFails known env node.entry name program e = subst (λ (k : Option FileMap). GivenFails k env node.entry name program e) stays fails in
-          inr (inr (program, reads, subst (λ (c : Option (List ℕ)). HasNoCert known env node.entry c program e) is here))
-    ]
 
 most_of : (program : List Instr) (env : Environment) (entry : Entry) (q : Question) → q.env ≡ env → q.entry ≡ entry → q.program ≡ program →
     SaysMost program env entry q.rows → SaysMost q.program q.env q.entry q.rows
@@ -84,14 +52,6 @@ pub all_loaded : (known : Option FileMap) (env : Environment) (node : Node) (pro
     → IfOk result (IsLoaded known env node)
 all_loaded known env node program (Ok q) reads is e n p checked same most = inferred_loaded known env node program q reads is e n p checked same most
 all_loaded known env node program (Err fault) reads is e n p checked same most = tt
-
-pub inferred_fails : (known : Option FileMap) (env : Environment) (node : Node) (program : List Instr) (e : PipeError)
-    → IsProgramOf known node.program program → None ≡ node.cert → (e ≡ Memory) ⊎ IsWithoutCert env node.entry program e → Fails known env node e
-inferred_fails known env node program e reads is h =
-    elim h [
-      | inl memory ↦ inl memory
-      | inr none ↦ inr (inr (program, reads, subst (λ (c : Option (List ℕ)). HasNoCert known env node.entry c program e) is none))
-    ]
 
 -- ---- all nodes
 

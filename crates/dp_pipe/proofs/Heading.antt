@@ -64,9 +64,6 @@ answers_at f [] (suc q) a e = absurd (no_place f (suc q) a e)
 answers_at f (x ∷ xs) zero a e = (x, refl, sym (same_Some _ _ e))
 answers_at f (x ∷ xs) (suc q) a e = answers_at f xs q a e
 
-pub changed_none : {W : Type 0} (R : W → W → Type 0) (olds : List W) → Changed R 0 olds olds
-changed_none R olds = record { many = refl; done = λ q w w' l e e'. absurd (omega (arith, l)); rest = λ q l. refl }
-
 -- one more
 pub changed_more : {W : Type 0} (R : W → W → Type 0) (n : ℕ) (olds news : List W) (w w' : W) → Changed R n olds news
     → slice_get news n ≡ Some w → R w w' → Changed R (n + 1) olds (slice_set news n w')
@@ -188,16 +185,6 @@ get_front (z ∷ xs) y (suc q) x e = go (get_front xs y q x e)
 pub each_more : {A : Type 0} (P : A → Type 0) (xs : List A) (y : A) → AllByRecursion P xs → P y → AllByRecursion P (xs ++ y ∷ [])
 each_more P [] y all is = (is, tt)
 each_more P (x ∷ xs) y (first, all) is = (first, each_more P xs y all is)
-
--- no header was read yet
-pub read_none : {R : Type 0} (remaining : R → Option (List ℕ)) (failures : R → ℕ) (is_broken : R → Bool) (olds : List R) →
-    ReadFirst remaining failures is_broken 0 olds olds []
-read_none remaining failures is_broken olds = record {
-  changed = changed_none _ olds;
-  many = refl;
-  begun = tt;
-  read = λ q p r r' at here there. absurd (no_place {W = Progress} (λ (z : Progress). z) q p at);
-}
 
 -- one header more
 pub read_more : {R : Type 0} (remaining : R → Option (List ℕ)) (failures : R → ℕ) (is_broken : R →

@@ -3,8 +3,6 @@ pub mod Digits
 pub mod Each
 pub mod Elements
 pub mod Environments
-pub mod Failing
-pub mod Fetching
 pub mod Gathered
 pub mod Loaded
 pub mod Named

@@ -1,7 +1,7 @@
 -- Where all rounds of a run begin, and what stays of an engine behind them.
 use Rattle.std.proofs.Common.{◌≡◌, ◌⊎◌, inl, inr, ℕ, zero, suc, ◌+◌, List, [], ◌∷◌, ◌++◌, Option, Some, Result, Ok, Err, length, map, take}
 use Rattle.std.proofs.Common.{replicate, refl, ap, sym, ◌∙◌, subst, arith, zero-add}
-use Rattle.std.specs.Prelude.{slice_get, ⊤, IfErr}
+use Rattle.std.specs.Prelude.{slice_get, ⊤}
 use Rattle.std.specs.List.{AllByRecursion}
 use Rattle.std.specs.Io.KnownBytes.{Keeps}
 use Rattle.std.proofs.lemmas.Option.{same_Some}
@@ -14,14 +14,12 @@ use Rattle.dp_engine.specs.declared.report.Tallies.{Tallies}
 use Rattle.std.proofs.lemmas.Bool.{le-ltb}
 use Rattle.std.proofs.KnownBytes.{Appends-nil, Keeps-refl}
 use Rattle.dp_model.specs.Laws.Lists.{each_at}
-use Rattle.dp_engine.specs.declared.report.Report.{Report}
-use Rattle.dp_pipe.specs.declared.running.RunFault.{RunFault}
 use Rattle.dp_pipe.specs.declared.forwarding.Progress.{Progress}
 use Rattle.dp_pipe.specs.declared.forwarding.RunCause.{RunCause}
 use Rattle.dp_pipe.specs.declared.forwarding.RunCause.TheVariants.{Memory, NoRoom, In, Out}
 use Rattle.dp_pipe.specs.Forwarding.{Input, AllStand, asked, Along, HasRun, AreRounds, FailedAt, arrivals_of}
 use Rattle.dp_pipe.specs.Forwarding.{records_in, records_many, capture_at, tally_of, AreRead, unit_for, units_of}
-use Rattle.dp_pipe.specs.Running.{all_begun, begun, IsBegun, GoesForward, answer_of, HeadersFail, IsHeaderCause, IsWriteCause}
+use Rattle.dp_pipe.specs.Running.{all_begun, begun, IsBegun, GoesForward, HeadersFail, IsHeaderCause, IsWriteCause}
 use Rattle.dp_pipe.proofs.Heading.{answers_at}
 
 -- ---- before the first round
@@ -162,8 +160,3 @@ not_before e e' olds news held holds progress (In port error) went (inl why) = c
 not_before e e' olds news held holds progress (In port error) went (inr why) = cc
 not_before e e' olds news held holds progress (Out port) went (inl why) = cc
 not_before e e' olds news held holds progress (Out port) went (inr why) = cc
-
-pub unless_before : (X : Type 0) (e e' : EngineState) (olds news held holds : List (Option (List ℕ))) (progress : List Progress) (r : Result Report RunFault)
-    → GoesForward e e' olds news held holds progress (answer_of r) → IfErr r (λ (f : RunFault). (f.cause ≡ Memory) ⊎ (f.cause ≡ NoRoom) → X)
-unless_before X e e' olds news held holds progress (Ok report) went = tt
-unless_before X e e' olds news held holds progress (Err fault) went = λ why. absurd (not_before e e' olds news held holds progress fault.cause went why)

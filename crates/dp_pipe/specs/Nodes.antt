@@ -1,5 +1,5 @@
 -- What is loaded for the nodes of a pipeline.
-use Rattle.std.specs.Prelude.{◌≡◌, ℕ, ◌+◌, ◌⊎◌, List, [], ◌∷◌, ◌++◌, length, Option, Some, None, Result, Ok, Err}
+use Rattle.std.specs.Prelude.{◌≡◌, ℕ, ◌+◌, ◌⊎◌, List, [], ◌∷◌, ◌++◌, length, Option, Some, None, Ok, Err}
 use Rattle.std.specs.List.{AllZip}
 use Rattle.dp_model.specs.declared.instr.Instr.{Instr}
 use Rattle.dp_model.specs.declared.env.Entry.{Entry}
@@ -131,11 +131,6 @@ Fails known env node e =
     (e ≡ errors.Memory) ⊎ HasNoProgram known node.entry node.program e
     ⊎ ((program : List Instr) × IsProgramOf known node.program program × HasNoCert known env node.entry node.cert program e)
 
--- what the loading of a node answers
-abbrev pub NodeAnswers : Option FileMap → Environment → Node → Result Question PipeError → Type 0
-NodeAnswers known env node (Ok q) = IsLoaded known env node q
-NodeAnswers known env node (Err e) = Fails known env node e
-
 -- ---- all nodes
 
 -- all nodes are loaded, each at its index
@@ -151,8 +146,3 @@ pub record FailsAtFirst (known : Option FileMap) (env : Environment) (nodes : Li
   pub loaded : List Question
   pub earlier : AreLoaded known env before loaded
   pub fails : Fails known env node e
-
--- what the loading of all nodes answers
-abbrev pub NodesAnswer : Option FileMap → Environment → List Node → Result (List Question) PipeError → Type 0
-NodesAnswer known env nodes (Ok loaded) = AreLoaded known env nodes loaded
-NodesAnswer known env nodes (Err e) = (e ≡ errors.Memory) ⊎ FailsAtFirst known env nodes e
