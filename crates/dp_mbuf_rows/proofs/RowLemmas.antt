@@ -2,19 +2,15 @@
 use Rattle.std.proofs.Common.{◌≡◌, ℕ, zero, suc, ◌+◌, ◌<◌, ◌≤◌, false, List, [], ◌∷◌, length, Option, Some, None, refl, sym, ◌∙◌, ap, subst, arith, get_or}
 use Rattle.std.specs.Prelude.{replicate, slice_get, slice_set}
 use Rattle.std.proofs.lemmas.Option.{none-some}
-use Rattle.std.specs.List.{AllByRecursion}
 use Rattle.dp_model.specs.Environments.{room_at}
 use Rattle.dp_model.specs.Buffers.{Number, Buffers, ChangesOnly}
 use Rattle.dp_model.specs.Packets.{Segment, Packet, refs, IsTailSole, IsHeadSole, allocated, needed, received, Filled, cloned}
-use Rattle.dp_model.specs.Stores.{Store, HasSome, IsLive, Of, with_slot, Gives, Allocates, ReceivesInto, Clones, Chains}
+use Rattle.dp_model.specs.Stores.{Store, IsLive, with_slot, Gives, Allocates, ReceivesInto, Clones, Chains}
 use Rattle.dp_region.specs.Ownership.{Home}
 use Rattle.dp_pool.specs.Pools.{PoolView}
-use Rattle.dp_mbuf.specs.Objects.{present, PoolsFirst, pool_in, zones_of}
-use Rattle.dp_mbuf.specs.Mbufs.{MbufsView, AreReady, IsNew, AreBack}
-use Rattle.dp_mbuf_rows.specs.Rows.{IsOver, AreIn, SlotIn, IsReadyPool}
-
-pub has_some : (v : Store) (h : ℕ) (P Q : Packet → Type 0) → IsLive v h → Of v h P → ((k : Packet) → P k → Q k) → HasSome v h Q
-has_some v h P Q live of f = (live.0, live.1, f live.0 (of live.0 live.1))
+use Rattle.dp_mbuf.specs.Objects.{pool_in}
+use Rattle.dp_mbuf.specs.Mbufs.{MbufsView, AreReady, IsNew}
+use Rattle.dp_mbuf_rows.specs.Rows.{IsOver, AreIn, IsReadyPool}
 
 pub over_kept : (s s' : Store) → s'.pools ≡ s.pools → IsOver s → IsOver s'
 over_kept s s' e o = record {
@@ -92,19 +88,6 @@ new_over a b c v m n x y ha hb ra rb lx ly new = record {
 pub new_in : (a b c : PoolView) (v : MbufsView) (m n o x y z : ℕ) (ha hb hc home : Home) → IsReadyPool m x ha a → IsReadyPool n y hb b →
     IsReadyPool o z hc c → ha ≡ home → hb ≡ home → hc ≡ home → IsNew (three_of a b c) v → AreIn home v.zones
 new_in a b c v m n o x y z ha hb hc home ra rb rc ea eb ec new = subst (AreIn home) (sym new.zones) (ra.home ∙ ea, (rb.home ∙ eb, (rc.home ∙ ec, tt)))
-
--- the pools that come back stand where they stood
-pub slots_in : (home : Home) (pools : List (Option PoolView)) → PoolsFirst pools → AreIn home (zones_of (present pools)) → AllByRecursion (SlotIn home) pools
-slots_in home [] f h = tt
-slots_in home (None ∷ pools) f h = (tt, none_in pools f)
-  where
-    none_in : (pools : List (Option PoolView)) → AllByRecursion (λ o. o ≡ None) pools → AllByRecursion (SlotIn home) pools
-    none_in [] all = tt
-    none_in (o ∷ pools) all = (subst (SlotIn home) (sym all.0) tt, none_in pools all.1)
-slots_in home (Some p ∷ pools) f h = (h.0, slots_in home pools f.1 h.1)
-
-pub back_in : (home : Home) (v : MbufsView) (pools : List (Option PoolView)) → AreIn home v.zones → AreBack v pools → AllByRecursion (SlotIn home) pools
-back_in home v pools h back = slots_in home pools back.first (subst (AreIn home) (sym back.zones) h)
 
 -- ---- the pools stay
 
