@@ -21,8 +21,7 @@ fn zone_bytes(len: u32) -> u64
     requires { len ≤ largest_region }
     ensures { result ≡ zone_bytes len }
 {
-    let line = u64::from(CACHE_LINE);
-    u64::from(HEADER_LEN) + (u64::from(len) + (line - 1)) / line * line
+    u64::from(HEADER_LEN) + u64::from(len).next_multiple_of(u64::from(CACHE_LINE))
 }
 
 /// The least power of two above a number of buffers.
@@ -41,7 +40,7 @@ pub(crate) fn objects_len(spec: PoolSpec) -> u32
     ensures value { result ≡ objects_len spec }
     ensures bound { result ≤ most_objects_len }
 {
-    spec.count * ((spec.room + HEADER_SIZE + (CACHE_LINE - 1)) / CACHE_LINE * CACHE_LINE)
+    spec.count * (spec.room + HEADER_SIZE).next_multiple_of(CACHE_LINE)
 }
 
 // What a pool takes.
