@@ -1,7 +1,7 @@
 -- What a diagnosis says of a program that is refused: what is known, and what the rule wants.
 use Rattle.std.specs.Prelude.{◌≡◌, ◌≢◌, ◌⊎◌, ℕ, ◌+◌, ◌<◌, ◌≤◌, Bool, true, false, not, ◌&&◌, if◌then◌else◌, nat_lt, nat_le, List, [], ◌∷◌, length, replicate}
 use Rattle.std.specs.Prelude.{Option, Some, None, MatchOption, slice_get}
-use Rattle.std.specs.List.{position_from}
+use Rattle.std.specs.List.{find, position_from}
 use Rattle.std.proofs.Math.Bool.{beq}
 use Rattle.std.specs.Option.{option_map_or}
 use Rattle.dp_model.specs.declared.row.Fact.{Fact}
@@ -177,7 +177,7 @@ Says q label i row (NoTable table known) = AsksTable i table × (known ≡ q.env
 Says q label i row (NoRing ring known) = AsksRing i ring × (known ≡ length q.env.rings) × (known ≤ ring)
 Says q label i row (NoInstruction to known) =
     SomeOf (λ lead. lead.to ≡ to) (leads q.env label row i) × (known ≡ length q.program) × (known ≤ to)
-Says q label i row (NotHeld p) = SomeOf (λ used. used ≡ p) (uses i) × (is_held row p ≡ false)
+Says q label i row (NotHeld p) = (find (λ used. not (is_held row used)) (uses i) ≡ Some p) × (is_held row p ≡ false)
 Says q label i row (NotEmpty p known) = AsksEmpty i p × (slice_get row.facts p ≡ Some known) × (is_empty known ≡ false)
 Says q label i row (OneRegister p) = i ≡ Chain p p
 Says q label i row (TooLittle p part known start count) =

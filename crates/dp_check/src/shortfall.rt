@@ -1,6 +1,6 @@
 //! What an instruction wants and does not get, for each rule that fails at it.
 
-ghost use Rattle.std.specs.Prelude.{◌≡◌, ℕ, ◌+◌, ◌<◌, ◌≤◌, true, false, length, IfSome, IfNone, MatchOption, slice_get};
+ghost use Rattle.std.specs.Prelude.{◌≡◌, ℕ, ◌+◌, ◌<◌, ◌≤◌, true, false, not, find, length, IfSome, IfNone, MatchOption, slice_get};
 ghost use Rattle.std.specs.List.{list_all};
 ghost use Rattle.dp_model.specs.declared.rule.Rule.TheVariants.{J3, J5, J6, J7, J8, J9, J10};
 ghost use Rattle.dp_model.specs.Rows.{entails_share, is_empty};
@@ -59,6 +59,7 @@ fn not_held(row: &Row, packet: PacketRegister) -> Option<PacketRegister>
 
 /// A packet register that is used and empty, if there is one.
 pub(crate) fn empty_use(row: &Row, instr: Instr) -> Option<PacketRegister>
+    ensures first { result ≡ find (λ p. not (is_held row.now p)) (uses instr) }
     ensures none { IfNone result (list_all (is_held row.now) (uses instr) ≡ true) }
     ensures some { IfSome result (λ p. (list_all (is_held row.now) (uses instr) ≡ false)
         × SomeOf (λ used. used ≡ p) (uses instr) × (is_held row.now p ≡ false)) }
