@@ -62,6 +62,21 @@ fn a_bound_below_the_next(rt: HostRuntime) -> Result<(), Fail> {
 }
 
 #[test]
+fn a_checked_program_is_kept_alone(rt: HostRuntime) -> Result<(), Fail> {
+    let env = environment(1)?;
+    let cert = inferred(&rt, STRIP, &env)?;
+    match check(program(&rt, STRIP)?, cert, &env, Entry::Port(0)) {
+        Ok(checked) => {
+            let instrs = checked.into_program().into_instrs();
+            assert_eq!(rt; instrs.len(), 6);
+            assert_eq!(rt; instrs.len(), program(&rt, STRIP)?.instrs().len());
+        }
+        Err(_) => assert!(rt; false, "refused"),
+    }
+    Ok(())
+}
+
+#[test]
 fn each_rule_once(rt: HostRuntime) -> Result<(), Fail> {
     let env = environment(64)?;
     let cases = [
