@@ -1,0 +1,270 @@
+#!/usr/bin/env python3
+"""Measures the hosts of examples/live: the engine alone, over DPDK's devices, and over Linux packet sockets, each beside no engine.
+
+Usage: bench/live.py [--library FOLDER] [--seconds N] [alone] [dpdk] [sockets]   (all three, with windows of 2 seconds)
+FOLDER has libdpv.a and dpv.h, as `./dpv library FOLDER` puts them there; by default that is done first.
+  alone    dpv_pass with no device: nanoseconds of processor time and, by perf or valgrind, machine instructions for a frame
+  dpdk     examples/live/dpdk.c over net_null (frames of zeros, nothing is written) and net_pcap (one capture over and over, what is sent is
+           dropped), beside the same host with no engine, and beside a loop as that of DPDK's l2fwd (bench/live/l2fwd.c)
+  sockets  examples/live/af_packet.c between two network namespaces with a sender, beside the same host with no engine
+The same host with no engine is its source over bench/live/none/dpv.h, which hands each frame across. A host is asked for its numbers twice, and
+between them its processor time is taken from /proc, so opening and closing are not in it. Prints a table for each; each figure is the best of
+five windows, all hosts in turn in each round, so that a busy moment meets them alike. Frames a second are those of a second of processor time,
+which a machine that others use makes no less. What cannot be measured here is said.
+"""
+import argparse
+import contextlib
+import os
+import pathlib
+import re
+import shutil
+import signal
+import struct
+import subprocess
+import sys
+import tempfile
+import time
+from collections.abc import Iterator
+from typing import NamedTuple
+
+from timing import TOP, dpdk, instructions
+
+HERE = TOP / "bench/live"
+LIVE = TOP / "examples/live"
+ROUNDS = 5
+SIZES = (60, 1500)
+NO_CARD = ["--no-huge", "--no-pci", "--no-shconf", "--no-telemetry", "-m", "256", "--log-level=1"]
+# A pipeline by its name: its folder, and its file there.
+PIPELINES = {"two ports that cross": (LIVE, "cross.toml"), "examples/ttl": (TOP / "examples/ttl", "ttl.toml"), "examples/router": (TOP / "examples/router", "router.toml")}
+
+
+class Taken(NamedTuple):
+    """What a window shows: nanoseconds of processor time a frame, those of its own and those in the kernel."""
+
+    own: float
+    kernel: float
+
+    @property
+    def frames(self) -> float:
+        """Frames in a second of processor time."""
+        return 1e9 / (self.own + self.kernel)
+
+
+def compiled(source: pathlib.Path, program: pathlib.Path, words: list[str]) -> pathlib.Path:
+    """The program of a C file."""
+    subprocess.run(["cc", "-O2", "-Wno-deprecated-declarations", str(source), "-o", str(program), *words], check=True)
+    return program
+
+
+def over(library: pathlib.Path) -> list[str]:
+    """The words with which a host is compiled over the library."""
+    return [f"-I{library}", f"-L{library}", "-ldpv"]
+
+
+# ---- the engine alone
+
+
+def alone(library: pathlib.Path, folder: pathlib.Path) -> None:
+    """The table of dpv_pass with no device."""
+    program = str(compiled(HERE / "alone.c", folder / "alone", over(library)))
+    print(f"{'dpv_pass alone':<24} {'bytes':>6} {'ns':>8} {'instructions':>13} {'frames a second':>16}")
+    for title, (home, name) in PIPELINES.items():
+        for size in SIZES:
+            words = [program, name, str(size)]
+            runs = [subprocess.run([*words, "1000000"], cwd=home, check=True, capture_output=True, text=True).stdout.split() for _ in range(ROUNDS)]
+            nanos = min(float(run[0]) for run in runs)
+            counts = [instructions([*words, str(rounds)], str(home)) for rounds in (1_000, 11_000)]
+            each = "-" if None in counts else f"{(counts[1] - counts[0]) / 10_000:.0f}"
+            print(f"{title:<24} {size:>6} {nanos:>8.1f} {each:>13} {1e9 / nanos:>16,.0f}", flush=True)
+
+
+# ---- hosts that run
+
+
+class Host:
+    """A host that runs, and prints its numbers when it is asked."""
+
+    def __init__(self, words: list[str], home: pathlib.Path) -> None:
+        self.run = subprocess.Popen(words, cwd=home, stdout=subprocess.PIPE, stderr=subprocess.STDOUT, text=True)
+        self.process = self.run.pid
+        while not self.is_ready():
+            time.sleep(0.05)
+
+    def is_ready(self) -> bool:
+        """Whether it catches SIGUSR1."""
+        if self.run.poll() is not None:
+            raise EOFError("the host ended")
+        caught = re.search(r"^SigCgt:\s*(\w+)", pathlib.Path(f"/proc/{self.process}/status").read_text(), re.M)
+        return caught is not None and int(caught[1], 16) >> (signal.SIGUSR1 - 1) & 1 == 1
+
+    def frames(self) -> int:
+        """How many frames came so far, at all ports."""
+        assert self.run.stdout
+        os.kill(self.process, signal.SIGUSR1)
+        came, ports = 0, 0
+        while ports < 2:
+            line = self.run.stdout.readline()
+            if not line:
+                raise EOFError("the host ended")
+            found = re.match(r"port \d+ received (\d+)", line)
+            if found:
+                came, ports = came + int(found[1]), ports + 1
+        return came
+
+    def processor(self) -> tuple[float, float]:
+        """Seconds of processor time so far: in all, and the part of it that was spent in the kernel."""
+        fields = pathlib.Path(f"/proc/{self.process}/stat").read_text().rpartition(")")[2].split()
+        user, kernel = int(fields[11]), int(fields[12])
+        total = int(pathlib.Path(f"/proc/{self.process}/schedstat").read_text().split()[0]) / 1e9
+        return total, total * kernel / max(1, user + kernel)
+
+    def window(self, seconds: float) -> Taken:
+        """What a window of time shows."""
+        frames, (total, kernel) = self.frames(), self.processor()
+        time.sleep(seconds)
+        more, (total_then, kernel_then) = self.frames(), self.processor()
+        came = max(1, more - frames)
+        in_kernel = max(0.0, kernel_then - kernel)
+        return Taken((total_then - total - in_kernel) / came * 1e9, in_kernel / came * 1e9)
+
+    def end(self) -> None:
+        """Ends it."""
+        os.kill(self.process, signal.SIGTERM)
+        self.run.communicate(timeout=60)
+
+
+def measured(words: list[str], home: pathlib.Path, seconds: float) -> Taken:
+    """What a host takes in a window, once it runs for a moment."""
+    host = Host(words, home)
+    try:
+        time.sleep(0.5)
+        return host.window(seconds)
+    finally:
+        host.end()
+
+
+def best(ways: dict[str, list[str]], home: pathlib.Path, seconds: float) -> dict[str, Taken]:
+    """For each way the best of some windows, by processor time; each round has all of them."""
+    found: dict[str, list[Taken]] = {way: [] for way in ways}
+    for _ in range(ROUNDS):
+        for way, words in ways.items():
+            found[way].append(measured(words, home, seconds))
+    return {way: max(taken, key=lambda it: it.frames) for way, taken in found.items()}
+
+
+def show(title: str, size: int, found: dict[str, Taken]) -> None:
+    """Prints a line for each way."""
+    for way, taken in found.items():
+        print(f"{title:<10} {size:>6}  {way:<26} {taken.frames:>14,.0f} {taken.own:>10.0f} {taken.kernel:>11.0f}", flush=True)
+
+
+def head(title: str) -> None:
+    """Prints the head of a table."""
+    print(f"\n{title:<10} {'bytes':>6}  {'host':<26} {'frames/second':>14} {'ns a frame':>10} {'+ in kernel':>11}", flush=True)
+
+
+# ---- over DPDK
+
+
+def capture(path: pathlib.Path, size: int, records: int = 512) -> None:
+    """A capture of IPv4 packets of this length in bytes."""
+    frame = (bytes.fromhex("020000000001020000000101080045000000000000004011") + bytes(size))[:size]
+    with open(path, "wb") as out:
+        out.write(struct.pack("<IHHIIII", 0xA1B2C3D4, 2, 4, 0, 0, 262144, 1))
+        out.writelines(struct.pack("<IIII", k, 0, size, size) + frame for k in range(records))
+
+
+def over_dpdk(library: pathlib.Path, folder: pathlib.Path, seconds: float) -> None:
+    """The table of hosts over DPDK's devices."""
+    flags = dpdk()
+    if flags is None:
+        print("\nover DPDK: not measured, for want of it")
+        return
+    ours = compiled(LIVE / "dpdk.c", folder / "dpdk", [*flags, *over(library)])
+    bare = compiled(LIVE / "dpdk.c", folder / "dpdk_none", [*flags, f"-I{HERE / 'none'}"])
+    l2fwd = compiled(HERE / "l2fwd.c", folder / "l2fwd", flags)
+    head("DPDK")
+    for size in SIZES:
+        capture(folder / "in.pcap", size)
+        kinds = {"net_null": f"size={size}", "net_pcap": f"rx_pcap={folder / 'in.pcap'},infinite_rx=1"}
+        for kind, options in kinds.items():
+            devices = [f"--vdev={kind}{k},{options}" for k in range(2)]
+            rest = [*NO_CARD, *devices]
+            ways = {
+                "a loop as l2fwd's": [str(l2fwd), *rest],
+                "the host, no engine": [str(bare), *rest, "--", "cross.toml", "32"],
+                "the host": [str(ours), *rest, "--", "cross.toml", "32"],
+            }
+            show(kind, size, best(ways, LIVE, seconds))
+
+
+# ---- over packet sockets
+
+
+def ip(*words: str) -> bool:
+    """Runs a command of ip; whether it went well."""
+    return subprocess.run(["ip", *words], capture_output=True).returncode == 0
+
+
+@contextlib.contextmanager
+def namespaces() -> Iterator[bool]:
+    """Two hosts and a box between them, if this user may make them."""
+    names = ["dpvb_a", "dpvb_b", "dpvb_box"]
+    made = shutil.which("ip") is not None and all(ip("netns", "add", name) for name in names)
+    try:
+        for side in "ab" if made else "":
+            ip("link", "add", f"v{side}", "netns", f"dpvb_{side}", "type", "veth", "peer", "name", f"box{side}", "netns", "dpvb_box")
+            for place, link in ((f"dpvb_{side}", f"v{side}"), ("dpvb_box", f"box{side}")):
+                subprocess.run(["ip", "netns", "exec", place, "sysctl", "-qw", "net.ipv6.conf.all.disable_ipv6=1"], capture_output=True)
+                ip("-n", place, "link", "set", link, "up")
+        yield made
+    finally:
+        for name in names:
+            ip("netns", "del", name)
+
+
+def over_sockets(library: pathlib.Path, folder: pathlib.Path, seconds: float) -> None:
+    """The table of hosts over Linux packet sockets."""
+    ours = compiled(LIVE / "af_packet.c", folder / "af_packet", over(library))
+    bare = compiled(LIVE / "af_packet.c", folder / "af_packet_none", [f"-I{HERE / 'none'}"])
+    blast = compiled(HERE / "blast.c", folder / "blast", [])
+    with namespaces() as made:
+        if not made:
+            print("\nover packet sockets: not measured, since this user may not make network namespaces")
+            return
+        head("sockets")
+        for size in SIZES:
+            sender = subprocess.Popen(["ip", "netns", "exec", "dpvb_a", str(blast), "va", str(size)])
+            try:
+                box = ["ip", "netns", "exec", "dpvb_box"]
+                ways = {name: [*box, str(host), "cross.toml", "0=boxa", "1=boxb"] for name, host in (("the host, no engine", bare), ("the host", ours))}
+                show("veth", size, best(ways, LIVE, seconds))
+            finally:
+                sender.kill()
+                sender.wait()
+
+
+def main() -> None:
+    parser = argparse.ArgumentParser(description="Measures the hosts of examples/live.")
+    parser.add_argument("--library", type=pathlib.Path)
+    parser.add_argument("--seconds", type=float, default=2)
+    parser.add_argument("parts", nargs="*", metavar="PART")
+    asked = parser.parse_args()
+    parts = asked.parts or ["alone", "dpdk", "sockets"]
+    with tempfile.TemporaryDirectory() as name:
+        folder = pathlib.Path(name)
+        library = asked.library
+        if library is None:
+            library = folder / "library"
+            subprocess.run([str(TOP / "dpv"), "library", str(library)], check=True)
+        library = library.resolve()
+        if "alone" in parts:
+            alone(library, folder)
+        if "dpdk" in parts:
+            over_dpdk(library, folder, asked.seconds)
+        if "sockets" in parts:
+            over_sockets(library, folder, asked.seconds)
+
+
+if __name__ == "__main__":
+    sys.exit(main())

@@ -1,0 +1,86 @@
+/* l2fwd EAL-OPTIONS: what DPDK's example l2fwd does with a frame, with no engine: from device k to its neighbour, with new Ethernet addresses,
+   32 frames at once; for bench/live.py. SIGUSR1 prints how many frames came to each device; SIGTERM ends it. */
+#include <rte_eal.h>
+#include <rte_ethdev.h>
+#include <rte_ether.h>
+#include <rte_mbuf.h>
+#include <signal.h>
+
+#define BURST 32
+#define DEVICES 2
+
+static volatile sig_atomic_t is_stopped, is_asked;
+static uint64_t received[DEVICES];
+
+static void on_stop(int number)
+{
+    (void)number;
+    is_stopped = 1;
+}
+
+static void on_ask(int number)
+{
+    (void)number;
+    is_asked = 1;
+}
+
+static int open_device(uint16_t port, struct rte_mempool *pool)
+{
+    struct rte_eth_conf conf;
+    memset(&conf, 0, sizeof conf);
+    return rte_eth_dev_configure(port, 1, 1, &conf) < 0 || rte_eth_rx_queue_setup(port, 0, 512, rte_socket_id(), NULL, pool) < 0
+           || rte_eth_tx_queue_setup(port, 0, 512, rte_socket_id(), NULL) < 0 || rte_eth_dev_start(port) < 0;
+}
+
+static void new_addresses(struct rte_mbuf *mbuf, uint16_t port)
+{
+    struct rte_ether_hdr *ether = rte_pktmbuf_mtod(mbuf, struct rte_ether_hdr *);
+    uint64_t to = 0x000000000002 + ((uint64_t)port << 40);
+    memcpy(&ether->dst_addr, &to, 6);
+    to += 1;
+    memcpy(&ether->src_addr, &to, 6);
+}
+
+static void forward(uint16_t port)
+{
+    struct rte_mbuf *mbufs[BURST];
+    uint16_t count = rte_eth_rx_burst(port, 0, mbufs, BURST), sent;
+    for (uint16_t k = 0; k < count; k++)
+        new_addresses(mbufs[k], port ^ 1);
+    sent = rte_eth_tx_burst(port ^ 1, 0, mbufs, count);
+    while (sent < count)
+        rte_pktmbuf_free(mbufs[sent++]);
+    received[port] += count;
+}
+
+static void print_numbers(void)
+{
+    for (int k = 0; k < DEVICES; k++)
+        printf("port %d received %llu\n", k, (unsigned long long)received[k]);
+    fflush(stdout);
+}
+
+int main(int argc, char **argv)
+{
+    struct rte_mempool *pool;
+    if (rte_eal_init(argc, argv) < 0)
+        return 2;
+    pool = rte_pktmbuf_pool_create("frames", 8191, 256, 0, RTE_MBUF_DEFAULT_BUF_SIZE, SOCKET_ID_ANY);
+    if (pool == NULL || rte_eth_dev_count_avail() != DEVICES)
+        return 3;
+    for (uint16_t port = 0; port < DEVICES; port++)
+        if (open_device(port, pool))
+            return 4;
+    signal(SIGTERM, on_stop);
+    signal(SIGUSR1, on_ask);
+    while (!is_stopped) {
+        for (uint16_t port = 0; port < DEVICES; port++)
+            forward(port);
+        if (is_asked) {
+            is_asked = 0;
+            print_numbers();
+        }
+    }
+    print_numbers();
+    return 0;
+}

@@ -1,0 +1,3 @@
+pub mod Serving
+pub mod Files
+pub mod Reported

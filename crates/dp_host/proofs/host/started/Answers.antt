@@ -1,0 +1,14 @@
+use Rattle.std.proofs.Common.{Some, subst}
+use Rattle.dp_pipe.specs.declared.nodes.How.TheVariants.{Given}
+use Rattle.dp_pipe.specs.Listed.{listed}
+use Rattle.dp_pipe.specs.Loads.{IsLoadedFrom}
+use Rattle.dp_host.proofs.host.started.Goals as goal
+
+pub returns-in-Ok-running_of : goal.returns-in-Ok-running_of
+returns-in-Ok-running_of c = record {
+  files = c.in-Some.files.items;
+  are_files = c.in-Some.ensures;
+  plan = c.in-Ok.pipeline;
+  loaded = subst (λ l. IsLoadedFrom (Some (listed l)) Given c.args.toml.now c.in-Ok.pipeline) c.as_slice.ensures.value c.in-Ok.ensures.loaded;
+  served = c.in-Ok-running_of.ensures;
+}

@@ -1,0 +1,22 @@
+-- How the files that a pipeline names are packed into one buffer.
+use Rattle.std.specs.Prelude.{◌≡◌, ℕ, List, [], ◌∷◌, ◌++◌, length, drop, slice_index_or}
+use Rattle.std.specs.Int.{w32, from_le_bytes}
+use Rattle.dp_pipe.specs.declared.listed.NamedBytes.{NamedBytes}
+
+-- the little-endian number in the first four bytes
+abbrev pub first_number : List ℕ → ℕ
+first_number bytes =
+    from_le_bytes w32 (slice_index_or bytes 0 0 ∷ slice_index_or bytes 1 0 ∷ slice_index_or bytes 2 0 ∷ slice_index_or bytes 3 0 ∷ [])
+
+-- the bytes are a file, then more: the lengths of its name and of its bytes, four bytes each, little-endian; its name and its bytes
+pub record BeginsWith (bytes : List ℕ) (file : NamedBytes) (more : List ℕ) : Type 0 where
+  pub head : List ℕ
+  pub eight : length head ≡ 8
+  pub name_length : first_number head ≡ length file.name.now
+  pub bytes_length : first_number (drop 4 head) ≡ length file.bytes.now
+  pub spelled : bytes ≡ head ++ (file.name.now ++ (file.bytes.now ++ more))
+
+-- the bytes are these files, one after the other
+abbrev pub AreFiles : List ℕ → List NamedBytes → Type 0
+AreFiles bytes [] = bytes ≡ []
+AreFiles bytes (file ∷ files) = (more : List ℕ) × BeginsWith bytes file more × AreFiles more files

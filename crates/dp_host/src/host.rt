@@ -1,0 +1,285 @@
+//! What a caller's memory holds: an open engine, or none, with the reason.
+
+ghost use Rattle.std.specs.Prelude.{◌≡◌, ◌<◌, ◌≤◌, [], length, IfOk};
+ghost use Rattle.dp_pipe.specs.Pipelines.{IsPlan};
+ghost use Rattle.dp_host.specs.Calls.{HasServed};
+ghost use Rattle.dp_host.specs.Hosts.{Answers, CloseAnswers, IsOpened, IsPool, IsPort, IsRing, IsRoom, Opens, PassAnswers};
+ghost use Rattle.dp_host.specs.Hosts.{NoPool, NoPort, NoRing, outcome_number};
+
+use crate::numbers::{MAX_REASON, PoolStats, PortStats, Reason, RingStats, Room, Totals};
+use crate::packed::files_in;
+use crate::refusal::Refusal;
+use crate::running::Running;
+use dp_copies::clones_are_copies;
+use dp_engine::{Outcome, Pass, SentRecord};
+use dp_model::{runs_keep_safe, whole_runs_end_with_whole_pools};
+use dp_pipe::{How, Listed, PipeError, Pipeline, RunCause, engine_of, load};
+use std::alloc::Global;
+
+/// An open engine, or the refusal that calls return while there is none; and why the pipeline was not loaded, if it was not.
+pub struct Host {
+    pub(crate) running: Option<Running>,
+    pub(crate) missing: Refusal,
+    pub(crate) reason: Reason,
+}
+
+// Why no engine is open.
+#[derive(Clone, Copy)]
+enum Fault {
+    Files,
+    Load(PipeError),
+    Open(RunCause),
+}
+
+// The numbers of ports and rings of a pipeline.
+fn counts_of(pipeline: &Pipeline) -> (u32, u32)
+    ensures ports { (result.0 ≡ length pipeline.now.env.ports) × (result.0 ≤ 8) }
+    ensures rings { (result.1 ≡ length pipeline.now.env.rings) × (result.1 ≤ 8) }
+    ensures plan { IsPlan pipeline.now }
+{
+    let env = pipeline.env();
+    (env.ports().len() as u32, env.rings().len() as u32)
+}
+
+// Opens the engine of a pipeline.
+fn running_of(alloc: Global, pipeline: Pipeline) -> Result<Running, RunCause>
+    ensures { IfOk result (HasServed pipeline []) }
+{
+    let (ports, rings) = counts_of(&pipeline);
+    match engine_of(alloc, pipeline, Vec::new(alloc)) {
+        Ok(engine) => Ok(Running::of(engine, ports, rings)),
+        Err(cause) => Err(cause),
+    }
+}
+
+// Opens the engine of a pipeline's text and its files.
+fn started(alloc: Global, toml: &[u8], packed: &[u8]) -> Result<Running, Fault>
+    ensures { IfOk result (IsOpened toml.now packed.now) }
+{
+    let Some(files) = files_in(alloc, packed) else {
+        return Err(Fault::Files);
+    };
+    let mut listed = Listed {
+        files: files.as_slice(),
+    };
+    let pipeline = match load(alloc, toml, &mut listed, How::Given) {
+        Ok(pipeline) => pipeline,
+        Err(error) => return Err(Fault::Load(error)),
+    };
+    match running_of(alloc, pipeline) {
+        Ok(running) => Ok(running),
+        Err(cause) => Err(Fault::Open(cause)),
+    }
+}
+
+// A reason with this text, cut to the room for it.
+fn reason_of(cause: u32, text: &[u8]) -> Reason
+    ensures { result.cause ≡ cause }
+{
+    let mut reason = Reason {
+        cause,
+        length: 0,
+        text: [0; MAX_REASON],
+    };
+    let length = text.len().min(MAX_REASON);
+    reason.text[..length].copy_from_slice(&text[..length]);
+    reason.length = length as u32;
+    reason
+}
+
+// The reason for a fault in a pipeline, as `dpv check` prints it.
+fn reason_in(alloc: Global, error: PipeError) -> Reason
+    ensures { 0 < result.cause }
+{
+    match format!(in alloc; "{error}") {
+        Ok(text) => reason_of(10 + u32::from(error.number()), text.as_bytes()),
+        Err(_) => reason_of(1, b"memory"),
+    }
+}
+
+// The reason for a fault.
+fn reason_for(alloc: Global, fault: Fault) -> Reason
+    ensures { 0 < result.cause }
+{
+    match fault {
+        Fault::Files => reason_of(2, b"the files are not packed as they should be"),
+        Fault::Load(error) => reason_in(alloc, error),
+        Fault::Open(RunCause::NoRoom) => reason_of(3, b"the region is too small"),
+        Fault::Open(_) => reason_of(1, b"memory"),
+    }
+}
+
+/// Opens the engine of a pipeline's text and its files, or none.
+pub(crate) fn opened(alloc: Global, toml: &[u8], packed: &[u8]) -> Host
+    ensures { Opens toml.now packed.now result.running result.missing result.reason.cause }
+{
+    match started(alloc, toml, packed) {
+        Ok(running) => Host {
+            running: Some(running),
+            missing: Refusal::Closed,
+            reason: reason_of(0, b""),
+        },
+        Err(fault) => Host {
+            running: None,
+            missing: Refusal::NotOpen,
+            reason: reason_for(alloc, fault),
+        },
+    }
+}
+
+// The number of an outcome.
+fn outcome_number(outcome: Outcome) -> u32
+    ensures { result ≡ outcome_number outcome }
+{
+    match outcome {
+        Outcome::Got => 0,
+        Outcome::NoBuffer => 1,
+        Outcome::Oversize => 2,
+    }
+}
+
+// What was sent, in the form that a caller sees.
+fn room_of(pass: Pass) -> Room
+    ensures { result ≡ record { records = pass.sent.records; bytes = pass.sent.bytes } }
+{
+    Room {
+        records: pass.sent.records as u64,
+        bytes: pass.sent.bytes as u64,
+    }
+}
+
+/// Takes a pass; returns a number.
+pub(crate) fn passed(
+    host: &mut Host,
+    port: u32,
+    time: u64,
+    frame: &[u8],
+    records: &mut [SentRecord],
+    bytes: &mut [u8],
+    filled: &mut Room,
+) -> u32
+    ensures { PassAnswers host.old.running host.old.missing host.new.running port time frame.now
+        (record { records = records.old; bytes = bytes.old }) (record { records = records.new; bytes = bytes.new }) filled.new result
+        × (host.new.missing ≡ host.old.missing) × (host.new.reason ≡ host.old.reason) }
+{
+    *filled = Room {
+        records: 0,
+        bytes: 0,
+    };
+    let missing = host.missing;
+    match &mut host.running {
+        Some(running) => match running.pass(port, frame, time, records, bytes) {
+            Ok(pass) => {
+                *filled = room_of(pass);
+                outcome_number(pass.turn.outcome)
+            }
+            Err(why) => why.number(),
+        },
+        None => missing.number(),
+    }
+}
+
+/// Sets `size` to the size that a batch needs.
+pub(crate) fn batch_size(host: &mut Host, size: &mut Room) -> u32
+    ensures { (host.new ≡ host.old) × Answers IsRoom (λ e. ⊥) Refusal.NotOpen host.old.running host.old.missing size.old size.new result }
+{
+    let Some(running) = &host.running else {
+        return host.missing.number();
+    };
+    let room = running.room();
+    *size = Room {
+        records: room.records as u64,
+        bytes: room.bytes as u64,
+    };
+    0
+}
+
+/// Sets the counts of a port.
+pub(crate) fn port_stats(host: &mut Host, port: u32, stats: &mut PortStats) -> u32
+    ensures { (host.new ≡ host.old) × Answers (IsPort port) (NoPort port) Refusal.NoPort host.old.running host.old.missing stats.old stats.new result }
+{
+    let Some(running) = &host.running else {
+        return host.missing.number();
+    };
+    match running.report().ports.as_slice().get(port as usize) {
+        Some(report) => {
+            *stats = PortStats {
+                received: report.received,
+                no_buffer: report.nobuf,
+                oversize: report.oversize,
+                sent: report.sent,
+            };
+            0
+        }
+        None => Refusal::NoPort.number(),
+    }
+}
+
+/// Sets the counts of a pool.
+pub(crate) fn pool_stats(host: &mut Host, pool: u32, stats: &mut PoolStats) -> u32
+    ensures { (host.new ≡ host.old) × Answers (IsPool pool) (NoPool pool) Refusal.NoPool host.old.running host.old.missing stats.old stats.new result }
+{
+    let Some(running) = &host.running else {
+        return host.missing.number();
+    };
+    match running.report().pools.as_slice().get(pool as usize) {
+        Some(report) => {
+            *stats = PoolStats {
+                free: report.free,
+                count: report.count,
+            };
+            0
+        }
+        None => Refusal::NoPool.number(),
+    }
+}
+
+/// Sets the counts of a ring.
+pub(crate) fn ring_stats(host: &mut Host, ring: u32, stats: &mut RingStats) -> u32
+    ensures { (host.new ≡ host.old) × Answers (IsRing ring) (NoRing ring) Refusal.NoRing host.old.running host.old.missing stats.old stats.new result }
+{
+    let Some(running) = &host.running else {
+        return host.missing.number();
+    };
+    match running.waiting(ring) {
+        Some(waiting) => {
+            stats.waiting = u64::from(waiting);
+            0
+        }
+        None => Refusal::NoRing.number(),
+    }
+}
+
+/// Sets the reason why the pipeline was not loaded.
+pub(crate) fn reason(host: &mut Host, reason: &mut Reason) -> u32
+    ensures { (host.new ≡ host.old) × (reason.new ≡ host.old.reason) × (result ≡ 0) }
+{
+    reason.cause = host.reason.cause;
+    reason.length = host.reason.length;
+    reason.text = host.reason.text;
+    0
+}
+
+/// Ends the engine.
+pub(crate) fn closed(host: &mut Host, totals: &mut Totals) -> u32
+    ensures { CloseAnswers host.old.running host.old.missing host.new.running host.new.missing totals.old totals.new result
+        × (host.new.reason ≡ host.old.reason) }
+{
+    // The laws of whole runs.
+    runs_keep_safe::<u64>();
+    clones_are_copies::<u64>();
+    whole_runs_end_with_whole_pools::<u64>();
+    let Some(running) = host.running.take() else {
+        return host.missing.number();
+    };
+    host.missing = Refusal::Closed;
+    let turns = running.turns();
+    let report = running.end();
+    *totals = Totals {
+        turns,
+        calls: report.calls,
+        cut: report.cut,
+        pools: report.pools.len() as u64,
+    };
+    0
+}

@@ -1,0 +1,138 @@
+//! The engine for a caller in C, in memory of the caller's: as many bytes as `dpv_size` returns. `dpv_begin` makes an engine there, and the
+//! other calls take that memory, one call at a time. `include/dpv.h` declares these functions.
+//!
+//! Who owns what: the memory is the caller's; the engine in it owns its region until `dpv_close`. Frames and batches are the caller's, and no
+//! call keeps a pointer to them.
+//!
+//! What not to do: the memory may not move or be freed between `dpv_begin` and `dpv_close`, two calls may not run at once, and a call must
+//! get memory that `dpv_begin` has filled. Everything else is tested, and a call that is refused changes nothing.
+#![tactic(auto)]
+
+mod host;
+mod numbers;
+mod packed;
+mod refusal;
+mod running;
+
+ghost use Rattle.std.specs.Prelude.{◌≡◌, ℕ};
+ghost use Rattle.std.specs.Borrow.{full_share};
+ghost use Rattle.std.specs.Ptr.{lies_at, room_at};
+ghost use types.Logic.{sem};
+ghost use Rattle.dp_host.specs.contracts.host.Host.{the_row};
+ghost use Rattle.dp_host.specs.declared.refusal.Refusal.TheVariants as refusal;
+ghost use Rattle.dp_host.specs.Hosts.{Answers, CloseAnswers, IsPool, IsPort, IsRing, IsRoom, NoPool, NoPort, NoRing, Opens, PassAnswers};
+
+use crate::host::Host;
+use crate::numbers::{PoolStats, PortStats, Reason, RingStats, Room, Totals};
+use dp_engine::SentRecord;
+use std::alloc::Global;
+
+/// The bytes that an engine takes in its caller's memory, besides its region. They begin at a multiple of 16.
+#[unsafe(no_mangle)]
+pub extern "C" fn dpv_size() -> usize {
+    std::mem::size_of::<Host>()
+}
+
+/// Makes the engine of a pipeline's text and its packed files, or none; then `dpv_why` has the reason.
+#[unsafe(no_mangle)]
+pub unsafe extern "C" fn dpv_begin(alloc: Global, at: *mut u8, toml: &[u8], packed: &[u8])
+    requires* { sem 𝓛 (room_at the_row at) }
+    ensures* { ∃ₛ (λ (h : Host). sem 𝓛 (lies_at the_row full_share at h) ∗ ⌜ Opens toml.now packed.now h.running h.missing h.reason.cause ⌝) }
+{
+    (at as *mut Host).write(host::opened(alloc, toml, packed))
+}
+
+/// Takes a frame that came to a port at a time, and hands out all that the ports send for it: `records` says where each record's bytes are in
+/// `bytes`. Returns 0 where the frame was received, 1 where too few buffers were free, 2 where it is too large for its port, or the number of a
+/// refusal.
+#[unsafe(no_mangle)]
+pub unsafe extern "C" fn dpv_pass_into(
+    at: *mut u8,
+    port: u32,
+    time: u64,
+    frame: &[u8],
+    records: &mut [SentRecord],
+    bytes: &mut [u8],
+    filled: &mut Room,
+) -> u32
+    ghost h: { Host }
+    requires* { sem 𝓛 (lies_at the_row full_share at h) }
+    ensures* { ∃ₛ (λ (h' : Host). sem 𝓛 (lies_at the_row full_share at h') ∗ ⌜ PassAnswers h.running h.missing h'.running port time frame.now
+        (record { records = records.old; bytes = bytes.old }) (record { records = records.new; bytes = bytes.new }) filled.new result
+        × (h'.missing ≡ h.missing) × (h'.reason ≡ h.reason) ⌝) }
+{
+    host::passed(
+        &mut *(at as *mut Host),
+        port,
+        time,
+        frame,
+        records,
+        bytes,
+        filled,
+    )
+}
+
+/// Sets `size` to a batch with room for whatever the ports send for one frame. Returns 0, or the number of a refusal.
+#[unsafe(no_mangle)]
+pub unsafe extern "C" fn dpv_batch_size(at: *mut u8, size: &mut Room) -> u32
+    ghost h: { Host }
+    requires* { sem 𝓛 (lies_at the_row full_share at h) }
+    ensures* { ∃ₛ (λ (h' : Host). sem 𝓛 (lies_at the_row full_share at h') ∗ ⌜ (h' ≡ h)
+        × Answers IsRoom (λ e. ⊥) refusal.NotOpen h.running h.missing size.old size.new result ⌝) }
+{
+    host::batch_size(&mut *(at as *mut Host), size)
+}
+
+/// Sets `reason` to why the pipeline was not loaded; cause 0 where it was. Returns 0.
+#[unsafe(no_mangle)]
+pub unsafe extern "C" fn dpv_why(at: *mut u8, reason: &mut Reason) -> u32
+    ghost h: { Host }
+    requires* { sem 𝓛 (lies_at the_row full_share at h) }
+    ensures* { ∃ₛ (λ (h' : Host). sem 𝓛 (lies_at the_row full_share at h') ∗ ⌜ (h' ≡ h) × (reason.new ≡ h.reason) × (result ≡ 0) ⌝) }
+{
+    host::reason(&mut *(at as *mut Host), reason)
+}
+
+/// Sets `out` to the counts of a port so far. Returns 0, or the number of a refusal.
+#[unsafe(no_mangle)]
+pub unsafe extern "C" fn dpv_port(at: *mut u8, which: u32, out: &mut PortStats) -> u32
+    ghost h: { Host }
+    requires* { sem 𝓛 (lies_at the_row full_share at h) }
+    ensures* { ∃ₛ (λ (h' : Host). sem 𝓛 (lies_at the_row full_share at h') ∗ ⌜ (h' ≡ h)
+        × Answers (IsPort which) (NoPort which) refusal.NoPort h.running h.missing out.old out.new result ⌝) }
+{
+    host::port_stats(&mut *(at as *mut Host), which, out)
+}
+
+/// Sets `out` to the counts of a pool so far. Returns 0, or the number of a refusal.
+#[unsafe(no_mangle)]
+pub unsafe extern "C" fn dpv_pool(at: *mut u8, which: u32, out: &mut PoolStats) -> u32
+    ghost h: { Host }
+    requires* { sem 𝓛 (lies_at the_row full_share at h) }
+    ensures* { ∃ₛ (λ (h' : Host). sem 𝓛 (lies_at the_row full_share at h') ∗ ⌜ (h' ≡ h)
+        × Answers (IsPool which) (NoPool which) refusal.NoPool h.running h.missing out.old out.new result ⌝) }
+{
+    host::pool_stats(&mut *(at as *mut Host), which, out)
+}
+
+/// Sets `out` to the number of packets in a ring. Returns 0, or the number of a refusal.
+#[unsafe(no_mangle)]
+pub unsafe extern "C" fn dpv_ring(at: *mut u8, which: u32, out: &mut RingStats) -> u32
+    ghost h: { Host }
+    requires* { sem 𝓛 (lies_at the_row full_share at h) }
+    ensures* { ∃ₛ (λ (h' : Host). sem 𝓛 (lies_at the_row full_share at h') ∗ ⌜ (h' ≡ h)
+        × Answers (IsRing which) (NoRing which) refusal.NoRing h.running h.missing out.old out.new result ⌝) }
+{
+    host::ring_stats(&mut *(at as *mut Host), which, out)
+}
+
+/// Ends the engine: frees every buffer, and the region. Returns 0, or the number of a refusal.
+#[unsafe(no_mangle)]
+pub unsafe extern "C" fn dpv_close(at: *mut u8, totals: &mut Totals) -> u32
+    ghost h: { Host }
+    requires* { sem 𝓛 (lies_at the_row full_share at h) }
+    ensures* { ∃ₛ (λ (h' : Host). sem 𝓛 (lies_at the_row full_share at h') ∗ ⌜ CloseAnswers h.running h.missing h'.running h'.missing
+        totals.old totals.new result × (h'.reason ≡ h.reason) ⌝) }
+{
+    host::closed(&mut *(at as *mut Host), totals)
+}

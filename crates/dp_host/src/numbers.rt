@@ -1,0 +1,72 @@
+//! What a caller in C gets, as structs of numbers. `dpv.h` has the same structs.
+
+/// The most bytes of a reason's text.
+pub const MAX_REASON: usize = 128;
+
+/// The size of a batch: how large one must be, or how much of one is filled.
+#[repr(C)]
+#[derive(Clone, Copy, Drop)]
+pub struct Room {
+    /// The number of records.
+    pub records: u64,
+    /// The number of their bytes.
+    pub bytes: u64,
+}
+
+/// Why a pipeline was not loaded.
+#[repr(C)]
+#[derive(Drop)]
+pub struct Reason {
+    /// The number of the cause, or 0 where the pipeline was loaded.
+    pub cause: u32,
+    /// The length of the text.
+    pub length: u32,
+    /// The text, in the first `length` bytes.
+    pub text: [u8; MAX_REASON],
+}
+
+/// The counts of a port, in frames.
+#[repr(C)]
+#[derive(Clone, Copy, Drop)]
+pub struct PortStats {
+    /// How many were received.
+    pub received: u64,
+    /// How many were dropped because too few buffers were free.
+    pub no_buffer: u64,
+    /// How many were dropped because they need more segments than the port takes.
+    pub oversize: u64,
+    /// How many were handed out.
+    pub sent: u64,
+}
+
+/// The counts of a pool, in buffers.
+#[repr(C)]
+#[derive(Clone, Copy, Drop)]
+pub struct PoolStats {
+    /// How many are free.
+    pub free: u64,
+    /// How many there are.
+    pub count: u64,
+}
+
+/// The counts of a ring, in packets.
+#[repr(C)]
+#[derive(Clone, Copy, Drop)]
+pub struct RingStats {
+    /// How many wait in it.
+    pub waiting: u64,
+}
+
+/// The counts of a closed engine.
+#[repr(C)]
+#[derive(Clone, Copy, Drop)]
+pub struct Totals {
+    /// The number of frames that were handed in.
+    pub turns: u64,
+    /// The number of allocation calls.
+    pub calls: u64,
+    /// The number of node runs that were cut.
+    pub cut: u64,
+    /// The number of pools. Each has all its buffers.
+    pub pools: u64,
+}

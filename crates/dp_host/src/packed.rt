@@ -1,0 +1,59 @@
+//! Reads files from one buffer: for each the lengths of its name and of its bytes, four bytes each, little-endian; then the name and the bytes.
+
+ghost use Rattle.std.specs.Prelude.{◌≡◌, ◌≤◌, length, IfSome};
+ghost use Rattle.dp_host.specs.Packing.{AreFiles, BeginsWith, first_number};
+
+use dp_pipe::NamedBytes;
+use std::alloc::Global;
+
+/// The most files in a buffer.
+pub const MAX_FILES: u32 = 64;
+
+// The little-endian number in the first four bytes.
+fn number_in(bytes: &[u8]) -> u32
+    requires { 4 ≤ length bytes.now }
+    ensures { result ≡ first_number bytes.now }
+{
+    u32::from_le_bytes([bytes[0], bytes[1], bytes[2], bytes[3]])
+}
+
+// The first file, and the bytes after it.
+fn front(packed: &[u8]) -> Option<(NamedBytes<'_>, &[u8])>
+    ensures { IfSome result (λ r. BeginsWith packed.now r.0 r.1.now) }
+{
+    if packed.len() < 8 {
+        return None;
+    }
+    let (head, rest) = packed.split_at(8);
+    let name_length = number_in(head) as usize;
+    let length = number_in(&head[4..]) as usize;
+    if rest.len() < name_length || rest.len() - name_length < length {
+        return None;
+    }
+    let (name, rest) = rest.split_at(name_length);
+    let (bytes, rest) = rest.split_at(length);
+    match str::from_utf8(name) {
+        Ok(name) => Some((NamedBytes { name, bytes }, rest)),
+        Err(_) => None,
+    }
+}
+
+/// The files of a buffer; none where it is not packed like that, or memory is refused.
+pub fn files_in(alloc: Global, packed: &[u8]) -> Option<Vec<NamedBytes<'_>>>
+    ensures { IfSome result (λ files. AreFiles packed.now files.items) }
+{
+    let mut files = Vec::new(alloc);
+    let mut rest = packed;
+    for _ in 0..MAX_FILES {
+        match front(rest) {
+            Some((file, after)) => {
+                if files.push(file).is_err() {
+                    return None;
+                }
+                rest = after;
+            }
+            None => break,
+        }
+    }
+    if rest.is_empty() { Some(files) } else { None }
+}

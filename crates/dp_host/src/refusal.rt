@@ -1,0 +1,43 @@
+//! Why a call is refused. A refused call changes nothing.
+
+/// Why a call is refused.
+#[derive(Clone, Copy, Debug, PartialEq, Eq)]
+pub enum Refusal {
+    /// The pipeline was not loaded.
+    NotOpen,
+    /// The engine was closed.
+    Closed,
+    /// There is no such port.
+    NoPort,
+    /// There is no such pool.
+    NoPool,
+    /// There is no such ring.
+    NoRing,
+    /// The frame has more than 262,144 bytes.
+    TooLong,
+    /// The engine has taken 2^40 turns.
+    NoTurns,
+    /// The batch is smaller than one turn may need.
+    BatchTooSmall,
+}
+
+impl Refusal {
+    ghost use Rattle.std.specs.Prelude.{◌≡◌};
+    ghost use Rattle.dp_host.specs.Hosts.{refusal_number};
+
+    /// The number of the refusal, from 16.
+    pub fn number(self) -> u32
+        ensures { result ≡ refusal_number self }
+    {
+        match self {
+            Refusal::NotOpen => 16,
+            Refusal::Closed => 17,
+            Refusal::NoPort => 18,
+            Refusal::NoPool => 19,
+            Refusal::NoRing => 20,
+            Refusal::TooLong => 21,
+            Refusal::NoTurns => 22,
+            Refusal::BatchTooSmall => 23,
+        }
+    }
+}

@@ -1,0 +1,133 @@
+//! An open engine, with a test for each condition of its calls.
+
+ghost use Rattle.std.specs.Prelude.{◌≡◌, ◌+◌, ◌<◌, ◌≤◌, length, None, IfOk, IfErr, IfSome, IfNone};
+ghost use Rattle.dp_engine.specs.Batches.{Passes, largest_batch};
+ghost use Rattle.dp_engine.specs.Engines.{flushed};
+ghost use Rattle.dp_engine.specs.Reports.{IsReport, IsWhole};
+ghost use Rattle.dp_engine.specs.Shapes.{AreWaiting};
+ghost use Rattle.dp_host.specs.Hosts.{RefusesPass};
+
+use crate::refusal::Refusal;
+use dp_engine::{BatchSize, Engine, Pass, Report, SentRecord};
+use dp_pcap::LARGEST_RECORD;
+use std::marker::Model;
+
+/// The most turns of an engine: 2^40.
+pub const MAX_TURNS: u64 = 1_099_511_627_776;
+
+/// An engine, its numbers of ports and rings, and the size that a batch needs.
+pub struct Running {
+    engine: Engine,
+    ports: u32,
+    rings: u32,
+    room: BatchSize,
+}
+
+impl Model for Running {
+    ghost use Rattle.std.specs.Prelude.{◌≡◌, ◌≤◌, length};
+    ghost use Rattle.dp_engine.specs.Batches.{largest_batch};
+    ghost use Rattle.dp_engine.specs.Engines.{EngineState};
+
+    ghost Value = { EngineState };
+
+    ghost view = { λ r. r.engine };
+
+    ghost invariant = { λ r. (r.ports ≡ length r.engine.setting.env.ports) × (r.ports ≤ 8)
+        × (r.rings ≡ length r.engine.setting.env.rings) × (r.rings ≤ 8)
+        × (r.room ≡ largest_batch r.engine.setting.env) };
+}
+
+impl Running {
+    /// An engine with that many ports and rings.
+    pub fn of(engine: Engine, ports: u32, rings: u32) -> Running
+        requires ports { ports ≡ length engine.setting.env.ports }
+        requires few_ports { ports ≤ 8 }
+        requires rings { rings ≡ length engine.setting.env.rings }
+        requires few_rings { rings ≤ 8 }
+        ensures { result ≡ engine }
+    {
+        let room = engine.batch_size();
+        Running {
+            engine,
+            ports,
+            rings,
+            room,
+        }
+    }
+
+    /// The size that a batch needs.
+    pub fn room(&self) -> BatchSize
+        ensures { result ≡ largest_batch self.now.setting.env }
+    {
+        self.room
+    }
+
+    /// Takes a pass, or returns why it is refused.
+    pub fn pass(
+        &mut self,
+        port: u32,
+        frame: &[u8],
+        time: u64,
+        records: &mut [SentRecord],
+        bytes: &mut [u8],
+    ) -> Result<Pass, Refusal>
+        ensures ok { IfOk result (λ p. Passes self.old self.new port frame.now p.turn time records.new bytes.new p.sent) }
+        ensures err { IfErr result (λ why. (self.new ≡ self.old) × (records.new ≡ records.old) × (bytes.new ≡ bytes.old)
+            × RefusesPass self.old port (length frame.now) (length records.old) (length bytes.old) why) }
+    {
+        if port >= self.ports {
+            return Err(Refusal::NoPort);
+        }
+        if frame.len() > LARGEST_RECORD {
+            return Err(Refusal::TooLong);
+        }
+        if self.engine.turns() >= MAX_TURNS {
+            return Err(Refusal::NoTurns);
+        }
+        if records.len() < self.room.records || bytes.len() < self.room.bytes {
+            return Err(Refusal::BatchTooSmall);
+        }
+        Ok(self.engine.pass(port as u8, frame, time, records, bytes))
+    }
+
+    /// The report so far.
+    pub fn report(&self) -> Report
+        ensures { IsReport self.now result }
+    {
+        self.engine.report()
+    }
+
+    /// The number of packets in a ring, if it exists.
+    pub fn waiting(&self, ring: u32) -> Option<u32>
+        ensures some { IfSome result (AreWaiting self.now.world.rings ring) }
+        ensures none { IfNone result (length self.now.setting.env.rings ≤ ring) }
+    {
+        if ring >= self.rings {
+            return None;
+        }
+        self.engine.waiting(ring as u8)
+    }
+
+    /// The number of turns so far.
+    pub fn turns(&self) -> u64
+        ensures { result ≡ self.now.turns }
+    {
+        self.engine.turns()
+    }
+
+    /// Ends the engine. Every buffer is free, and its memory is returned.
+    pub fn end(self) -> Report
+        ensures report { IsReport (flushed self) result }
+        ensures whole { IsWhole self.setting.env result }
+    {
+        let Running {
+            engine,
+            ports: _,
+            rings: _,
+            room: _,
+        } = self;
+        let (report, region) = engine.finish();
+        region.close();
+        report
+    }
+}

@@ -1,0 +1,172 @@
+/* af_packet PIPELINE 0=INTERFACE 1=INTERFACE ..: forwards live frames by the node programs of a pipeline, over Linux packet sockets.
+
+   Each PORT=INTERFACE connects a port of the pipeline to a network interface. Frames sent by a port without an interface are counted
+   and dropped. SIGUSR1 prints the counts; SIGINT and SIGTERM print them and end the host. It needs CAP_NET_RAW.
+
+   cc -O2 af_packet.c $(pkg-config --cflags --libs dpv) -o af_packet */
+#define _GNU_SOURCE
+#include "load.h"
+#include <arpa/inet.h>
+#include <errno.h>
+#include <linux/if_packet.h>
+#include <net/ethernet.h>
+#include <net/if.h>
+#include <poll.h>
+#include <signal.h>
+#include <sys/socket.h>
+#include <time.h>
+#include <unistd.h>
+
+#define MAX_PORTS 8
+#define BURST 64
+#define MAX_FRAME 65536
+
+static volatile sig_atomic_t is_stopped, is_asked;
+static int sockets[MAX_PORTS];
+static uint64_t unsent[MAX_PORTS], truncated;
+static uint8_t frames[BURST][MAX_FRAME];
+
+static void on_stop(int number)
+{
+    (void)number;
+    is_stopped = 1;
+}
+
+static void on_ask(int number)
+{
+    (void)number;
+    is_asked = 1;
+}
+
+/* A packet socket on an interface, which receives incoming frames and no outgoing ones. */
+static int open_interface(const char *name)
+{
+    struct sockaddr_ll address = {0};
+    struct packet_mreq everything = {0};
+    int one = 1, room = 4 << 20, fd = socket(AF_PACKET, SOCK_RAW | SOCK_NONBLOCK, htons(ETH_P_ALL));
+    if (fd < 0)
+        die("socket");
+    address.sll_family = AF_PACKET;
+    address.sll_protocol = htons(ETH_P_ALL);
+    address.sll_ifindex = (int)if_nametoindex(name);
+    if (address.sll_ifindex == 0 || bind(fd, (struct sockaddr *)&address, sizeof address) < 0)
+        die(name);
+    everything.mr_ifindex = address.sll_ifindex;
+    everything.mr_type = PACKET_MR_PROMISC;
+    if (setsockopt(fd, SOL_PACKET, PACKET_ADD_MEMBERSHIP, &everything, sizeof everything) < 0
+        || setsockopt(fd, SOL_PACKET, PACKET_IGNORE_OUTGOING, &one, sizeof one) < 0)
+        die(name);
+    /* Larger buffers help with bursts; without the privilege for them the default ones are used. */
+    (void)setsockopt(fd, SOL_SOCKET, SO_RCVBUFFORCE, &room, sizeof room);
+    (void)setsockopt(fd, SOL_SOCKET, SO_SNDBUFFORCE, &room, sizeof room);
+    return fd;
+}
+
+/* Connects the ports that the arguments name to their interfaces. */
+static void open_interfaces(int count, char **words, uint32_t ports)
+{
+    for (uint32_t port = 0; port < MAX_PORTS; port++)
+        sockets[port] = -1;
+    for (int k = 0; k < count; k++) {
+        uint32_t port = (uint32_t)(words[k][0] - '0');
+        if (port >= ports || words[k][1] != '=') {
+            fprintf(stderr, "%s: it has to be PORT=INTERFACE, with a port from 0 to %u\n", words[k], ports - 1);
+            exit(2);
+        }
+        sockets[port] = open_interface(words[k] + 2);
+    }
+}
+
+/* Sends all records of a batch, each at its port. */
+static void send_batch(const struct dpv_batch *batch)
+{
+    for (uint64_t k = 0; k < batch->filled.records; k++) {
+        const struct dpv_record *record = &batch->records[k];
+        int fd = sockets[record->port];
+        if (fd < 0 || send(fd, batch->bytes + record->offset, record->length, MSG_DONTWAIT) != (ssize_t)record->length)
+            unsent[record->port]++;
+    }
+}
+
+/* Nanoseconds since 1970. */
+static uint64_t now(void)
+{
+    struct timespec time;
+    clock_gettime(CLOCK_REALTIME, &time);
+    return (uint64_t)time.tv_sec * 1000000000u + (uint64_t)time.tv_nsec;
+}
+
+/* Passes in the frames that a port received, up to a burst. Returns whether the engine takes more. */
+static int forward_burst(dpv_t *engine, uint32_t port, struct mmsghdr *messages, struct dpv_batch *batch)
+{
+    int count = recvmmsg(sockets[port], messages, BURST, MSG_TRUNC, NULL);
+    for (int k = 0; k < count; k++) {
+        uint32_t length = messages[k].msg_len;
+        if (length > MAX_FRAME) {
+            truncated++;
+            continue;
+        }
+        if (dpv_pass(engine, port, frames[k], length, now(), batch) == DPV_NO_TURNS)
+            return 0;
+        send_batch(batch);
+    }
+    return 1;
+}
+
+/* Forwards until a signal ends it, or the engine has taken all its turns. */
+static void forward(dpv_t *engine, uint32_t ports, struct dpv_batch *batch)
+{
+    struct mmsghdr messages[BURST];
+    struct iovec rooms[BURST];
+    struct pollfd waits[MAX_PORTS];
+    memset(messages, 0, sizeof messages);
+    for (int k = 0; k < BURST; k++) {
+        rooms[k].iov_base = frames[k];
+        rooms[k].iov_len = MAX_FRAME;
+        messages[k].msg_hdr.msg_iov = &rooms[k];
+        messages[k].msg_hdr.msg_iovlen = 1;
+    }
+    while (!is_stopped) {
+        for (uint32_t port = 0; port < ports; port++)
+            waits[port] = (struct pollfd){.fd = sockets[port], .events = POLLIN};
+        if (poll(waits, ports, -1) < 0 && errno != EINTR)
+            die("poll");
+        if (is_asked) {
+            is_asked = 0;
+            print_numbers(engine, unsent);
+            continue;
+        }
+        for (uint32_t port = 0; port < ports && !is_stopped; port++)
+            if ((waits[port].revents & POLLIN) && !forward_burst(engine, port, messages, batch))
+                return;
+    }
+}
+
+int main(int argc, char **argv)
+{
+    struct sigaction stops = {0}, asks = {0};
+    struct dpv_batch batch;
+    dpv_t *engine;
+    uint32_t ports;
+    if (argc < 3) {
+        fprintf(stderr, "usage: af_packet PIPELINE 0=INTERFACE 1=INTERFACE ..\n");
+        return 2;
+    }
+    engine = open_pipeline(argv[1]);
+    ports = count_ports(engine);
+    open_interfaces(argc - 2, argv + 2, ports);
+    if (dpv_batch_open(engine, &batch) != DPV_OK)
+        die("memory");
+    stops.sa_handler = on_stop;
+    asks.sa_handler = on_ask;
+    sigaction(SIGINT, &stops, NULL);
+    sigaction(SIGTERM, &stops, NULL);
+    sigaction(SIGUSR1, &asks, NULL);
+    forward(engine, ports, &batch);
+    print_numbers(engine, unsent);
+    if (truncated > 0)
+        printf("truncated %llu\n", (unsigned long long)truncated);
+    dpv_batch_close(&batch);
+    close_engine(engine);
+    return 0;
+}
