@@ -1,9 +1,9 @@
 #!/usr/bin/env python3
-"""Makes the captures of the examples: what comes in, and what must come out.
+"""Makes the captures of the examples: the inputs, and the expected outputs.
 
 Usage: make_captures.py [FOLDER]    (by default the folder of this file)
-What must come out is worked out here from the protocols alone, on the fields of each packet: a header is built anew with its fields
-changed, and its checksum is summed over the whole header. No node program is read, and dpv is not run.
+The expected outputs are computed here from the protocols alone, on the fields of each packet: a header is built again with changed fields,
+and its checksum is summed over the whole header. No node program is read, and dpv is not run.
 """
 import ipaddress
 import pathlib
@@ -20,7 +20,7 @@ ICMP, TCP, UDP, GRE = 1, 6, 17, 47
 
 @dataclass(frozen=True)
 class Ip:
-    """An IPv4 packet, and what stands behind it in its frame."""
+    """An IPv4 packet, and the bytes after it in its frame."""
 
     source: str
     to: str
@@ -59,7 +59,7 @@ class Frame:
 
 
 def padded(frame: Frame) -> Frame:
-    """With zeros behind an IPv4 packet, up to the 60 bytes that Ethernet asks for."""
+    """With zeros after an IPv4 packet, up to the 60 bytes that Ethernet requires."""
     missing = 60 - len(frame.spelled())
     return replace(frame, payload=replace(frame.payload, trailer=b"\0" * missing)) if missing > 0 else frame
 
@@ -73,6 +73,22 @@ def transport(ip: Ip, ports: tuple[int, int], data: bytes, flags: int = 0x18) ->
     pseudo = ipaddress.ip_address(ip.source).packed + ipaddress.ip_address(ip.to).packed
     value = checksum(pseudo + struct.pack(">BBH", 0, ip.protocol, len(segment)) + segment)
     return replace(ip, payload=segment[:place] + struct.pack(">H", value) + segment[place + 2:])
+
+
+def summed(ip: Ip) -> Ip:
+    """With the checksum of its TCP segment or UDP datagram, which a datagram may lack."""
+    place = {TCP: 16, UDP: 6}.get(ip.protocol)
+    if place is None or ip.fragment or ip.protocol == UDP and ip.payload[6:8] == b"\0\0":
+        return ip
+    body = ip.payload[:place] + b"\0\0" + ip.payload[place + 2:]
+    pseudo = ipaddress.ip_address(ip.source).packed + ipaddress.ip_address(ip.to).packed
+    value = checksum(pseudo + struct.pack(">BBH", 0, ip.protocol, len(body)) + body)
+    return replace(ip, payload=body[:place] + struct.pack(">H", value or 0xFFFF) + body[place + 2:])
+
+
+def opening(source: str, to: str, port: int, flags: int = 2, **fields: object) -> Frame:
+    """A TCP segment with these flags; by default one that opens a connection."""
+    return padded(Frame(transport(Ip(source, to, TCP, b"", **fields), (50000, port), b"", flags)))
 
 
 def tcp(source: str, to: str, ports: tuple[int, int], data: bytes = b"", **fields: object) -> Frame:
@@ -129,7 +145,7 @@ def one_hop_less(frame: Frame) -> Frame | None:
     return replace(frame, payload=replace(ip, hops=ip.hops - 1)) if ip.hops > 1 else None
 
 
-# ---- what each example makes of its input: for a frame, the port and the frame that goes out, or several, or none
+# ---- the output of each example: for a frame, the port and the frame that is sent, or several, or none
 
 
 def vlan_pop(frame: object) -> list[tuple[int, object]]:
@@ -216,6 +232,26 @@ def stages(frame: object) -> list[tuple[int, object]]:
     return [(0, replace(less, to=bytes([2, 0, 0, 0, 1, 0]), source=bytes([2, 0, 0, 0, 0, 0])))] if less else []
 
 
+def syn(frame: object) -> list[tuple[int, object]]:
+    ip = ip_of(frame)
+    if ip is not None and ip.protocol == TCP and not ip.fragment & 0x1FFF and len(ip.payload) >= 20:
+        to, flags = struct.unpack(">H", ip.payload[2:4])[0], ip.payload[13]
+        if ipaddress.ip_address(ip.to) in ipaddress.ip_network("192.0.2.0/24") and flags & 0x12 == 2 and to not in (80, 443):
+            return []
+    return [(0, frame)]
+
+
+def nat(frame: object) -> list[tuple[int, object]]:
+    ip = ip_of(frame)
+    if ip is None or ipaddress.ip_address(ip.source) not in ipaddress.ip_network("10.0.0.0/8"):
+        return [(0, frame)]
+    return [(0, replace(frame, payload=summed(replace(ip, source="198.51.100.1"))))]
+
+
+def tap(frame: object) -> list[tuple[int, object]]:
+    return [(1, spelled(frame)[:64]), (0, frame)]
+
+
 # ---- inputs
 
 
@@ -256,6 +292,49 @@ def flows() -> list[object]:
     return frames + [udp("10.0.0.1", "192.0.2.53", (40000, 53), QUERY, options=b"\1\1\1\0")]
 
 
+def opened() -> list[object]:
+    return mixed() + [
+        opening("203.0.113.5", "192.0.2.80", 22),
+        opening("203.0.113.5", "192.0.2.80", 80),
+        opening("203.0.113.5", "192.0.2.80", 443, options=b"\x94\x04\0\0"),
+        opening("203.0.113.5", "192.0.2.80", 23, options=b"\x94\x04\0\0"),
+        opening("203.0.113.5", "192.0.2.80", 23, options=bytes(40)),
+        opening("203.0.113.5", "192.0.2.80", 22, flags=0x12),
+        opening("203.0.113.5", "192.0.2.80", 22, flags=0x10),
+        opening("203.0.113.5", "198.51.100.80", 22),
+        opening("203.0.113.5", "192.0.2.80", 22, fragment=0x2000),
+        opening("203.0.113.5", "192.0.2.80", 22, fragment=0x0007),
+        opening("203.0.113.5", "192.0.2.80", 22, flags=0xC2),
+        replace(opening("203.0.113.5", "192.0.2.80", 22), tags=(7,)),
+        Frame(Ip("203.0.113.5", "192.0.2.80", TCP, struct.pack(">HHII", 50000, 22, 1000, 0), options=bytes(4))),
+    ]
+
+
+def to_be_translated() -> list[object]:
+    unsummed = udp("10.0.0.2", "192.0.2.53", (40000, 53), QUERY)
+    plain = replace(unsummed.payload, payload=unsummed.payload.payload[:6] + b"\0\0" + unsummed.payload.payload[8:])
+    return mixed() + [
+        tcp("10.0.0.1", "192.0.2.80", (40001, 80), WEB),
+        tcp("10.255.255.255", "192.0.2.80", (40001, 443), WEB, hops=1),
+        udp("10.0.0.2", "192.0.2.53", (40000, 53), QUERY),
+        replace(unsummed, payload=plain),
+        ping("10.1.2.3", "192.0.2.1"),
+        udp("10.0.0.2", "192.0.2.53", (40000, 53), QUERY, options=b"\1\1\1\0"),
+        tcp("10.0.0.1", "192.0.2.80", (40001, 80), WEB, options=bytes(40)),
+        padded(Frame(Ip("10.0.0.3", "192.0.2.80", UDP, bytes(range(24)), fragment=0x0009))),
+        udp("11.0.0.2", "192.0.2.53", (40000, 53), QUERY),
+        replace(udp("10.0.0.2", "192.0.2.53", (40000, 53), QUERY), tags=(7,)),
+        # the checksum of this datagram becomes 0, which is written as 0xffff
+        Frame(summed(Ip("10.0.0.9", "192.0.2.53", UDP, struct.pack(">HHHH", port_for_no_sum(), 53, 8, 1)))),
+    ]
+
+
+def port_for_no_sum() -> int:
+    """The port from which an empty datagram of 198.51.100.1 to port 53 of 192.0.2.53 has a sum of 0xffff."""
+    fixed = sum(struct.unpack(">8H", ipaddress.ip_address("198.51.100.1").packed + ipaddress.ip_address("192.0.2.53").packed + struct.pack(">4H", UDP, 8, 53, 8)))
+    return 0xFFFF - fixed % 0xFFFF
+
+
 # What becomes of a frame, on all ports or port by port, the frames that come in at each port, and how many ports there are.
 EXAMPLES = {
     "vlan_pop": (vlan_pop, [tagged()], 1),
@@ -266,6 +345,9 @@ EXAMPLES = {
     "stages": (stages, [mixed()], 1),
     "mirror": (mirror, [mixed()], 2),
     "multicast": ([multicast, forward], [mixed()[:5], mixed()[5:]], 2),
+    "syn": (syn, [opened()], 1),
+    "nat": (nat, [to_be_translated()], 1),
+    "tap": (tap, [mixed()], 2),
     "splitter": (splitter, [flows()], 4),
     "router": (routed, to_be_routed(), 3),
 }

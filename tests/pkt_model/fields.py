@@ -1,0 +1,77 @@
+"""Bits of headers within bytes, and the headers that parts of a text name."""
+from collections.abc import Iterator
+
+from .arithmetic import checksum
+from .syntax import Binary, Bits, Both, Compare, Complement, Condition, Constant, Either, Field, Header, Negated, Number, Truth
+
+
+def bits_at(data: bytes | bytearray, at: int, count: int) -> int:
+    """Reads `count` bits at bit `at`; the first bit of a byte is its highest."""
+    end = at + count
+    whole = int.from_bytes(data[at // 8 : -(-end // 8)], "big")
+    return whole >> -end % 8 & (1 << count) - 1
+
+
+def put_bits(data: bytearray, at: int, count: int, value: int) -> None:
+    """Writes the lowest `count` bits of a value at bit `at`."""
+    first, last = at // 8, -(-(at + count) // 8)
+    shift = -(at + count) % 8
+    mask = (1 << count) - 1 << shift
+    whole = int.from_bytes(data[first:last], "big") & ~mask | value << shift & mask
+    data[first:last] = whole.to_bytes(last - first, "big")
+
+
+def fields_in(part: Number | Condition) -> Iterator[Field]:
+    """The fields of a number, or of a condition."""
+    if isinstance(part, Field):
+        yield part
+    elif isinstance(part, Binary | Compare | Both | Either):
+        yield from fields_in(part.left)
+        yield from fields_in(part.right)
+    elif isinstance(part, Complement | Negated):
+        yield from fields_in(part.inner)
+    elif isinstance(part, Truth):
+        yield from fields_in(part.number)
+
+
+def asked_of(header: Header, before: str) -> dict[str, int]:
+    """The values that a header asks of the fields of the header that it follows."""
+    asked: dict[str, int] = {}
+    parts = [header.after[before]] if before in header.after else []
+    while parts:
+        part = parts.pop()
+        if isinstance(part, Both):
+            parts += [part.right, part.left]
+        elif isinstance(part, Compare) and part.operator == "==":
+            for field, value in ((part.left, part.right), (part.right, part.left)):
+                if isinstance(field, Field) and isinstance(value, Constant):
+                    asked.setdefault(field.name, value.value)
+    return asked
+
+
+def followers(headers: dict[str, Header]) -> dict[str, frozenset[str]]:
+    """For each header, all headers that follow it, directly or not."""
+    found: dict[str, frozenset[str]] = {}
+    for name in reversed(headers):
+        direct = [header.name for header in headers.values() if name in header.after]
+        found[name] = frozenset(direct).union(*(found[follower] for follower in direct))
+    return found
+
+
+def written(header: Header, values: dict[str, int | None], asked: dict[str, int]) -> bytes:
+    """The bytes of a pushed header: a field without a value is what the next header asks for, or its default."""
+    data, summed = bytearray(header.size), []
+    given = {name: asked.get(name, bits.default) for name, bits in header.fields.items() if not bits.is_alias or name in asked}
+    for name, value in (*[it for it in given.items() if it[0] not in values], *values.items()):
+        bits: Bits = header.fields[name]
+        if value is None:
+            summed.append(bits)
+        put_bits(data, bits.at, bits.count, value or 0)
+    for bits in summed:
+        put_bits(data, bits.at, bits.count, checksum(data))
+    return bytes(data)
+
+
+def words_of(bits: Bits, header: Header) -> range:
+    """The bytes of the 16-bit words of a header in which a field has bits."""
+    return range(bits.at // 16 * 2, min(-(-(bits.at + bits.count) // 16) * 2, header.size))

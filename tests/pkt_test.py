@@ -1,0 +1,419 @@
+#!/usr/bin/env python3
+"""Tries the parts of the language's compiler, tools/pkt: words and grammar, headers, errors and their places, registers, layout, and what
+compiled programs send. The checker and the machine are those of tests/model.
+
+Usage: tests/pkt_test.py   (needs no program; some seconds)
+"""
+import pathlib
+import re
+import struct
+import subprocess
+import sys
+import tempfile
+import unittest
+
+TOP = pathlib.Path(__file__).resolve().parent.parent
+sys.path.insert(0, str(TOP / "tools"))
+
+from model import programs, rules  # noqa: E402
+from model.machine import Env, Input, Pool, Port, Ring, World, run  # noqa: E402
+from pkt.compiler import compile_text, error_text, parse  # noqa: E402
+from pkt.graph import Graph, Instruction  # noqa: E402
+from pkt.headers import Headers, Span  # noqa: E402
+from pkt.reader import Reader  # noqa: E402
+from pkt.state import SOMEBODY, SOMEBODY_THE_REST, Packet, State  # noqa: E402
+from pkt.syntax import Compare, Field, Number, SourceError  # noqa: E402
+from pkt.words import words_of  # noqa: E402
+
+ROUTES = {(0x0A000000, 8): 1, (0xC0000200, 24): 0}
+ENV = Env([Pool(64, 0, 2176), Pool(64, 0, 0)], [ROUTES], [Ring(32, (0, 0, 0, 0, 0, 64))], [Port(0, 1, 32), Port(0, 1, 32), Port(0, 1, 32)])
+FREES = programs.assemble(b"free p0\nexit\n")
+SENDS = programs.assemble(b"tx p0,r0,d\nexit\nd: free p0\nexit\n")
+
+
+def count(source: str) -> int:
+    """How many instructions a program is compiled to."""
+    return len(programs.assemble(compile_text(source).encode()))
+
+
+def refused(source: str) -> tuple[int, int] | None:
+    """The label and the rule at which the checker refuses the compiled program, or nothing."""
+    program = programs.assemble(compile_text(source).encode())
+    assert isinstance(program, list), program
+    entry = rules.entry_row(ENV, 0)
+    rows = rules.infer(ENV, program, entry)
+    return None if rows is not None else (-1, 0)
+
+
+def sent(source: str, *frames: bytes) -> list[list[bytes]]:
+    """What each port sends for frames received at port 0; the checker must accept the program."""
+    assert refused(source) is None, "refused"
+    program = programs.assemble(compile_text(source).encode())
+    world = World(ENV, [program, FREES, FREES, FREES], frozenset())
+    records = [(0, 0, frame) for frame in frames]
+    done = run(world, [Input(records, "whole"), Input([], "whole"), Input([], "whole")])
+    return [[record[2] for record in port] for port in done.sent]
+
+
+def checksum(data: bytes) -> int:
+    """An Internet checksum."""
+    total = sum(int.from_bytes((data + b"\0")[k : k + 2], "big") for k in range(0, len(data), 2))
+    while total >> 16:
+        total = (total & 0xFFFF) + (total >> 16)
+    return total ^ 0xFFFF
+
+
+def ipv4(proto: int, payload: bytes, options: bytes = b"", ttl: int = 64, src: str = "10.0.0.1", dst: str = "192.0.2.7") -> bytes:
+    """An IPv4 packet."""
+    ends = b"".join(bytes(map(int, it.split("."))) for it in (src, dst))
+    head = struct.pack(">BBHHHBBH", 0x45 + len(options) // 4, 0, 20 + len(options) + len(payload), 1, 0, ttl, proto, 0) + ends + options
+    return head[:10] + struct.pack(">H", checksum(head)) + head[12:] + payload
+
+
+def udp(sport: int, dport: int, data: bytes = b"", src: str = "10.0.0.1", dst: str = "192.0.2.7", options: bytes = b"", summed: bool = True) -> bytes:
+    """An Ethernet frame of a UDP datagram."""
+    body = struct.pack(">HHHH", sport, dport, 8 + len(data), 0) + data
+    ends = b"".join(bytes(map(int, it.split("."))) for it in (src, dst))
+    value = checksum(ends + struct.pack(">HH", 17, len(body)) + body) or 0xFFFF
+    body = body[:6] + struct.pack(">H", value if summed else 0) + body[8:]
+    return eth(ipv4(17, body, options, src=src, dst=dst))
+
+
+def tcp(flags: int, dport: int, options: bytes = b"", dst: str = "192.0.2.7") -> bytes:
+    """An Ethernet frame of a TCP segment."""
+    return eth(ipv4(6, struct.pack(">HHIIBBHHH", 4000, dport, 1, 2, 0x50, flags, 9, 0, 0), options, dst=dst))
+
+
+def eth(payload: bytes, kind: int = 0x0800) -> bytes:
+    """An Ethernet frame."""
+    return bytes.fromhex("02000000000b02000000000a") + kind.to_bytes(2, "big") + payload
+
+
+def tagged(frame: bytes, tag: int = 7, kind: int = 0x8100) -> bytes:
+    """A frame with one tag more."""
+    return frame[:12] + struct.pack(">HH", kind, tag) + frame[12:]
+
+
+class Words(unittest.TestCase):
+    def test_words(self) -> None:
+        found = [(kind, at.word, at.line, at.column) for kind, at in words_of("if x == 0x1f # why\n  1..5 02:00:00:00:00:0a 10.0.0.1/8")]
+        self.assertEqual(found[:3], [("name", "if", 1, 1), ("name", "x", 1, 4), ("sign", "==", 1, 6)])
+        self.assertEqual([it[:2] for it in found[4:]][:3], [("number", "1"), ("sign", ".."), ("number", "5")])
+        self.assertEqual([it[1] for it in found[7:]], ["02:00:00:00:00:0a", "10.0.0.1", "/", "8", "the end of the text"])
+
+    def test_signs_bind_as_the_page_says(self) -> None:
+        reader = Reader("1 | 2 ^ 3 & 4 << 1 + 2 * 3", Headers())
+        self.assertEqual(reader.constant(), 1 | (2 ^ (3 & (4 << (1 + 2 * 3)))))
+
+    def test_constants_wrap_at_64_bits(self) -> None:
+        self.assertEqual(Reader("0 - 1", Headers()).constant(), (1 << 64) - 1)
+        self.assertEqual(Reader("~0 >> 60", Headers()).constant(), 15)
+
+    def test_a_prefix_and_a_range(self) -> None:
+        (need,) = parse("need ipv4.dst in 192.0.2.0/24").statements
+        self.assertIsInstance(need.condition, Compare)
+        self.assertEqual(need.condition.right, Number(need.at, 0xC00002))
+        (need,) = parse("need ipv4.ttl in 2..9").statements
+        self.assertEqual([need.condition.left.sign, need.condition.right.sign], [">=", "<="])
+        self.assertEqual(need.condition.left.left, Field(need.at, "ipv4", "ttl"))
+
+
+class HeaderRules(unittest.TestCase):
+    def setUp(self) -> None:
+        self.headers = parse("drop").headers
+
+    def test_fields(self) -> None:
+        self.assertEqual(self.headers["ipv4"].fields["ttl"], Span(64, 8))
+        self.assertEqual(self.headers["ipv4"].fields["pieces"], Span(50, 14))
+        self.assertEqual({name: it.size for name, it in self.headers.items() if name in ("eth", "arp", "ipv6", "tcp", "vxlan")},
+                         {"eth": 14, "arp": 28, "ipv6": 40, "tcp": 20, "vxlan": 8})
+
+    def test_what_follows(self) -> None:
+        self.assertEqual(self.headers.looked_for("vxlan"), {"vxlan", "udp", "ipv4", "eth"})
+        self.assertIn("vlan", self.headers["tcp"].before)
+        self.assertEqual(self.headers.after("udp"), {"vxlan"})
+        self.assertEqual(self.headers["ipv4"].length.sizes[0x4F], 60)
+
+    def test_checksums(self) -> None:
+        at = self.headers["ipv4"].at
+        self.assertEqual(self.headers.covering(Field(at, "ipv4", "src")), ["tcp", "udp"])
+        self.assertTrue(self.headers["udp"].checksum.optional)
+
+
+class Errors(unittest.TestCase):
+    def said(self, source: str) -> str:
+        with self.assertRaises(SourceError) as caught:
+            compile_text(source)
+        return error_text(caught.exception, "x.pkt", source)
+
+    def test_places_and_cures(self) -> None:
+        wanted = {
+            "let x = 1\nsend y": "x.pkt:2:6: y is no variable here",
+            "ipv4.tll = 5": "x.pkt:1:6: ipv4 has no field tll",
+            "send port send port": "x.pkt:1:11: control never comes here: the statement before it ends the program",
+            "if ipv4 {\n  if arp { drop }\n}\nsend port": "x.pkt:2:12: control never comes here: what was asked before decides it",
+            "need eth/tcp": "x.pkt:1:10: tcp cannot follow eth",
+            "clone c from 1\neth.type = 5\nsend port": "x.pkt:2:1: the bytes of the packet cannot be written here: c (line 1) shares them",
+            "ports 2\nsend 2": "x.pkt:2:6: there is no port 2: the program has 2",
+            "mend eth.src = 5": "x.pkt:1:1: no checksum covers eth.src",
+            "mend ipv4.sum = 5": "x.pkt:1:1: ipv4.sum is the checksum itself",
+            "let x = length": "x.pkt:1:9: the length is only compared with a constant",
+            "send c to 1": "x.pkt:1:6: there is no packet c here",
+            "let c = 1\nclone c from 0": "x.pkt:2:1: c is a variable already",
+            "const eth = 5": "x.pkt:1:7: eth is a header already",
+            "need length + 1 == 5": "x.pkt:1:6: the length is only compared with a constant",
+            "let x = (eth.type == 5) + 1": "x.pkt:1:10: a condition stands where a number is wanted",
+            "need eth.type else { let x = 1 }": "x.pkt:1:1: what is after this `else` has to end the program",
+            "while 1 { new h from 0 chain h before this }": "x.pkt:1:1: `chain` cannot be in a loop",
+            "header mine { a:3 } after eth if eth.type == 5": "x.pkt:1:8: the 3 bits of mine do not make whole bytes",
+            "push vlan { type = 5 }": "x.pkt:1:6: vlan.type is what stood in eth",
+            "segments 2\ntruncate 64": "x.pkt:2:1: a packet of several segments cannot be truncated",
+            "let x = 1\nlet x = 2": "x.pkt:2:1: x is a variable already",
+            "ports 2 clone c from 1 if port { free c } send c to 1": "x.pkt:1:43: c may be gone here",
+            "need x ==": "x.pkt:1:10: a number or a condition is wanted here, and this is 'the end of the text'",
+            "x = 1 ?": "x.pkt:1:7: no word begins with '?'",
+            "if tcp.dport = 5 { drop }": "x.pkt:1:14: '{' is wanted here, and this is '='\n    if tcp.dport = 5 { drop }\n                 ^\n  help: compare with ==",
+            "if ipv4.src == 10.0.0.0/8 { drop }": "help: a prefix stands after `in`",
+            "drop;": "help: no sign ends a statement",
+            "if tcp {\n  drop": "x.pkt:2:7: no statement begins with 'the end of the text'",
+            "accept": "help: statements begin with let, if, while",
+        }
+        for source, text in wanted.items():
+            with self.subTest(source):
+                self.assertIn(text, self.said(source))
+        self.assertIn("help: write before `clone`, or free the clone first", self.said("clone c from 1\neth.type = 5"))
+        self.assertIn("\n    send y\n         ^\n", self.said("let x = 1\nsend y"))
+
+    def test_a_ninth_number(self) -> None:
+        names = "abcdefgh"
+        source = "".join(f"let {it} = eth.type + {k}\n" for k, it in enumerate(names)) + "eth.src = " + " + ".join(names) + "\nsend port"
+        self.assertIn("this needs a ninth number: a, b, c, d, e, f, g, port are held", self.said(source))
+
+    def test_too_many_instructions(self) -> None:
+        said = self.said("let x = port\n" + "".join(f"x = (x << 1) ^ eth.type ^ {k}\n" for k in range(400)) + "eth.src = x\nsend port")
+        self.assertRegex(said, r"the program has 1\d\d\d instructions, and 1,024 are possible; this line takes \d")
+
+
+class Knowledge(unittest.TestCase):
+    def test_groups_are_those_of_the_checker(self) -> None:
+        state = State()
+        state.share(1, 0)
+        self.assertEqual((state.packets[0].sharers, state.packets[1].sharers), ({1}, {0}))
+        state.share(2, 0)
+        state.leave(1)
+        self.assertEqual(state.packets[0].sharers, {2})
+        state.dissolve(2)
+        self.assertEqual(state.packets[0].sharers, {SOMEBODY})
+        state.share(1, 0)
+        self.assertEqual(state.packets[1].sharers, {SOMEBODY})
+
+    def test_what_is_known_on_both_ways(self) -> None:
+        mine, yours = State(), State()
+        mine.packets[0], yours.packets[0] = Packet(frozenset(), 128, 34), Packet(frozenset({SOMEBODY_THE_REST}), 100, 14, 2)
+        mine.learn(Span(96, 16), 0x0800)
+        mine.join(yours)
+        self.assertEqual((mine.packets[0], mine.bits), (Packet(frozenset({SOMEBODY_THE_REST}), 100, 14, 2), {}))
+        self.assertEqual(Packet(frozenset({1})).joined(Packet()).sharers, {SOMEBODY})
+
+    def test_bits(self) -> None:
+        state = State()
+        state.learn(Span(12, 8), 0xAB)
+        self.assertEqual(state.known(Span(8, 16)), (0x0FF0, 0x0AB0))
+        state.overwrite(Span(8, 4))
+        self.assertEqual(state.known(Span(8, 16)), (0xF0, 0xB0))
+
+
+class Layout(unittest.TestCase):
+    def test_equal_ends_are_one(self) -> None:
+        ends = [Instruction("set", ("r1", "5"), 1, next=Instruction("free", ("p0",), 1, next=Instruction("exit"))) for _ in range(2)]
+        graph = Graph(Instruction(next=Instruction("jeq", ("r0", "1"), 1, target=ends[0], next=Instruction("jeq", ("r0", "2"), 1, target=ends[0], next=ends[1]))))
+        graph.shorten()
+        self.assertEqual([it.word for it in graph.order()], ["set", "free", "exit"])
+
+    def test_equal_ends_are_one_where_packets_share_bytes(self) -> None:
+        source = "ports 2\nheader label { value:32 }\nnew mark from 0\npush label { value = 7 } on mark\nclone copy from 1\nchain mark before this\n"
+        self.assertEqual(count(source + "send copy to port else drop\nsend 1"), 18)
+
+    def test_a_round_of_a_loop_goes_back_at_once(self) -> None:
+        lines = compile_text("while length < 54 {\n  if ipv4.ttl == 1 { let a = 1 } else { let b = 2 }\n}\nsend port").splitlines()
+        jumps = [it for label, it in zip(lines, lines[1:]) if label.endswith(":") and it.split()[0] == "jmp"]
+        self.assertEqual(jumps, [])
+        self.assertGreater(sum("jmp L1 " in it for it in lines), 1)
+
+    def test_lengths_are_asked_once(self) -> None:
+        text = compile_text("need arp or ipv4\nsend port")
+        self.assertEqual(text.count("iflen"), 2)
+        self.assertEqual(compile_text("need ipv4.ttl > 1\nsend port").count("iflen"), 1)
+        self.assertIn("iflen p0,34", compile_text("need ipv4.ttl > 1\nsend port"))
+
+    def test_neighbouring_constants_are_written_together(self) -> None:
+        text = compile_text("eth.dst = 1\neth.src = 2\nsend port")
+        self.assertIn("set r1,0x10000 ", text)
+        self.assertEqual(text.count("store"), 2)
+
+    def test_each_instruction_has_its_line(self) -> None:
+        lines = compile_text("# a comment\nneed ipv4.ttl > 1 # expired\nsend port").splitlines()
+        self.assertTrue(lines[0].startswith("# Built from"))
+        self.assertTrue(all("# 2: need ipv4.ttl > 1 # expired" in it or "# 3: send port" in it or "# what is held is dropped" in it for it in lines[1:] if ":" != it[-1]))
+
+
+class Programs(unittest.TestCase):
+    """What compiled programs send, of packets whose outcome is plain."""
+
+    def test_a_header_is_guarded_by_touching_it(self) -> None:
+        frame = udp(5, 53)
+        self.assertEqual(sent("need udp.dport == 53\nsend port", frame, frame[:41], b"\2", eth(b"", 0x0806))[0], [frame])
+        self.assertEqual(sent("if udp.dport != 53 { drop }\nsend port", frame[:41], b"")[0], [frame[:41], b""])
+
+    def test_otherwise(self) -> None:
+        frame = udp(5, 53)
+        self.assertEqual(sent("otherwise send 2\nports 3\nudp.dport = 7\nsend 0", frame[:30])[2], [frame[:30]])
+
+    def test_options(self) -> None:
+        frames = [tcp(2, 22, bytes(4 * k)) for k in range(11)]
+        self.assertEqual(sent("need tcp.dport == 22 and tcp.flags == 2\nsend port", *frames, *[it[:-1] for it in frames])[0], frames)
+        for segments in ("segments 4\n", ""):
+            changed = [it[:-18] + b"\0\x50" + it[-16:] for it in frames]
+            self.assertEqual(sent(segments + "tcp.dport = 80\nsend port", *frames)[0], changed)
+
+    def test_tags(self) -> None:
+        frame = udp(5, 53)
+        self.assertEqual(sent("while vlan { pop vlan }\nsend port", tagged(tagged(frame)))[0], [frame])
+        self.assertEqual(sent("push vlan { vid = 7 }\nsend port", frame, tagged(frame, 9))[0], [tagged(frame), tagged(tagged(frame, 9))])
+        self.assertEqual(sent("if qinq { pop qinq/vlan }\nsend port", tagged(tagged(frame), 9, 0x88A8))[0], [frame])
+        self.assertEqual(sent("need qinq\npush vlan { vid = qinq.vid }\nsend port", tagged(frame, 9, 0x88A8))[0], [tagged(tagged(frame, 9), 9, 0x88A8)])
+        self.assertEqual(sent("if vlan { need ipv4.ttl == 64 vlan.vid += 1 }\nsend port", tagged(frame, 0xEFFF))[0], [tagged(frame, 0xE000)])
+
+    def test_mend(self) -> None:
+        here, there = udp(5, 53, b"abc"), udp(5, 53, b"abc", src="198.51.100.1")
+        source = "mend ipv4.src = 198.51.100.1\nsend port"
+        self.assertEqual(sent(source, here, udp(5, 53, summed=False), udp(5, 53, b"abc", options=bytes(8)))[0],
+                         [there, udp(5, 53, src="198.51.100.1", summed=False), udp(5, 53, b"abc", options=bytes(8), src="198.51.100.1")])
+        less = eth(ipv4(1, bytes(8), ttl=63))
+        self.assertEqual(sent("mend ipv4.ttl -= 1\nsend port", eth(ipv4(1, bytes(8))))[0], [less])
+        no_sum = next(k for k in range(65536) if udp(k, 53)[40:42] == b"\xff\xff")
+        self.assertEqual(sent("mend udp.sport = %d\nsend port" % no_sum, udp(5, 53))[0], [udp(no_sum, 53)])
+
+    def test_mend_of_64_bits(self) -> None:
+        head = struct.pack(">IHBB", 0x60000000, 8, 17, 64)
+        ends = [bytes.fromhex("20010db8000000000000000000000001"), bytes.fromhex("20010db8000000010000000000000002")]
+
+        def frame(src: bytes) -> bytes:
+            body = struct.pack(">HHHH", 1, 2, 8, 0)
+            value = checksum(src + ends[1] + struct.pack(">II", 8, 17) + body)
+            return eth(head + src + ends[1] + body[:6] + struct.pack(">H", value), 0x86DD)
+
+        after = bytes.fromhex("fd00000000000099") + ends[0][8:]
+        self.assertEqual(sent("need ipv6\nmend ipv6.src_hi = 0xfd00000000000099\nsend port", frame(ends[0]))[0], [frame(after)])
+
+    def test_pushed_headers(self) -> None:
+        inner = ipv4(1, bytes(8))
+        source = """need ipv4
+let size = ipv4.len
+cut 14
+push eth { dst = 1 src = 2 } ipv4 { len = size + 24 ttl = 9 id = port src = 1.2.3.4 dst = 5.6.7.8 } gre { type = 0x0800 }
+send port"""
+        outer = struct.pack(">BBHHHBBH", 0x45, 0, len(inner) + 24, 0, 0, 9, 47, 0) + bytes([1, 2, 3, 4, 5, 6, 7, 8])
+        outer = outer[:10] + struct.pack(">H", checksum(outer)) + outer[12:]
+        wanted = (1).to_bytes(6, "big") + (2).to_bytes(6, "big") + b"\x08\0" + outer + b"\0\0\x08\0" + inner
+        self.assertEqual(sent(source, eth(inner))[0], [wanted])
+        self.assertEqual(sent("need gre\npop ipv4/gre\nsend port", wanted)[0], [wanted[:14] + inner])
+
+    def test_a_length_that_varies_is_popped_whole(self) -> None:
+        frame = eth(ipv4(17, b"payload", bytes(12)))
+        self.assertEqual(sent("pop ipv4\nsend port", frame, frame[:45])[0], [frame[:14] + b"payload"])
+
+    def test_packets(self) -> None:
+        frame = udp(5, 53, bytes(100))
+        self.assertEqual(sent("ports 2\nclone c from 1\ntruncate c 64\nsend c to 1\nsend 0", frame, b"x")[:2], [[frame, b"x"], [frame[:64], b"x"]])
+        self.assertEqual(sent("new h from 0\npush eth { type = 5 } on h\nchain h before this\nsend port", b"abc")[0], [bytes(12) + b"\0\5abc"])
+        self.assertEqual(sent("clone c from 1\nfree c\neth.type = 5\nsend port", eth(b"x"))[0], [eth(b"x", 5)])
+        self.assertEqual(sent("cut 3\nsend port", b"abcd", b"ab")[0], [b"d"])
+
+    def test_lookup(self) -> None:
+        source = "ports 3\nlet hop = lookup 0 ipv4.dst else send 2\nsend hop"
+        frames = [udp(1, 2, dst="10.1.1.1"), udp(1, 2, dst="192.0.2.1"), udp(1, 2, dst="8.8.8.8")]
+        self.assertEqual(sent(source, *frames), [[frames[1]], [frames[0]], [frames[2]]])
+
+    def test_numbers(self) -> None:
+        def value(expression: str) -> int:
+            text = "let a = eth.dst & 0xffff\nlet b = eth.src\nheader wide { value:64 } after eth if eth.type == 0x0800\n"
+            (frame,) = sent(f"{text}wide.value = {expression}\nsend port", eth(bytes(8)))[0]
+            return int.from_bytes(frame[14:22], "big")
+
+        a, b = 0x000B, 0x02000000000A
+        for text, wanted in {
+            "a * 7 + b": a * 7 + b, "a - b": (a - b) % (1 << 64), "~a >> 3": ((1 << 64) - 1 - a) >> 3, "(b ^ a) << 20": (b ^ a) << 20 & (1 << 64) - 1,
+            "a * 0 + 5": 5, "1000 * a": 1000 * a, "b & 0xff00 | a": b & 0xFF00 | a, "10 - a": (10 - a) % (1 << 64),
+        }.items():
+            with self.subTest(text):
+                self.assertEqual(value(text), wanted)
+
+    def test_comparisons_of_64_bits(self) -> None:
+        source = "let a = 0 - eth.dst\nlet b = 0 - eth.src\nif a {sign} b {{ eth.type = 1 }} else {{ eth.type = 0 }}\nsend port"
+        values = [(1, 1), (1, 2), (2, 1), (0, 1), (1, 0), (0, 0)]
+        for sign, holds in {"<": lambda a, b: a < b, "<=": lambda a, b: a <= b, ">": lambda a, b: a > b, ">=": lambda a, b: a >= b, "!=": lambda a, b: a != b}.items():
+            frames = [a.to_bytes(6, "big") + b.to_bytes(6, "big") + b"\0\0" for a, b in values]
+            wanted = [int(holds(-a % (1 << 64), -b % (1 << 64))) for a, b in values]
+            self.assertEqual([it[13] for it in sent(source.format(sign=sign), *frames)[0]], wanted, sign)
+
+    def test_loops_end_after_256_rounds(self) -> None:
+        source = "let k = 0\nwhile k < {n} {{ k += 1 }}\nsend port"
+        self.assertEqual(sent(source.format(n=256), b"a")[0], [b"a"])
+        self.assertEqual(sent(source.format(n=257), b"a")[0], [])
+        self.assertEqual(sent("while port == 0 { }\nif eth { send port }\nsend port", b"a")[0], [])
+
+    def test_given(self) -> None:
+        env = ENV._replace(rings=[Ring(32, (2, 128, 0, 34, 0, 1))])
+        program = programs.assemble(compile_text("given eth/ipv4\nneed ipv4.ttl > 1\nmend ipv4.ttl -= 1\nsend 0").encode())
+        self.assertIsNotNone(rules.infer(env, program, rules.entry_row(env, 3)))
+        self.assertIsNone(rules.infer(ENV, program, rules.entry_row(ENV, 3)))
+
+    def test_what_was_refused_once(self) -> None:
+        """Programs that the checker refused, or that sent other bytes, when they were tried at random."""
+        for source in [
+            "need tcp.dport != 443 else { clone c1 from 1 send 0 }\nif qinq/ipv4/tcp { }\nsend port",
+            "push vlan { vid = udp.sum }\nsend port",
+            "push vlan { dei = ipv4.frag & l4.dport }\nsend port",
+            "let h = 0\nif ipv4 { h = ipv4.src  if l4 { h ^= l4.sport } }\nsend port",
+        ]:
+            with self.subTest(source):
+                self.assertIsNone(refused(source))
+
+
+class Page(unittest.TestCase):
+    """What docs/users/pkt.md says of headers and of its first program."""
+
+    def setUp(self) -> None:
+        self.page = (TOP / "docs/users/pkt.md").read_text()
+
+    def test_the_known_headers(self) -> None:
+        field = re.compile(r"(?<![\w@])(\w+):(\d+(?:=\w+)?)")
+        rows = dict(re.findall(r"(?m)^\| `(\w+)` \| ([^;|]*)", self.page[self.page.index("### The known headers") :]))
+        texts = dict(re.findall(r"(?m)^header (\w+) +\{([^}]*)\}", (TOP / "tools/pkt/prelude.pkt").read_text()))
+        self.assertEqual({name: field.findall(text) for name, text in rows.items()}, {name: field.findall(text) for name, text in texts.items()})
+
+    def test_the_first_program(self) -> None:
+        program = (TOP / "examples/nat/nat.pkt").read_text()
+        self.assertIn(f"```\n{program}```\n", self.page)
+        self.assertIn('node = "nat.dpv"\nin = "in.pcap"\nout = "out.pcap"\n', self.page)
+
+
+class Command(unittest.TestCase):
+    def test_build(self) -> None:
+        with tempfile.TemporaryDirectory() as name:
+            path = pathlib.Path(name, "drop.pkt")
+            path.write_text("drop\n")
+            run = subprocess.run([str(TOP / "dpv"), "build", str(path)], capture_output=True, text=True)
+            self.assertEqual((run.returncode, run.stderr), (0, ""))
+            self.assertEqual(run.stdout, compile_text("drop\n", "drop.pkt"))
+            path.write_text("dropp\n")
+            run = subprocess.run([str(TOP / "dpv"), "build", str(path)], capture_output=True, text=True)
+            self.assertEqual((run.returncode, run.stdout), (1, ""))
+            self.assertIn("drop.pkt:1:1: no statement begins with 'dropp'", run.stderr)
+            run = subprocess.run([str(TOP / "dpv"), "build", name + "/none.pkt"], capture_output=True, text=True)
+            self.assertEqual(run.returncode, 1)
+
+
+if __name__ == "__main__":
+    unittest.main()

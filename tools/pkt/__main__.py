@@ -1,0 +1,32 @@
+"""Usage: dpv build FILE.pkt > FILE.dpv
+
+Compiles a program of docs/users/pkt.md to a node program. An error is printed to standard error with its line, and gives status 1."""
+import pathlib
+import sys
+
+sys.path.insert(0, str(pathlib.Path(__file__).resolve().parent.parent))
+
+from pkt.compiler import compile_text, error_text  # noqa: E402
+from pkt.syntax import SourceError  # noqa: E402
+
+
+def main() -> int:
+    if len(sys.argv) != 2 or sys.argv[1] in ("-h", "--help"):
+        print(__doc__.splitlines()[0], file=sys.stderr)
+        return 2
+    path = pathlib.Path(sys.argv[1])
+    try:
+        source = path.read_text(encoding="utf-8")
+    except (OSError, UnicodeDecodeError) as error:
+        print(f"{path}: {error.strerror if isinstance(error, OSError) else 'it is no UTF-8 text'}", file=sys.stderr)
+        return 1
+    try:
+        sys.stdout.write(compile_text(source, path.name))
+    except SourceError as error:
+        print(error_text(error, str(path), source), file=sys.stderr)
+        return 1
+    return 0
+
+
+if __name__ == "__main__":
+    sys.exit(main())

@@ -1,0 +1,168 @@
+"""Internet checksums: those that `mend` updates, and those of pushed headers."""
+from __future__ import annotations
+
+from typing import Self
+
+from .conditions import Conditions
+from .headers import Header, Span
+from .registers import Value
+from .syntax import Assign, Field
+from .ways import Join
+
+# The name of the variable with the difference by which checksums are updated.
+DIFFERENCE = "$difference"
+
+
+class Checksums(Conditions):
+    """Appends sums in one's complement."""
+
+    def mend(self, it: Assign, after: Join[Self]) -> None:
+        """Assigns to a field, and updates each checksum that covers it; the headers were found."""
+        assert isinstance(it.target, Field)
+        own, over = self.headers[it.target.header], self.headers.covering(it.target)
+        names = [*([own.name] if own.checksum else []), *self.outer(own.name)]
+        if not names and not over:
+            self.error(f"no checksum covers {own.name}.{it.target.name}", "assign without `mend`")
+        if own.checksum and own.checksum.field == it.target.name:
+            self.error(f"{own.name}.{it.target.name} is the checksum itself", "assign without `mend`")
+        self.assign_field(it.target, self.evaluate(it.value))
+        if len(names) + len(over) > 1:
+            self.fold(Value(register=self.variables[DIFFERENCE]))
+        way, done = self, Join[Self](after.needs | self.unit.reach.of(it))
+        for name in names:
+            updated = Join[Self]()
+            way.update(name, updated)
+            (way,) = updated.begin()
+        way.cover(over, done)
+        for s in done.begin():
+            del s.variables[DIFFERENCE]
+            s.jump(after)
+
+    def outer(self, name: str) -> list[str]:
+        """The headers before a header whose checksums cover what follows them."""
+        found, begin = [], self.found[name]
+        while before := self.header_before(name):
+            name, checksum = before, self.headers[before].checksum
+            if checksum and checksum.payload:
+                found.append(name)
+                if (begin - self.found[name]) % 2:
+                    self.error(f"the words of the checksum of {name} begin at other bytes", "`mend` needs a header at an even place")
+        return found
+
+    def words_of(self, it: Field, span: Span) -> Span:
+        """The 16-bit words of its header that a field has bits in."""
+        base = 8 * self.found[it.header]
+        first, end = (span.bit - base) // 16 * 16, (span.end - base + 15) // 16 * 16
+        words = Span(base + first, end - first)
+        if words.bits > 16 and words != span or end > 8 * self.headers[it.header].size:
+            self.error(f"{it.header}.{it.name} is neither within one 16-bit word of its header nor made of whole ones", "split it")
+        return words
+
+    def assign_field(self, target: Field, value: Value) -> None:
+        """Assigns, and keeps the difference: the new words plus the complement of the old ones."""
+        span = self.span(target)
+        words = self.words_of(target, span)
+        total = self.own(self.load(words))
+        self.apply(total, "^", Value(words.largest))
+        self.halve(total)
+        if words != span:
+            self.store(span, value)
+            new = self.load(words)
+        else:
+            new = self.shifted(value, span, 0)
+        if words.bits > 32:
+            new = self.own(new)
+            self.store(span, Value(register=new.r))
+            self.pins[new.r] += 1
+            self.halve(new)
+        self.apply(total, "+", new)
+        if words == span and words.bits <= 32:
+            self.store(span, new)
+        else:
+            self.release(new)
+        self.variables[DIFFERENCE] = total.r
+
+    def cover(self, names: list[str], done: Join[Self]) -> None:
+        """Updates the checksum of the first of these headers that is present."""
+        if not names:
+            return self.jump(done)
+        yes, no = Join[Self](), Join[Self](done.needs)
+        self.look_for(names[0], yes, no)
+        for s in yes.begin():
+            s.update(names[0], done)
+        for s in no.begin():
+            s.cover(names[1:], done)
+
+    def update(self, name: str, done: Join[Self]) -> None:
+        """Updates a checksum by the difference."""
+        checksum = self.headers[name].checksum
+        assert checksum is not None
+        span = self.headers[name].fields[checksum.field].moved(self.found[name])
+        total = self.load(span)
+        if checksum.optional:
+            self.emit("jeq", total, 0, to=done)
+        total, way = self.own(total), self
+        self.apply(total, "^", Value(0xFFFF))
+        self.apply(total, "+", Value(register=self.variables[DIFFERENCE]))
+        self.complement(total, checksum.optional)
+        if checksum.optional:
+            stored = Join[Self]()
+            zero = self.emit("jeq", total, 0, to=Join())
+            zero.emit("set", total, "0xffff")
+            zero.bounds[total.r] = 0xFFFF
+            self.jump(stored)
+            zero.jump(stored)
+            (way,) = stored.begin()
+            way.pins[total.r] += 1
+        way.store(span, total)
+        way.jump(done)
+
+    # Sums
+
+    def halve(self, value: Value) -> None:
+        """Makes room in a sum for more; as a checksum it is unchanged."""
+        if self.bound(value) >> 34:
+            self.fold(value)
+
+    def complement(self, total: Value, is_exact: bool = True) -> None:
+        """The complement of a sum, folded to 16 bits; unless it is exact, higher bits are not 0."""
+        while self.bound(total) > 0x1FFFE:
+            self.fold(total)
+        if self.bound(total) > 0xFFFF:
+            self.fold(total, keeps=True)
+            if is_exact:
+                self.apply(total, "&", Value(0xFFFF))
+        self.apply(total, "^", Value(0xFFFF))
+
+    def fold(self, total: Value, keeps: bool = False) -> None:
+        """Adds the bits above the low ones of a sum to them; `keeps` also leaves them there."""
+        shift = 32 if self.bound(total) >> 40 else 16
+        high = self.fresh()
+        self.set(high, total)
+        self.apply(high, ">>", Value(shift))
+        if not keeps:
+            self.apply(total, "&", Value((1 << shift) - 1))
+        self.apply(total, "+", high)
+        self.release(high)
+
+    def sum_of(self, header: Header, at: int, data: bytes, others: list[tuple[Span, Value]]) -> Value:
+        """The checksum of one pushed header, given its constant bytes and the other fields."""
+        own = data[at : at + header.size] + bytes(header.size % 2)
+        total = sum(int.from_bytes(own[k : k + 2], "big") for k in range(0, len(own), 2))
+        inside = [(span, value) for span, value in others if 8 * at <= span.bit < 8 * (at + header.size)]
+        if not inside:
+            while total >> 16:
+                total = (total & 0xFFFF) + (total >> 16)
+            return Value(total ^ 0xFFFF)
+        result = self.own(Value(total))
+        for span, value in inside:
+            self.pins[value.r] += 1
+            part, shift = self.shifted(Value(register=value.r), span, 0), -(span.end - 8 * at) % 16
+            if shift or self.bound(part) >> 34:
+                part = self.own(part)
+                self.halve(part)
+                self.apply(part, "<<", Value(shift))
+            self.apply(result, "+", part)
+            self.release(part)
+        self.complement(result)
+        return result

@@ -1,0 +1,45 @@
+"""Compiles a text to a node program."""
+from __future__ import annotations
+
+import pathlib
+import sys
+from functools import lru_cache
+
+from .graph import printable
+from .headers import Headers
+from .reader import Program, Reader
+from .statements import compile_program
+from .syntax import SourceError
+
+PRELUDE = pathlib.Path(__file__).resolve().parent / "prelude.pkt"
+# Nested statements are nested calls; a text may have some thousands of them.
+MAX_DEPTH = 60_000
+
+
+@lru_cache
+def known_headers() -> Headers:
+    """The predeclared headers."""
+    return Reader(PRELUDE.read_text(encoding="utf-8"), Headers()).program().headers
+
+
+def parse(source: str) -> Program:
+    """Parses a text."""
+    return Reader(source, Headers(known_headers())).program()
+
+
+def compile_text(source: str, name: str = "a text") -> str:
+    """The node program of a text; raises SourceError."""
+    sys.setrecursionlimit(MAX_DEPTH)
+    return f"# Built from {printable(name)} by `dpv build`; docs/users/pkt.md has its language.\n" + compile_program(parse(source)).write(source)
+
+
+def error_text(error: SourceError, name: str, source: str) -> str:
+    """The message of an error: its place, its line, and a cure."""
+    at, rows = error.at, source.split("\n")
+    lines = [f"{name}:{at.line}:{at.column}: {error.message}"]
+    if 0 < at.line <= len(rows):
+        row = rows[at.line - 1].replace("\t", " ")
+        lines += [f"    {row}", "    " + " " * (at.column - 1) + "^" * max(1, min(len(at.word), len(row) - at.column + 1))]
+    if error.cure:
+        lines.append(f"  help: {error.cure}")
+    return "\n".join(lines)

@@ -1,0 +1,203 @@
+"""The program as a graph of instructions: optimized, ordered and written."""
+from __future__ import annotations
+
+from collections.abc import Iterator
+from dataclasses import dataclass
+
+from .state import Packet
+from .syntax import Place, SourceError
+
+MAX_INSTRUCTIONS = 1_024
+WIDTH = 96
+TESTS = {"jeq", "jlt", "iflen", "iflast", "ifhead", "iftail"}
+# Instructions that overwrite their first operand without reading it, that write it at all, and that change no packet.
+SETS = {"load", "loadx", "set", "mov", "lookup"}
+WRITES = {*SETS, "add", "sub", "and", "or", "xor", "shl", "shr"}
+HARMLESS = {*WRITES, *TESTS}
+ENDS = {"exit", "jmp"}
+ENDLESS = 1 << 64
+
+
+@dataclass(eq=False)
+class Instruction:
+    """An instruction and its line of the source, 0 for none; the instruction after it, and the target of its jump. One without a word means
+    the instruction after it. `shares` is the sharing that it relies on, `left` the line of a jump after it. A `jmp` goes back to the start
+    of a loop."""
+
+    word: str = ""
+    operands: tuple[str, ...] = ()
+    line: int = 0
+    shares: object = ()
+    left: int = 0
+    next: Instruction | None = None
+    target: Instruction | None = None
+
+    def text(self, names: dict[Instruction, str]) -> str:
+        """The text of the instruction, with these labels."""
+        return f"{self.word} {','.join([*self.operands, *([names[self.target]] if self.target else [])])}".rstrip()
+
+    @property
+    def packet(self) -> int:
+        """The register of its packet, or -1."""
+        return int(self.operands[0][1:]) if self.operands and self.operands[0][0] == "p" else -1
+
+    @property
+    def count(self) -> int:
+        """The number of bytes that it adds to a packet or tests, or 0."""
+        return int(self.operands[1]) if len(self.operands) == 2 and self.operands[1].isdigit() else 0
+
+    @property
+    def leads_to(self) -> list[Instruction]:
+        """Its successors; the one after it is the last."""
+        return [it for it in (self.target, self.next) if it]
+
+
+class Graph:
+    """A graph of instructions, given the first one."""
+
+    def __init__(self, first: Instruction) -> None:
+        self.first = first
+
+    def order(self) -> list[Instruction]:
+        """All instructions, each before its successors, except in loops."""
+        order: list[Instruction] = []
+        seen: set[Instruction] = set()
+        pending = [(self.first, False)]
+        while pending:
+            it, is_done = pending.pop()
+            if is_done:
+                order.append(it)
+            elif it not in seen:
+                seen.add(it)
+                pending.append((it, True))
+                pending += [(other, False) for other in reversed(it.leads_to)]
+        return order[::-1]
+
+    # Optimizations
+
+    def shorten(self) -> None:
+        """Removes unnecessary instructions, until nothing changes."""
+        while self.unite() or self.widen() or self.forget_known():
+            pass
+
+    def unite(self) -> bool:
+        """Merges equal instructions with equal successors, and removes tests with equal ones; returns whether there were any."""
+        same: dict[object, Instruction] = {}
+        instead: dict[Instruction, Instruction] = {}
+        for it in reversed(self.order()):
+            it.next, it.target = (instead.get(other, other) if other else None for other in (it.next, it.target))
+            if it.next and (not it.word or it.word in TESTS and it.next is it.target):
+                instead[it] = it.next
+            else:
+                instead[it] = same.setdefault((it.word, it.operands, it.shares, it.next, it.target), it)
+        for it in instead:
+            it.target = instead.get(it.target, it.target) if it.target else None
+        self.first = instead[self.first]
+        return any(it is not other and it.word for it, other in instead.items())
+
+    def widen(self) -> bool:
+        """Widens length tests to later ones with the same target, and jumps there at once if all do; returns whether any changed."""
+        order, read, changed = self.order()[::-1], self.registers_read(), False
+        for packet, end in dict.fromkeys((it.packet, it.target) for it in order if it.word == "iflen"):
+            shorter = sure_to_come(order, packet, end, read[end])
+            for it in order:
+                if it.word == "iflen" and (it.packet, it.target) == (packet, end) and it.count < shorter[it.next]:
+                    changed = True
+                    if shorter[it.next] == ENDLESS:
+                        it.next = end
+                    else:
+                        it.operands = it.operands[0], str(shorter[it.next])
+        return changed
+
+    def registers_read(self) -> dict[Instruction, set[str]]:
+        """The live number registers at each instruction."""
+        order, changed = self.order()[::-1], True
+        read: dict[Instruction, set[str]] = {it: set() for it in order}
+        while changed:
+            changed = False
+            for it in order:
+                found = set().union(*(read[other] for other in it.leads_to))
+                found -= set(it.operands[:1]) if it.word in WRITES else set()
+                found |= {name for name in it.operands[it.word in SETS :] if name[:1] == "r"}
+                changed = changed or found != read[it]
+                read[it] = found
+        return read
+
+    def forget_known(self) -> bool:
+        """Removes length tests that cannot fail; returns whether there was one. Nothing is known at the start of a loop."""
+        order, changed = self.order(), False
+        known: dict[Instruction, dict[int, Packet]] = {it: {} for it in (self.first, *(it.target for it in order if it.word == "jmp")) if it}
+        for it in (it for it in order if it in known):
+            here, there = known[it], dict(known[it])
+            packet = there.pop(it.packet, Packet())
+            if it.word == "iflen" and packet.first >= it.count:
+                it.word, it.operands, it.target, changed = "", (), None, True
+                there = here
+            elif it.word == "clone":
+                there[it.packet] = here.get(int(it.operands[1][1:]), Packet())
+            elif it.word == "chain":
+                there.pop(int(it.operands[1][1:]), None)
+            elif it.packet >= 0 and it.word not in ("alloc", "free", "tx", "enq"):
+                there[it.packet] = packet.after(it.word, it.count)
+            for other, packets in ((it.target, here), (it.next, there)):
+                if other:
+                    before = known.setdefault(other, packets)
+                    known[other] = {p: fact.joined(packets.get(p, Packet())) for p, fact in before.items()}
+        return changed
+
+    # The text
+
+    def lines(self) -> Iterator[tuple[str, int | None]]:
+        """The instructions, each with its line, and labels. An instruction is followed by its successor, a jump to it, or a copy of it."""
+        order = self.order()
+        targets = {it.target for it in order}
+        order = [it for it in order if it.word not in ENDS or it in targets]
+        jumps = {it: it.next for it, following in zip(order, [*order[1:], None]) if it.next and it.next is not following}
+        targets |= {it for it in jumps.values() if it.word not in ENDS}
+        names = {it: f"L{number}" for number, it in enumerate((it for it in order if it in targets), 1)}
+        for it in order:
+            if it in names:
+                yield f"{names[it]}:", None
+            yield it.text(names), it.line
+            if it in jumps:
+                to = jumps[it]
+                yield to.text(names) if to.word in ENDS else f"jmp {names[to]}", to.line if to.word == "jmp" else it.left or it.line
+
+    def write(self, source: str) -> str:
+        """The node program; each instruction has its source line as a comment."""
+        self.shorten()
+        rows, shown, lines = source.split("\n"), list[str](), list[int]()
+        for text, line in self.lines():
+            if line is None:
+                shown.append(text)
+                continue
+            note = f"{line}: {' '.join(rows[line - 1].split())[:WIDTH]}" if line else "what is held is dropped"
+            shown.append(f"        {text:<32}# {printable(note)}")
+            lines.append(line)
+        if len(lines) > MAX_INSTRUCTIONS:
+            line = max(sorted({*lines} - {0}), key=lines.count)
+            message = f"the program has {len(lines)} instructions, and {MAX_INSTRUCTIONS:,} are possible; this line takes {lines.count(line)}"
+            cure = "`need ipv4.ihl == 5` before it where packets with options may be dropped; find out once, and use variables"
+            raise SourceError(Place(line, 1, ""), message, cure)
+        return "\n".join(shown) + "\n"
+
+
+def sure_to_come(order: list[Instruction], packet: int, end: Instruction, read: set[str]) -> dict[Instruction, int]:
+    """For each instruction, the last one first, a length: for shorter packets, each path from there leads to the end, and changes nothing
+    that is read there."""
+    shorter = {end: ENDLESS}
+    for it in order:
+        there, after = shorter.get(it.target, 0) if it.target else ENDLESS, shorter.get(it.next, 0)
+        if it.word not in HARMLESS or it.word in WRITES and it.operands[0] in read:
+            found = 0
+        elif it.word == "iflen" and it.packet == packet:
+            found = max(it.count, after) if there >= it.count else there
+        else:
+            found = min(there, after)
+        shorter.setdefault(it, found)
+    return shorter
+
+
+def printable(text: str) -> str:
+    """A text, restricted to the bytes that a comment may have."""
+    return "".join(it if " " <= it <= "~" else "?" for it in text)

@@ -1,0 +1,225 @@
+"""Operations on packets: making, freeing, chaining, and changing their length."""
+from __future__ import annotations
+
+from typing import Self
+
+from .checksums import Checksums
+from .headers import Header, Span, asked_of
+from .needs import tag_follows
+from .registers import Value
+from .state import FAR, SOMEBODY, SOMEBODY_THE_REST, Packet
+from .syntax import THIS, Chain, Cut, Free, Number, Pop, Push, Pushed, SourceError, Truncate
+from .ways import Join, pieces
+
+MAX_BUFFER, MAX_SEGMENTS = 4_096, 64
+# The fields of pushed headers that are not constant, each with its value.
+Others = list[tuple[Span, Value]]
+
+
+class Packets(Checksums):
+    """Appends the instructions that change packets, and keeps the facts about them."""
+
+    def register_of(self, name: str) -> int:
+        """The register of a packet."""
+        if name not in self.held:
+            self.error(f"{name} may be gone here: it was sent, chained or freed on a way that leads here")
+        return self.held[name]
+
+    def free_register(self) -> int:
+        """A packet register that is empty."""
+        free = [p for p in range(8) if p not in self.held.values()]
+        if not free:
+            self.error("this needs a ninth packet", "free or send one before")
+        return free[0]
+
+    def free(self, name: str) -> None:
+        """Frees a packet."""
+        self.emit("free", f"p{self.register_of(name)}")
+        self.leave(self.held.pop(name))
+
+    def do_free(self, it: Free, after: Join[Self], _: Join[Self]) -> None:
+        self.free(it.packet)
+        self.jump(after)
+
+    def do_chain(self, it: Chain, after: Join[Self], _: Join[Self]) -> None:
+        """The segments of a packet come before those of the packet of the program."""
+        p, q = self.register_of(it.packet), self.held[THIS]
+        self.come_near()
+        self.emit("chain", f"p{p}", f"p{q}")
+        self.dissolve(p)
+        self.dissolve(q)
+        mine, yours = self.packets[p], self.packets.pop(q)
+        if mine.segments + yours.segments > MAX_SEGMENTS:
+            self.error(f"a packet has at most {MAX_SEGMENTS} segments")
+        sharers = {SOMEBODY} if SOMEBODY in mine.sharers else {SOMEBODY_THE_REST} if mine.sharers or yours.sharers else set()
+        self.packets[p] = Packet(frozenset(sharers), mine.headroom, mine.first, mine.segments + yours.segments)
+        self.held[THIS] = self.held.pop(it.packet)
+        self.loaded, self.bits = {}, {}
+        self.reshape()
+        self.jump(after)
+
+    def come_near(self) -> None:
+        """Removes the zeros after the packet, and the facts about headers at an offset in a register."""
+        if self.far:
+            self.emit("trim", f"p{self.held[THIS]}", self.far.padding)
+            self.far = None
+            self.found = {name: at for name, at in self.found.items() if at < FAR // 2}
+            self.loaded = {it: r for it, r in self.loaded.items() if it.bit < 4 * FAR}
+            self.bits = {bit: it for bit, it in self.bits.items() if bit < 4 * FAR}
+
+    # Bytes at the front
+
+    def prepend(self, name: str, count: int) -> int:
+        """Prepends zero bytes to a packet; returns its register."""
+        p = self.register_of(name)
+        self.may_write(p)
+        if self.packets[p].headroom < count:
+            self.emit_or_drop("ifhead", f"p{p}", count)
+        self.emit("prepend", f"p{p}", count)
+        return p
+
+    def move_bytes(self, count: int, source: int, target: int) -> None:
+        """Copies bytes of the packet to another place, in pieces, in an order that overwrites no byte before it is read."""
+        for at, width in list(pieces(range(count)))[:: 1 if target < source else -1]:
+            value = self.load(Span(8 * (source + at), 8 * width))
+            self.may_write(self.held[THIS])
+            self.access("store", self.held[THIS], target + at, width, value)
+            self.overwrite(Span(8 * (target + at), 8 * width))
+            self.release(value)
+
+    def do_cut(self, it: Cut, after: Join[Self], missing: Join[Self]) -> None:
+        p = self.register_of(it.packet)
+        if it.packet == THIS:
+            self.come_near()
+        self.has_bytes(it.count, missing if it.packet == THIS else after, it.packet)
+        if it.count:
+            self.emit("adj", f"p{p}", it.count)
+        if it.packet == THIS:
+            self.move(-it.count, it.count)
+            self.reshape()
+        self.jump(after)
+
+    def do_pop(self, it: Pop, after: Join[Self], missing: Join[Self]) -> None:
+        self.come_near()
+        last = self.headers[it.path[-1]]
+        for s, size in self.each_length(last, missing):
+            begin, end = s.found[it.path[0]], s.found[last.name] + size
+            count = end - begin
+            s.has_bytes(end, missing)
+            if last.next and begin:
+                begin -= last.fields[last.next].bits // 8
+            s.move_bytes(begin, 0, count)
+            s.emit("adj", f"p{s.held[THIS]}", count)
+            s.move(-count, begin + count)
+            s.reshape()
+            s.jump(after)
+
+    def do_truncate(self, it: Truncate, after: Join[Self], _: Join[Self]) -> None:
+        if it.packet == THIS:
+            self.come_near()
+        p, way = self.register_of(it.packet), self
+        if self.packets[p].segments > 1:
+            self.error("a packet of several segments cannot be truncated", "truncate before `chain`, and leave out `segments`")
+        for k in reversed(range((MAX_BUFFER - it.count).bit_length())):
+            done = Join[Self]()
+            way.emit("iflast", f"p{p}", it.count + (1 << k), to=done)
+            way.emit("trim", f"p{p}", 1 << k)
+            way.jump(done)
+            (way,) = done.begin()
+        if it.packet == THIS:
+            way.reshape()
+        way.jump(after)
+
+    # Pushed headers
+
+    def do_push(self, it: Push, after: Join[Self], _: Join[Self]) -> None:
+        if before := tag_follows(it, self.headers):
+            self.push_tag(it.headers[0], self.header_before(it.headers[0].header) or before[0])
+        else:
+            self.push(it.headers, it.packet)
+        self.jump(after)
+
+    def push(self, pushed: tuple[Pushed, ...], name: str) -> None:
+        """Puts headers at the front of a packet."""
+        data, others = self.values(pushed)
+        others += self.sums(pushed, data, others)
+        if name == THIS:
+            self.come_near()
+        p = self.prepend(name, len(data))
+        if name == THIS:
+            self.move(len(data))
+            self.reshape()
+        self.write(data, others, 0, p)
+
+    def values(self, pushed: tuple[Pushed, ...]) -> tuple[bytes, Others]:
+        """The constant bytes of headers, and the other fields with their values."""
+        size, at = sum(self.headers[it.header].size for it in pushed), 0
+        whole, others = 0, Others()
+        for it, inner in zip(pushed, (*pushed[1:], pushed[-1])):
+            header, named = self.headers[it.header], dict(it.values)
+            asked = asked_of(self.headers[inner.header].follows.get(it.header, it))
+            refuse_overlap(it, header)
+            for name in [*(it for it in header.fields if it not in named), *named]:
+                span, value = header.fields[name].moved(at), named.get(name)
+                constant = value.value if isinstance(value, Number) else 0 if name in named else asked.get(name, header.defaults.get(name) or 0)
+                place = 8 * size - span.end
+                if name in named:
+                    whole &= ~(span.largest << place)
+                whole |= (constant & span.largest) << place
+                if value is not None and not isinstance(value, Number):
+                    others.append((span, self.evaluate(value)))
+            at += header.size
+        return whole.to_bytes(size, "big"), others
+
+    def sums(self, pushed: tuple[Pushed, ...], data: bytes, others: Others) -> Others:
+        """The checksums of headers that are `auto`."""
+        found, at = Others(), 0
+        for it in pushed:
+            header = self.headers[it.header]
+            values = {**header.defaults, **dict(it.values)}
+            found += [(own.moved(at), self.sum_of(header, at, data, others)) for name, own in header.fields.items() if values.get(name, 0) is None]
+            at += header.size
+        return found
+
+    def write(self, data: bytes, others: Others, front: int, packet: int, over_zeros: bool = True) -> None:
+        """Writes headers, perhaps over zeros: constants in pieces as large as possible, and then the other fields."""
+        known = {front + k: byte for k, byte in enumerate(data)}
+        # With several such fields, the constant bits of a byte that one of them covers in part are written first.
+        later = {k for span, _ in others for k in span.bytes if len(others) == 1 or span.bit <= 8 * k and 8 * k + 8 <= span.end}
+        zeros = {at for at, byte in enumerate(data) if over_zeros and not byte}
+        for at, width in pieces({*range(len(data))} - later, zeros):
+            self.store(Span(8 * (front + at), 8 * width), Value(int.from_bytes(data[at : at + width], "big")), packet)
+        if packet == self.held[THIS]:
+            self.learn(Span(8 * front, 8 * len(data)), int.from_bytes(data, "big"))
+        for span, value in others:
+            place = span.moved(front)
+            self.store(place, value, packet, known)
+            known = {k: byte for k, byte in known.items() if k not in place.bytes}
+
+    def push_tag(self, pushed: Pushed, before: str) -> None:
+        """Inserts a tag between a header that was found and the bytes after it."""
+        tag, header = self.headers[pushed.header], self.headers[before]
+        assert tag.next is not None
+        if tag.next in dict(pushed.values):
+            raise SourceError(pushed.at, f"{tag.name}.{tag.next} is what stood in {before}", f"take {tag.next} out")
+        data, others = self.values((pushed,))
+        self.come_near()
+        (kind,) = asked_of(tag.follows[before]).values()
+        width = tag.fields[tag.next].bits // 8
+        front = self.found[before] + header.size - width
+        self.prepend(THIS, tag.size)
+        self.move(tag.size)
+        self.found = {}
+        self.move_bytes(front, tag.size, 0)
+        self.reshape()
+        whole = kind.to_bytes(width, "big") + data[: tag.size - width]
+        self.write(whole, [(span.moved(width), value) for span, value in others], front, self.held[THIS], over_zeros=False)
+
+
+def refuse_overlap(it: Pushed, header: Header) -> None:
+    """Refuses two named fields of a pushed header with bits in common."""
+    names = [name for name, _ in it.values]
+    for number, name in enumerate(names):
+        for other in names[:number]:
+            if header.fields[name].meets(header.fields[other]):
+                raise SourceError(it.at, f"{header.name}.{name} and {header.name}.{other} have bits in common", "name one of them")

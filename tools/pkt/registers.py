@@ -1,0 +1,294 @@
+"""Numbers: their registers, loads, stores and arithmetic."""
+from __future__ import annotations
+
+from dataclasses import dataclass
+from typing import NoReturn
+
+from .headers import Span
+from .state import FAR, SOMEBODY_THE_REST
+from .syntax import BIGGEST, THIS, Binary, Bits, Field, Name, Node, Number, SourceError, parts
+from .ways import Way
+
+INSTRUCTIONS = {"+": "add", "-": "sub", "&": "and", "|": "or", "^": "xor", "<<": "shl", ">>": "shr"}
+
+
+@dataclass
+class Value:
+    """An operand: a constant, or a register. `own`: nobody else needs the register. `span`: the bits of the packet that were loaded into it."""
+
+    constant: int = 0
+    register: int | None = None
+    own: bool = False
+    span: Span | None = None
+    field: Field | None = None
+
+    def __str__(self) -> str:
+        return str(self.constant) if self.register is None else f"r{self.register}"
+
+    @property
+    def r(self) -> int:
+        """The register that it is in."""
+        assert self.register is not None
+        return self.register
+
+
+class Registers(Way):
+    """Assigns registers to numbers, and appends the instructions that compute them."""
+
+    def error(self, message: str, cure: str = "") -> NoReturn:
+        """An error of the current statement."""
+        raise SourceError(self.at, message, cure)
+
+    # Registers
+
+    def fresh(self) -> Value:
+        """A register for an operand; if all are in use, a loaded value that is not needed is forgotten."""
+        free = sorted({*range(8)} - self.used())
+        if not free:
+            names = ", ".join(sorted(it for it in self.variables if not it.startswith("$")))
+            self.error(f"this needs a ninth number: {names} are held, and what is calculated here",
+                       "variables end with their block, and port where it is no more used")
+        needed = {self.span(it) for it in self.unit.needs.fields if it.header in self.found}
+        wanted = {r for it, r in self.loaded.items() if it in needed}
+        register = min(free, key=lambda r: (r in self.loaded.values()) + (r in wanted))
+        self.loaded = {it: r for it, r in self.loaded.items() if r != register}
+        self.pins[register] += 1
+        self.bounds[register] = BIGGEST
+        return Value(register=register, own=True)
+
+    def release(self, value: Value) -> None:
+        """Releases an operand."""
+        if value.register is not None:
+            self.pins[value.register] -= 1
+
+    def own(self, value: Value) -> Value:
+        """Copies a value to a register that may be changed."""
+        if value.own:
+            return value
+        if value.register is not None and self.loaded.get(value.span) == value.register and self.pins[value.register] == 1:
+            is_needed = self.unit.needs.everything or value.field in self.unit.needs.fields
+            if value.field is None or not is_needed or len(self.used()) == 8:
+                self.loaded = {it: r for it, r in self.loaded.items() if r != value.register}
+                value.own = True
+                return value
+        target = self.fresh()
+        self.set(target, value)
+        self.release(value)
+        return target
+
+    def set(self, target: Value, value: Value) -> None:
+        """Sets a register to a value."""
+        if value.register != target.r:
+            self.emit("set" if value.register is None else "mov", target, value)
+        self.bounds[target.r] = self.bound(value)
+
+    def bound(self, value: Value) -> int:
+        """The greatest value of an operand."""
+        return value.constant if value.register is None else self.bounds[value.register]
+
+    def in_register(self, value: Value) -> Value:
+        """The value in a register."""
+        return self.own(value) if value.register is None else value
+
+    # Bytes
+
+    def span(self, it: Field) -> Span:
+        """The place of a field whose header was found."""
+        return self.headers[it.header].fields[it.name].moved(self.found[it.header])
+
+    def window(self, span: Span, packet: int) -> tuple[int, int, int]:
+        """The place and the width of a load with the bits, and their distance from its end."""
+        low, high = span.bytes.start, span.bytes.stop
+        least, limit = (FAR, FAR + self.far.size) if self.far and low >= FAR else (0, self.packets[packet].first)
+        for width in (1, 2, 4, 8):
+            start = max(least, high - width) if high - width < low else low
+            if high - width <= start <= low and start + width <= limit:
+                return start, width, 8 * (start + width) - span.end
+        self.error("this field cannot be read in one piece here", "split it in the declaration of its header")
+
+    def access(self, word: str, packet: int, start: int, width: int, value: Value) -> None:
+        """A load or a store, at a constant offset or at one in a register."""
+        place: list[object] = [f"p{packet}", start, width]
+        if self.far and start >= FAR // 2:
+            word, place = word + "x", [f"p{packet}", f"r{self.far.register}", start - FAR + self.far.base, width]
+        self.emit(word, *([value, *place] if word.startswith("load") else [*place, value]))
+
+    def load(self, span: Span, field: Field | None = None, into: int | None = None) -> Value:
+        """The bits of the packet, highest first."""
+        if span in self.loaded and into is None:
+            self.pins[self.loaded[span]] += 1
+            return Value(register=self.loaded[span], span=span, field=field)
+        start, width, shift = self.window(span, self.held[THIS])
+        value = self.fresh() if into is None else Value(register=into)
+        self.access("load", self.held[THIS], start, width, value)
+        if shift:
+            self.emit("shr", value, shift)
+        if 8 * width - shift > span.bits:
+            self.emit("and", value, f"{span.largest:#x}")
+        self.bounds[value.r] = span.largest
+        if into is None:
+            self.loaded[span] = value.r
+        return Value(register=value.r, span=span, field=field)
+
+    def may_write(self, packet: int) -> None:
+        """Refuses a write to shared bytes."""
+        if self.packets[packet].sharers <= {SOMEBODY_THE_REST}:
+            return
+        name, line = self.sharer
+        who = f"{name} (line {line}) shares them" if name else "the ring hands it over shared"
+        cure = "write before `clone`, or free the clone first" if name else "have the ring declare share = 2"
+        self.error(f"the bytes of the packet cannot be written here: {who}", cure)
+
+    def store(self, span: Span, value: Value, packet: int | None = None, known: dict[int, int] | None = None) -> None:
+        """Writes the low bits of a value, and releases the value. `known` has bytes of the packet whose values are known."""
+        packet = self.held[THIS] if packet is None else packet
+        self.may_write(packet)
+        if span.bit % 8 or span.bits not in (8, 16, 32, 48, 64):
+            self.store_bits(span, value, packet, known or {})
+        elif value.register is None and span.bit < 4 * FAR:
+            scratch = self.fresh()
+            self.put(packet, span.bytes.start, (value.constant & span.largest).to_bytes(span.bits // 8, "big"), scratch.r)
+            self.release(scratch)
+        else:
+            self.store_bytes(span, value, packet)
+        if packet == self.held.get(THIS):
+            self.overwrite(span)
+            if value.register is None:
+                self.learn(span, value.constant & span.largest)
+
+    def store_bytes(self, span: Span, value: Value, packet: int) -> None:
+        """Writes whole bytes."""
+        value = self.in_register(value)
+        width = 4 if span.bits == 48 else span.bits // 8
+        self.access("store", packet, span.bytes.stop - width, width, value)
+        if span.bits == 48:
+            value = self.own(value)
+            self.emit("shr", value, 32)
+            self.access("store", packet, span.bytes.start, 2, value)
+        self.release(value)
+
+    def store_bits(self, span: Span, value: Value, packet: int, known: dict[int, int]) -> None:
+        """Writes some bits of a window and keeps the others."""
+        start, width, shift = self.window(span, packet)
+        others = (1 << 8 * width) - 1 ^ span.largest << shift
+        if known.keys() >= {*range(start, start + width)}:
+            rest = Value(int.from_bytes(bytes(known[k] for k in range(start, start + width)), "big") & others)
+        else:
+            rest = self.fresh()
+            self.access("load", packet, start, width, rest)
+            self.apply(rest, "&", Value(others))
+        value = self.shifted(value, span, shift)
+        target, more = (rest, value) if rest.register is not None else (self.own(value) if rest.constant else self.in_register(value), rest)
+        self.apply(target, "|", more)
+        self.access("store", packet, start, width, target)
+        self.release(rest)
+        self.release(value if target is rest else target)
+
+    def shifted(self, value: Value, span: Span, shift: int) -> Value:
+        """The low bits of a value, shifted to their place in a window."""
+        if value.register is None:
+            return Value((value.constant & span.largest) << shift)
+        if self.bound(value) > span.largest or shift:
+            value = self.own(value)
+            self.apply(value, "&", Value(span.largest))
+            self.apply(value, "<<", Value(shift))
+        return value
+
+    # Arithmetic
+
+    def evaluate(self, it: Node) -> Value:
+        """A number; the headers of its fields were found."""
+        if isinstance(it, Number):
+            return Value(it.value)
+        if isinstance(it, Name):
+            self.pins[self.variables[it.name]] += 1
+            return Value(register=self.variables[it.name])
+        if span := self.bits_of(it):
+            return self.load(span, it if isinstance(it, Field) else None)
+        assert isinstance(it, Binary)
+        left, right = it.left, it.right
+        if it.sign in "+&|^*" and isinstance(left, Number):
+            left, right = right, left
+        if it.sign == "*":
+            assert isinstance(right, Number)
+            return self.multiply(self.evaluate(left), right.value)
+        return self.operate(self.own(self.evaluate(left)), it.sign, right)
+
+    def bits_of(self, it: Node) -> Span | None:
+        """The bits of the packet that a number stands for: those of a field, or its first ones."""
+        if isinstance(it, Bits):
+            return Span(it.bit, it.bits)
+        if isinstance(it, Field):
+            return self.span(it)
+        if isinstance(it, Binary) and it.sign == ">>" and isinstance(it.left, Field) and isinstance(it.right, Number):
+            whole = self.span(it.left)
+            return Span(whole.bit, whole.bits - it.right.value) if it.right.value < whole.bits else None
+        return None
+
+    def operate(self, left: Value, sign: str, right: Node) -> Value:
+        """An operation on a register that may be changed."""
+        value = self.evaluate(right)
+        self.apply(left, sign, value)
+        self.release(value)
+        return left
+
+    def apply(self, left: Value, sign: str, value: Value) -> None:
+        """The same with an operand."""
+        m, n = self.bounds[left.r], self.bound(value)
+        possible = (1 << m.bit_length()) - 1
+        if value.register is None and (value.constant & possible == possible if sign == "&" else value.constant == 0):
+            return
+        self.emit(INSTRUCTIONS[sign], left, value)
+        bits = (1 << max(m, n).bit_length()) - 1
+        bounds = {"+": m + n, "-": BIGGEST, "&": min(m, n), "|": bits, "^": bits, "<<": m << n if n < 64 else BIGGEST, ">>": m >> min(n, 64)}
+        self.bounds[left.r] = min(bounds[sign], BIGGEST)
+
+    def multiply(self, left: Value, factor: int) -> Value:
+        """A product with a constant, by shifts."""
+        shifts = [k for k in reversed(range(64)) if factor >> k & 1]
+        if not shifts:
+            self.release(left)
+            return Value(0)
+        if len(shifts) == 1:
+            total = self.own(left)
+            self.apply(total, "<<", Value(shifts[0]))
+            return total
+        bound, total = self.bound(left), self.fresh()
+        self.set(total, left)
+        for shift, lower in zip(shifts, [*shifts[1:], 0]):
+            if shift != shifts[0]:
+                self.apply(total, "+", left)
+            self.apply(total, "<<", Value(shift - lower))
+        self.release(left)
+        self.bounds[total.r] = min(bound * factor, BIGGEST)
+        return total
+
+    # Variables
+
+    def into(self, target: Value, it: Node) -> None:
+        """Computes a number in the register of a variable, which occurs in it at most at its left end."""
+        if isinstance(it, Binary) and it.sign != "*" and not isinstance(it.left, Number):
+            self.into(target, it.left)
+            self.operate(target, it.sign, it.right)
+        elif isinstance(it, Field) and self.span(it) not in self.loaded:
+            self.load(self.span(it), into=target.register)
+        else:
+            value = self.evaluate(it)
+            self.set(target, value)
+            self.release(value)
+
+    def assign(self, target: Name, it: Node) -> None:
+        """An assignment to a variable."""
+        register = Value(register=self.variables[target.name], own=True)
+        left, others = it, list[Node]()
+        while isinstance(left, Binary) and left.sign != "*" and not isinstance(left.left, Number):
+            others.append(left.right)
+            left = left.left
+        # The innermost right side is computed before the register changes, so it may use the variable if the left side is the variable.
+        late = others[:-1] if left == target else others
+        if target in set(parts(tuple(late))) or left != target and target in set(parts(left)):
+            value = self.evaluate(it)
+            self.set(register, value)
+            self.release(value)
+        else:
+            self.into(register, it)

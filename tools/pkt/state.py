@@ -1,0 +1,170 @@
+"""The facts at one place of the program, on the paths that lead there."""
+from __future__ import annotations
+
+from collections import Counter
+from dataclasses import dataclass, field, replace
+from typing import Self
+
+from .headers import Span
+from .needs import Needs
+from .syntax import PORT, THIS
+
+# Who shares the buffers of a packet: registers of packets, somebody permanently, or somebody those after the first one.
+SOMEBODY, SOMEBODY_THE_REST = -1, -2
+# Places from here on mean offsets in a register.
+FAR = 1 << 20
+# The factors by which instructions with a count change the headroom of a packet and the length of its first segment.
+MOVES = {"prepend": (-1, 1), "adj": (1, -1), "append": (0, 1), "trim": (0, -1)}
+
+
+@dataclass(frozen=True)
+class Packet:
+    """The facts about a packet: who shares its buffers, its least headroom, the least length of its first segment, the most segments."""
+
+    sharers: frozenset[int] = frozenset()
+    headroom: int = 128
+    first: int = 0
+    segments: int = 1
+
+    def clones(self) -> set[int]:
+        """The registers of packets that share its buffers, if nobody else does."""
+        return {p for p in self.sharers if p >= 0}
+
+    def after(self, word: str, count: int) -> Packet:
+        """The facts about a packet after an instruction, at most those of the checker; after a test, those where it does not jump."""
+        if word not in MOVES:
+            return replace(self, **{"iflen": {"first": max(self.first, count)}, "ifhead": {"headroom": max(self.headroom, count)}}.get(word, {}))
+        headroom, first = MOVES[word]
+        return replace(self, headroom=self.headroom + headroom * count, first=max(0, self.first + first * count))
+
+    def joined(self, other: Packet) -> Packet:
+        """The facts about a packet on both of two paths, as in the checker."""
+        sharers = self.sharers | other.sharers
+        if self.sharers != other.sharers and max(sharers) >= 0:
+            sharers = frozenset({SOMEBODY})
+        return Packet(sharers, min(self.headroom, other.headroom), min(self.first, other.first), max(self.segments, other.segments))
+
+
+@dataclass(frozen=True)
+class Far:
+    """Headers at an offset in a register: the zeros after the packet, the base of the offset, the bytes that are there, the possible lengths."""
+
+    padding: int
+    base: int
+    size: int
+    lengths: tuple[int, ...]
+    register: int
+
+
+@dataclass
+class State:
+    """The facts about registers, packets, and the bytes of the packet."""
+
+    held: dict[str, int] = field(default_factory=lambda: {THIS: 0})
+    packets: dict[int, Packet] = field(default_factory=lambda: {0: Packet()})
+    found: dict[str, int] = field(default_factory=dict)
+    absent: set[str] = field(default_factory=set)
+    bits: dict[int, int] = field(default_factory=dict)  # the known bits of the packet
+    loaded: dict[Span, int] = field(default_factory=dict)  # the register that has these bits of the packet
+    variables: dict[str, int] = field(default_factory=lambda: {PORT: 0})
+    bounds: dict[int, int] = field(default_factory=lambda: {0: 0})
+    pins: Counter[int] = field(default_factory=Counter)  # how many operands of the statement are in a register
+    far: Far | None = None
+    sharer: tuple[str, int] = "", 0  # who came to share the bytes of the packet, and in which line
+
+    def copy(self) -> Self:
+        """A copy that is independent of this one."""
+        other = object.__new__(type(self))
+        vars(other).update((name, it.copy() if isinstance(it, (dict, set)) else it) for name, it in vars(self).items())
+        return other
+
+    def signature(self) -> tuple[object, ...]:
+        """The part of the state that must be equal where paths join."""
+        far = self.far and (self.far.padding, self.far.base, self.far.register)
+        return *(tuple(sorted(it.items())) for it in (self.held, self.found, self.variables)), tuple(sorted(self.absent)), far
+
+    @property
+    def this(self) -> Packet:
+        """The facts about the packet."""
+        return self.packets[self.held[THIS]]
+
+    def know(self, register: int, **news: object) -> None:
+        """Sets the facts about a packet."""
+        self.packets[register] = replace(self.packets[register], **news)  # type: ignore[arg-type]
+
+    def used(self) -> set[int]:
+        """The registers in use: by variables, operands and offsets."""
+        return {*self.variables.values(), *(+self.pins), *([self.far.register] if self.far else [])}
+
+    # Joining paths
+
+    def forget(self, needs: Needs) -> None:
+        """Keeps only the needed facts."""
+        self.pins = Counter()
+        if not needs.everything:
+            self.found = {name: at for name, at in self.found.items() if name in needs.found}
+            self.absent = self.absent & needs.absent
+            self.variables = {name: r for name, r in self.variables.items() if name in needs.variables or name.startswith("$")}
+
+    def join(self, other: State) -> None:
+        """Keeps only the facts of both paths."""
+        self.packets = {p: it.joined(other.packets[p]) for p, it in self.packets.items()}
+        if self.far and other.far:
+            lengths = tuple(sorted({*self.far.lengths, *other.far.lengths}))
+            self.far = replace(self.far, size=min(self.far.size, other.far.size), lengths=lengths)
+        if unlike := {bit // 8 for bit, _ in self.bits.items() ^ other.bits.items()}:
+            self.bits = {bit: it for bit, it in self.bits.items() if bit // 8 not in unlike}
+        self.loaded = dict(self.loaded.items() & other.loaded.items())
+        self.bounds = {r: max(b, other.bounds[r]) for r, b in self.bounds.items() if r in other.bounds}
+        self.sharer = self.sharer if self.sharer[0] else other.sharer
+
+    # Headers and bytes
+
+    def reshape(self) -> None:
+        """Forgets all facts about headers."""
+        self.found, self.absent = {}, set()
+
+    def known(self, span: Span) -> tuple[int, int]:
+        """The known bits, and their values."""
+        mask = value = 0
+        for bit in range(span.bit, span.end):
+            mask, value = mask << 1 | (bit in self.bits), value << 1 | self.bits.get(bit, 0)
+        return mask, value
+
+    def learn(self, span: Span, value: int) -> None:
+        """Records the value of bits."""
+        self.bits |= {bit: value >> span.end - 1 - bit & 1 for bit in range(span.bit, span.end)}
+
+    def overwrite(self, span: Span) -> None:
+        """Records that bits changed, and forgets the other bits of their bytes."""
+        self.loaded = {it: r for it, r in self.loaded.items() if not it.meets(span)}
+        self.bits = {bit: it for bit, it in self.bits.items() if bit // 8 not in span.bytes}
+
+    def move(self, count: int, start: int = 0) -> None:
+        """Records that the bytes from start on moved count bytes up, and that those before it changed."""
+        self.loaded = {it.moved(count): r for it, r in self.loaded.items() if it.bit >= 8 * start}
+        self.bits = {bit + 8 * count: it for bit, it in self.bits.items() if bit >= 8 * start}
+
+    # Sharing of buffers
+
+    def share(self, p: int, q: int) -> None:
+        """Records that p is a clone of q."""
+        self.packets[p] = self.packets[q]
+        group = {p, q, *self.packets[q].sharers}
+        for k in group if min(group) >= 0 else (p, q):
+            self.know(k, sharers=frozenset(group - {k} if min(group) >= 0 else {SOMEBODY}))
+
+    def leave(self, p: int) -> None:
+        """Records that p is freed, and empty."""
+        for k in self.packets.pop(p).clones():
+            self.know(k, sharers=self.packets[k].sharers - {p})
+
+    def dissolve(self, p: int) -> None:
+        """Records that those that share the buffers of p do so permanently."""
+        if self.packets[p].clones():
+            self.lose(p)
+
+    def lose(self, p: int) -> None:
+        """Records that somebody shares the buffers of p permanently."""
+        for k in {p, *self.packets[p].clones()}:
+            self.know(k, sharers=frozenset({SOMEBODY}))

@@ -1,0 +1,274 @@
+"""Statements: assignments, branches, loops, and packets that are made or sent."""
+from __future__ import annotations
+
+from dataclasses import replace
+from typing import Self
+
+from .graph import Graph, Instruction
+from .needs import NOTHING, Needs, tag_follows
+from .packets import Packets
+from .reader import Program
+from .state import FAR, SOMEBODY, Packet
+from .syntax import (
+    BIGGEST, PORT, THIS, Assign, Block, Chain, Clone, Cut, Drop, Field, Found, If, Length, Let, Lookup, Name, Need, New, Node, Number, Pop, Push,
+    Queue, Send, SourceError, Truncate, While, has, parts,
+)
+from .ways import Join, Unit
+
+MAX_PORT = 7
+
+
+def compile_program(program: Program) -> Graph:
+    """The instructions of a program."""
+    unit, first = Unit(program), Instruction()
+    way, at = Statements(unit=unit, last=first), 0
+    for name in program.given:
+        way.found[name] = at
+        at += program.headers[name].size
+    sharers = frozenset({SOMEBODY} if program.is_shared else ())
+    way.packets[0] = Packet(sharers, program.headroom, max(program.length, at), program.segments)
+    way.bounds[0] = MAX_PORT
+    needs = unit.reach.of(program.otherwise)
+    way.forget(needs | unit.reach.of(program.statements))
+    end = Join[Statements](needs)
+    way.block(program.statements, end)
+    for way in end.ways:
+        way.drop()
+    refuse_unreached(program.statements, unit.reached)
+    return Graph(first)
+
+
+def refuse_unreached(block: Block, reached: set[int]) -> None:
+    """Refuses statements that control never reaches, except in `else` parts and under conditions made of constants."""
+    for it in block:
+        if id(it) not in reached:
+            raise SourceError(it.at, "control never comes here: what was asked before decides it", "delete it, or ask another question before")
+        if isinstance(it, (If, While)) and has(it.condition, Name, Field, Found, Length):
+            refuse_unreached(it.body, reached)
+            refuse_unreached(it.fallback if isinstance(it, If) else (), reached)
+
+
+class Statements(Packets):
+    """Compiles statements: each ends the path and leads to a join after it."""
+
+    # Blocks
+
+    def block(self, block: Block, after: Join[Self]) -> None:
+        """Statements, after which their variables are gone and their packets dropped."""
+        variables, packets, end = set(self.variables), set(self.held), Join[Self](after.needs)
+        self.sequence(block, 0, end)
+        for s in end.ways:
+            s.variables = {name: r for name, r in s.variables.items() if name in variables or name.startswith("$")}
+            for name in [name for name in s.held if name not in packets]:
+                s.free(name)
+            s.jump(after)
+
+    def sequence(self, block: Block, first: int, end: Join[Self]) -> None:
+        """The statements of a block from one on, one after another."""
+        if first == len(block):
+            return self.jump(end)
+        later = end.needs | self.unit.reach.of(block, first + 1)
+        after, ready = Join[Self](later), Join[Self](later)
+        self.statement(block[first], after)
+        for s in after.begin():
+            s.at = block[first].at
+            if s.far and FAR not in s.found.values():
+                s.come_near()
+            s.jump(ready)
+        for s in ready.begin():
+            s.sequence(block, first + 1, end)
+
+    def body(self, block: Block, join: Join[Self], after: Join[Self]) -> None:
+        """A block that paths lead to."""
+        join.needs = after.needs | self.unit.reach.of(block)
+        for s in join.begin():
+            s.block(block, after)
+
+    def fallback(self, block: Block | None, failed: Join[Self], after: Join[Self]) -> None:
+        """An `else` part; by default all packets are dropped."""
+        if block is not None:
+            return self.body(block, failed, after)
+        for s in failed.ways:
+            s.drop()
+
+    def statement(self, it: Node, after: Join[Self]) -> None:
+        """One statement."""
+        self.unit.reached.add(id(it))
+        self.at = it.at
+        if isinstance(it, If):
+            self.do_if(it, after)
+        elif isinstance(it, While):
+            self.do_while(it, after)
+        elif isinstance(it, Need):
+            self.do_need(it, after)
+        else:
+            self.with_headers(it, after)
+
+    def with_headers(self, it: Node, after: Join[Self]) -> None:
+        """A statement that needs the headers that it names."""
+        found, missing = Join[Self](), Join[Self]()
+        names = list(it.path) if isinstance(it, Pop) else self.headers_of(replace(it, fallback=None) if hasattr(it, "fallback") else it)
+        if isinstance(it, Push) and (before := tag_follows(it, self.headers)) and not {*before} & {*self.found}:
+            names = self.headers.in_order([*names, before[0]])
+        self.touch(names, found, missing)
+        for s in found.begin():
+            s.at, s.unit.needs = it.at, after.needs
+            getattr(s, f"do_{type(it).__name__.lower()}")(it, after, missing)
+        for s in missing.begin():
+            s.at = it.at
+            s.otherwise()
+
+    def otherwise(self) -> None:
+        """The `otherwise` part, for a packet without a header that a statement needs."""
+        it, end = self.unit.program.otherwise, Join[Self](NOTHING)
+        self.unit.needs = NOTHING
+        if isinstance(it, (Send, Queue)):
+            self.do_send(it, end, end)
+        else:
+            self.drop()
+
+    # Branches and loops
+
+    def do_if(self, it: If, after: Join[Self]) -> None:
+        yes, no = (Join[Self](after.needs | self.unit.reach.of(block)) for block in (it.body, it.fallback))
+        self.decide(it.condition, yes, no)
+        self.body(it.body, yes, after)
+        self.body(it.fallback, no, after)
+
+    def do_need(self, it: Need, after: Join[Self]) -> None:
+        no = Join[Self](self.unit.reach.of(it.fallback))
+        self.decide(it.condition, after, no)
+        self.fallback(it.fallback, no, after)
+
+    def do_while(self, it: While, after: Join[Self]) -> None:
+        """The facts at its start must hold in each round."""
+        more = after.needs | self.unit.reach.of((it.condition, it.body))
+        self.enter_round(more)
+        self.weaken(it)
+        self.emit("")
+        head, held, variables = self.last, dict(self.held), dict(self.variables)
+        yes, no, again = Join[Self](more), Join[Self](more), Join[Self](more)
+        self.decide(it.condition, yes, no)
+        self.body(it.body, yes, again)
+        for s in again.begin():
+            s.at = it.at
+            s.enter_round(more)
+            if s.held != held or s.variables != variables:
+                s.error("a round of this loop ends without a packet that it began with", "make the packet within the loop")
+            s.emit("jmp").last.target = head
+        for s in no.begin():
+            s.jump(after)
+
+    def enter_round(self, needs: Needs) -> None:
+        """Each round looks for headers again."""
+        self.come_near()
+        self.reshape()
+        self.forget(needs)
+        self.loaded, self.bits = {}, {}
+
+    def weaken(self, it: While) -> None:
+        """Forgets the facts that a round may change."""
+        if has(it.body, Chain):
+            self.error("`chain` cannot be in a loop: a packet has at most 64 segments")
+        if has(it.body, Push, Pop, Cut, Truncate):
+            for p in self.packets:
+                self.know(p, first=0, headroom=0)
+        if has(it.body, Clone) and has(it.body, Send, Queue):
+            self.lose(self.held[THIS])
+            name = next(part for part in parts(it.body) if isinstance(part, Clone))
+            self.sharer = self.sharer if self.sharer[0] else (name.name, name.at.line)
+        for part in parts(it.body):
+            if isinstance(part, Assign) and isinstance(part.target, Name) and part.target.name in self.variables:
+                self.bounds[self.variables[part.target.name]] = BIGGEST
+
+    # Numbers
+
+    def do_let(self, it: Let, after: Join[Self], _: Join[Self]) -> None:
+        self.variables[it.name] = self.own(self.evaluate(it.value)).r
+        self.jump(after)
+
+    def do_lookup(self, it: Lookup, after: Join[Self], _: Join[Self]) -> None:
+        key, failed = self.in_register(self.evaluate(it.key)), Join[Self]()
+        result = key
+        if not key.own:
+            self.release(key)
+            result = self.fresh()
+        self.emit("lookup", result, it.table, key, to=failed)
+        self.bounds[result.r] = 0xFFFFFF
+        self.variables[it.name] = result.r
+        self.jump(after)
+        self.fallback(it.fallback, failed, after)
+
+    def do_assign(self, it: Assign, after: Join[Self], _: Join[Self]) -> None:
+        if it.mends:
+            return self.mend(it, after)
+        if isinstance(it.target, Name):
+            self.assign(it.target, it.value)
+        else:
+            self.store(self.span(it.target), self.evaluate(it.value))
+        self.jump(after)
+
+    # Sending packets
+
+    def do_drop(self, it: Drop, after: Join[Self], _: Join[Self]) -> None:
+        self.drop()
+
+    def do_send(self, it: Send | Queue, after: Join[Self], _: Join[Self]) -> None:
+        """Hands a packet to a port or a ring."""
+        ports, port, failed, way = self.unit.program.ports, None, Join[Self](), self
+        if isinstance(it, Send):
+            if isinstance(it.port, Number) and it.port.value >= ports:
+                raise SourceError(it.port.at, f"there is no port {it.port.value}: the program has {ports}", f"ports {it.port.value + 1}")
+            port = self.in_register(self.evaluate(it.port))
+        p, far, found = self.register_of(it.packet), self.far, self.found
+        if it.packet == THIS:
+            self.come_near()
+            self.at = it.at
+        is_entry = isinstance(it, Send) and it.port == Name(it.at, PORT) and not self.unit.program.is_for_ring
+        if port and not is_entry and self.bounds[port.r] >= ports:
+            good = Join[Self]()
+            self.emit("jlt", port, ports, to=good).bounds[port.r] = ports - 1
+            self.jump(failed)
+            (way,) = good.begin()
+        word, place = ("enq", it.ring) if isinstance(it, Queue) else ("tx", port)
+        way.emit(word, f"p{p}", place, to=failed)
+        way.dissolve(p)
+        del way.packets[way.held.pop(it.packet)]
+        if it.packet == THIS:
+            way.drop()
+        else:
+            way.jump(after)
+        for s in failed.begin():
+            s.at = it.at
+            wanted = (after.needs | self.unit.reach.of(it.fallback)).found
+            if far and s.far is None and s.this.sharers == frozenset() and any(at >= FAR and name in wanted for name, at in found.items()):
+                s.emit("append", f"p{p}", far.padding)
+                s.far, s.found = far, dict(found)
+            if it.fallback is not None:
+                s.block(it.fallback, after)
+            elif it.packet == THIS:
+                s.drop()
+            else:
+                s.free(it.packet)
+                s.jump(after)
+
+    do_queue = do_send
+
+    # Making packets
+
+    def do_clone(self, it: Clone, after: Join[Self], _: Join[Self]) -> None:
+        p, failed = self.free_register(), Join[Self]()
+        self.emit("clone", f"p{p}", f"p{self.held[THIS]}", it.pool, to=failed)
+        self.share(p, self.held[THIS])
+        self.held[it.name], self.sharer = p, (it.name, it.at.line)
+        if self.far:
+            self.emit("trim", f"p{p}", self.far.padding)
+        self.jump(after)
+        self.fallback(it.fallback, failed, after)
+
+    def do_new(self, it: New, after: Join[Self], _: Join[Self]) -> None:
+        p, failed = self.free_register(), Join[Self]()
+        self.emit("alloc", f"p{p}", it.pool, to=failed)
+        self.held[it.name], self.packets[p] = p, Packet()
+        self.jump(after)
+        self.fallback(it.fallback, failed, after)

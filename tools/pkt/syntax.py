@@ -1,0 +1,103 @@
+"""The parts of a text. Each knows its place in the text, which is ignored when two parts are compared."""
+from __future__ import annotations
+
+from collections.abc import Iterator
+from dataclasses import dataclass, field, fields
+from typing import Any, NamedTuple, dataclass_transform
+
+BIGGEST = (1 << 64) - 1
+THIS, PORT = "this", "port"
+
+
+class Place(NamedTuple):
+    """A word of the text: its line and column, counted from 1."""
+
+    line: int
+    column: int
+    word: str
+
+
+class SourceError(Exception):
+    """An error of the source: its place, the fault, and a cure."""
+
+    def __init__(self, at: Place, message: str, cure: str = "") -> None:
+        super().__init__(message)
+        self.at, self.message, self.cure = at, message, cure
+
+
+@dataclass_transform(frozen_default=True)
+@dataclass(frozen=True)
+class Node:
+    """A part of the text."""
+
+    at: Place = field(compare=False, repr=False)
+
+    def __init_subclass__(cls) -> None:
+        dataclass(frozen=True)(cls)
+
+
+Block = tuple[Node, ...]
+Path = tuple[str, ...]
+
+# fmt: off
+# Numbers. `Bits` are bits of the packet that the compiler reads for its own use.
+class Number(Node): value: int  # noqa: E302, E701
+class Name(Node): name: str
+class Field(Node): header: str; name: str  # noqa: E702
+class Bits(Node): bit: int; bits: int
+class Length(Node): pass
+class Binary(Node): sign: str; left: Node; right: Node
+
+# Conditions. `Found`: each header of a path is present.
+class Compare(Node): sign: str; left: Node; right: Node
+class Found(Node): path: Path
+class Not(Node): condition: Node
+class And(Node): left: Node; right: Node
+class Or(Node): left: Node; right: Node
+
+# Statements. `fallback` is the `else` part; a pushed value that is None is `auto`.
+class Let(Node): name: str; value: Node
+class Lookup(Node): name: str; table: int; key: Node; fallback: Block | None
+class Assign(Node): target: Name | Field; value: Node; mends: bool
+class If(Node): condition: Node; body: Block; fallback: Block
+class While(Node): condition: Node; body: Block
+class Need(Node): condition: Node; fallback: Block | None
+class Drop(Node): pass
+class Send(Node): packet: str; port: Node; fallback: Block | None
+class Queue(Node): packet: str; ring: int; fallback: Block | None
+class Clone(Node): name: str; pool: int; fallback: Block | None
+class New(Node): name: str; pool: int; fallback: Block | None
+class Free(Node): packet: str
+class Chain(Node): packet: str
+class Pushed(Node): header: str; values: tuple[tuple[str, Node | None], ...]
+class Push(Node): headers: tuple[Pushed, ...]; packet: str
+class Pop(Node): path: Path
+class Cut(Node): packet: str; count: int
+class Truncate(Node): packet: str; count: int
+# fmt: on
+
+
+def parts(it: Any) -> Iterator[Node]:
+    """A node and all nodes in it, or all nodes in a tuple."""
+    if isinstance(it, Node):
+        yield it
+        it = tuple(getattr(it, member.name) for member in fields(it) if member.name != "at")
+    if isinstance(it, tuple):
+        for part in it:
+            yield from parts(part)
+
+
+def has(it: Any, *kinds: type[Node]) -> bool:
+    """Whether a node of one of these kinds is in it."""
+    return any(isinstance(part, kinds) for part in parts(it))
+
+
+def goes_on(it: Node | Block) -> bool:
+    """Whether control can reach the end of a statement, or of a block whose statements it can reach."""
+    if isinstance(it, tuple):
+        return not it or goes_on(it[-1])
+    if isinstance(it, If):
+        return goes_on(it.body) or goes_on(it.fallback)
+    if isinstance(it, (Send, Queue)) and it.packet == THIS:
+        return it.fallback is not None and goes_on(it.fallback)
+    return not isinstance(it, Drop)

@@ -1,0 +1,140 @@
+"""Paths through the program: each appends instructions at its end, and paths join."""
+from __future__ import annotations
+
+from collections import defaultdict
+from collections.abc import Iterable, Iterator, Set
+from dataclasses import dataclass, field
+from typing import Generic, Self, TypeVar
+
+from .graph import Instruction
+from .headers import Headers
+from .needs import EVERYTHING, NOTHING, Needs, Reach
+from .reader import Program
+from .state import State
+from .syntax import Place, Pop, SourceError, parts
+
+MAX_BLOCKS = 20_000
+
+
+class Unit:
+    """The state that all paths of a program share. `needs` are the facts needed after the current statement, `reached` has statements."""
+
+    def __init__(self, program: Program) -> None:
+        self.program, self.headers, self.reach, self.needs = program, program.headers, Reach(program.headers), NOTHING
+        self.blocks, self.reached = 0, set[int]()
+        self.used_headers = self.reach.of(program.statements).absent | self.reach.of(program.otherwise).absent
+        self.popped = {name for it in parts(program.statements) if isinstance(it, Pop) for name in it.path}
+
+
+W = TypeVar("W", bound="Way")
+
+
+class Join(Generic[W]):
+    """A place of the program that several paths lead to, and the facts needed from there on."""
+
+    def __init__(self, needs: Needs = EVERYTHING) -> None:
+        self.needs, self.ways = needs, list[W]()
+
+    def begin(self) -> Iterator[W]:
+        """A path for each kind of state that arrives here, with the facts that these have in common."""
+        groups: dict[object, list[W]] = defaultdict(list)
+        for way in self.ways:
+            way.forget(self.needs)
+            groups[way.signature()].append(way)
+        for first, *others in groups.values():
+            if len(self.ways) > 1:
+                first.unite(others)
+            yield first
+
+
+@dataclass
+class Way(State):
+    """A place in the program, at which instructions are appended. `at` is the current statement. `constants` are bytes of a packet that are
+    still to be written through a register, each with its line."""
+
+    unit: Unit = field(kw_only=True)
+    last: Instruction = field(default_factory=Instruction)
+    at: Place = Place(0, 0, "")
+    constants: dict[int, tuple[int, int]] = field(default_factory=dict)
+    constants_of: tuple[int, int] = 0, 0
+
+    @property
+    def headers(self) -> Headers:
+        """The headers of the program."""
+        return self.unit.headers
+
+    def emit(self, word: str, *operands: object, to: Join[Self] | None = None) -> Self:
+        """Appends an instruction; returns the path to its jump target, if it leads to a join."""
+        self.flush()
+        self.append(word, *operands)
+        there = self
+        if to is not None:
+            there = self.copy()
+            to.ways.append(there)
+            self.last.target = there.last = Instruction()
+        if (p := self.last.packet) in self.packets:
+            self.packets[p] = self.packets[p].after(word, self.last.count)
+        return there
+
+    def emit_or_drop(self, word: str, *operands: object) -> None:
+        """Appends an instruction that drops all packets if it jumps."""
+        self.emit(word, *operands, to=Join()).drop()
+
+    def drop(self) -> None:
+        """The end of the program: all packets are dropped."""
+        self.flush()
+        self.last.left = self.at.line
+        for p in sorted(self.held.values()):
+            self.last.next = self.last = Instruction("free", (f"p{p}",))
+        self.last.next = Instruction("exit")
+
+    def append(self, word: str, *operands: object, line: int | None = None) -> None:
+        """Appends an instruction as it is."""
+        groups = tuple(sorted((p, *it.clones()) for p, it in self.packets.items() if it.sharers and it.clones()))
+        it = Instruction(word, tuple(map(str, operands)), self.at.line if line is None else line, groups)
+        self.last.next = self.last = it
+
+    def jump(self, join: Join[Self]) -> None:
+        """Ends this path."""
+        join.ways.append(self)
+
+    def unite(self, others: list[Self]) -> None:
+        """This way goes on with what it has in common with others."""
+        self.unit.blocks += 1
+        if self.unit.blocks > MAX_BLOCKS:
+            raise SourceError(self.at, "the program has too many ways", "`need` what most packets have, or test it once for all")
+        label = Instruction()
+        for way in (self, *others):
+            way.flush()
+            way.last.next, way.last.left = label, way.at.line
+        self.last = label
+        for way in others:
+            self.join(way)
+
+    # Constant bytes
+
+    def put(self, packet: int, at: int, data: bytes, register: int) -> None:
+        """Constant bytes of a packet. They are written before the next instruction, together with those beside them."""
+        if self.constants_of[0] != packet:
+            self.flush()
+        self.constants_of = packet, register
+        self.constants |= {at + k: (byte, self.at.line) for k, byte in enumerate(data)}
+
+    def flush(self) -> None:
+        """Writes the constant bytes, in pieces as large as possible."""
+        data, (packet, register), self.constants = self.constants, self.constants_of, {}
+        for at, width in pieces(data):
+            value = int.from_bytes(bytes(data[at + k][0] for k in range(width)), "big")
+            self.append("set", f"r{register}", f"{value:#x}", line=data[at][1])
+            self.append("store", f"p{packet}", at, width, f"r{register}", line=data[at][1])
+
+
+def pieces(places: Iterable[int], skipped: Set[int] = frozenset()) -> Iterator[tuple[int, int]]:
+    """The places and widths of the loads or stores for these bytes, as wide as possible; none begins at a byte that may be skipped."""
+    left = sorted(places)
+    while left:
+        at = left[0]
+        width = next(w for w in (8, 4, 2, 1) if left[w - 1 : w] == [at + w - 1])
+        if at not in skipped:
+            yield at, width
+        del left[: 1 if at in skipped else width]

@@ -1,0 +1,116 @@
+"""The words of a text, and reading them one after another."""
+from __future__ import annotations
+
+import re
+
+from .headers import Headers
+from .syntax import Path, Place, SourceError
+
+WORD = re.compile(
+    r"(?P<blank>[ \t\r\n]+|\#[^\n]*)|(?P<ethernet>[0-9a-fA-F]{2}(?::[0-9a-fA-F]{2}){5}(?![0-9a-fA-F:]))|(?P<ip>\d+\.\d+\.\d+\.\d+(?!\d|\.\d))"
+    r"|(?P<number>0x[0-9a-fA-F]+|\d+)|(?P<name>[A-Za-z_]\w*)|(?P<string>\"[^\"\n]*\")"
+    r"|(?P<sign>\.\.|<<=|>>=|<<|>>|==|!=|<=|>=|[-+*&|^]=|[-+*&|^~<>=(){}.,:/@])",
+    re.ASCII,
+)
+RESERVED = frozenset(
+    "after and auto chain clone const cut drop else free given header if in length let lookup mend need new next not on optional or otherwise over"
+    " pop port ports push queue segments send sum this truncate while".split()
+)
+# The cures for these words out of place.
+CURES = {
+    "=": "compare with ==", "/": "a prefix stands after `in`; there is no division, and >> n divides by 2^n; a comment begins with #",
+    "!": "write `not`", ";": "no sign ends a statement", "&": "write `and`", "|": "write `or`", "-": "write x -= 1", "+": "write x += 1",
+    ":": "write half of an IPv6 address as 0x20010db800000000", '"': "a text ends in its line", "lookup": "let x = lookup ..",
+    "else": "an `else` comes after its statement", "the end of the text": "a block ends with }", "true": "write 1",
+}  # fmt: skip
+
+
+def out_of_place(at: Place, message: str) -> SourceError:
+    """The error for a word out of place."""
+    return SourceError(at, message, CURES.get(at.word, ""))
+
+
+def words_of(text: str) -> list[tuple[str, Place]]:
+    """The words of a text, each with its kind, and one for its end."""
+    found, at, line, begin = [], 0, 1, 0
+    while at < len(text):
+        match = WORD.match(text, at)
+        if not match:
+            raise out_of_place(Place(line, at - begin + 1, text[at]), f"no word begins with {text[at]!r}")
+        if match.lastgroup != "blank":
+            found.append((str(match.lastgroup), Place(line, at - begin + 1, match.group())))
+        line += match.group().count("\n")
+        begin = at + match.group().rindex("\n") + 1 if "\n" in match.group() else begin
+        at = match.end()
+    return [*found, ("end", Place(line, at - begin + 1, "the end of the text"))]
+
+
+class Words:
+    """Reads the words of one text; headers may be declared already."""
+
+    def __init__(self, text: str, headers: Headers) -> None:
+        self.words, self.next, self.headers = words_of(text), 0, headers
+
+    def place(self, further: int = 0) -> Place:
+        """The next word, or one further on."""
+        return self.words[min(self.next + further, len(self.words) - 1)][1]
+
+    @property
+    def kind(self) -> str:
+        """The kind of the next word."""
+        return self.words[self.next][0]
+
+    def sees(self, *words: str) -> bool:
+        """Whether the next word is one of these."""
+        return self.kind != "string" and self.place().word in words
+
+    def sees_header(self, sign: str) -> bool:
+        """Whether the next two words are a header and this sign."""
+        return self.place().word in self.headers and self.place(1).word == sign
+
+    def take(self, wanted: str = "") -> Place:
+        """The next word, which must be this one."""
+        place = self.place()
+        if wanted and not self.sees(wanted):
+            raise out_of_place(place, f"{wanted!r} is wanted here, and this is {place.word!r}")
+        self.next = min(self.next + 1, len(self.words) - 1)
+        return place
+
+    def may(self, word: str) -> bool:
+        """Whether the next word is this one; takes it then."""
+        return bool(self.sees(word) and self.take())
+
+    def name(self, what: str, may_be_reserved: bool = False) -> Place:
+        """The next word, which must be a name."""
+        at = self.place()
+        if self.kind != "name" or at.word in RESERVED and not may_be_reserved:
+            raise SourceError(at, f"the name of {what} is wanted here, and {at.word!r} is {'a reserved word' if at.word in RESERVED else 'none'}")
+        return self.take()
+
+    def header_name(self) -> Place:
+        """The name of a header."""
+        if self.kind != "name" or self.place().word not in self.headers:
+            raise SourceError(self.place(), f"a header is wanted here, and {self.place().word!r} is none", self.known_headers())
+        return self.take()
+
+    def known_headers(self) -> str:
+        """The known headers, for an error."""
+        return f"the known headers are {', '.join(self.headers)}"
+
+    def field_name(self, header: str) -> str:
+        """The name of a field of a header."""
+        name, fields = self.name("a field", may_be_reserved=True), self.headers[header].fields
+        if name.word not in fields:
+            raise SourceError(name, f"{header} has no field {name.word}", f"its fields are {', '.join(fields)}")
+        return name.word
+
+    def path(self) -> Path:
+        """Headers that follow each other."""
+        names = [self.header_name()]
+        while self.may("/"):
+            names.append(self.header_name())
+            before = self.headers[names[-1].word].follows
+            if not any(name.word in before for name in names[:-1]):
+                cure = f"it follows {', '.join(before)}" if before else "it follows no other"
+                raise SourceError(names[-1], f"{names[-1].word} cannot follow {names[-2].word}", cure)
+        return tuple(name.word for name in names)
